@@ -10,12 +10,13 @@ use Rattle.tpw_occam_core.specs.declared.kind.Kind.{Kind}
 use Rattle.tpw_occam_core.specs.declared.kind.Kind.TheVariants.{Word, Byte}
 use Rattle.tpw_occam_core.specs.Arithmetic.{plain}
 use Rattle.tpw_occam_core.specs.Arrays.{size, element}
-use Rattle.tpw_occam_code.specs.declared.items.Item.TheVariants.{Array}
+use Rattle.tpw_occam_code.specs.declared.items.Item.{Item}
+use Rattle.tpw_occam_code.specs.declared.items.Item.TheVariants.{Array, Variable}
 use Rattle.tpw_occam_code.specs.declared.code.Step.TheVariants.{Plain, Load, Pointer}
 use Rattle.tpw_occam_code.specs.Code.{Lines, followed_by, line_of, place_behind}
 use Rattle.tpw_occam_code.specs.Blocks.{bytes_at, word_at}
 use Rattle.tpw_occam_code.specs.Symbolic.{Machine, effect, performed, at_place, number, address, push, set_areg, replace_pair, has_bytes}
-use Rattle.tpw_occam_code.specs.Leading.{Does, HasArray, word_bytes}
+use Rattle.tpw_occam_code.specs.Leading.{Does, HasArray, HasWord, word_bytes}
 use Rattle.tpw_occam_code.specs.Values.{HasNumber, Replaces, PushesAlone, HasAddress, IsAtElement, scaled}
 use Rattle.tpw_occam_code.proofs.Leading.{does_step, does_served, does_both, does_less}
 
@@ -80,7 +81,7 @@ does_load_byte arrays old new source a bytes i is h =
     (λ m. refl) (λ m. refl) (λ m. refl))
     (λ m said. said) (λ m end said after. replaces_set (element Byte bytes i) (place_behind new) m end after)
 
-pushes_alone : (w p : ℕ) (m end : Machine) → end ≡ at_place p (push (number w) m) → PushesAlone (plain w) m end
+pub pushes_alone : (w p : ℕ) (m end : Machine) → end ≡ at_place p (push (number w) m) → PushesAlone (plain w) m end
 pushes_alone w p m end is = record {
   pushed = record {
     areg = ap (λ x. x.areg) is;
@@ -223,3 +224,30 @@ does_element kind arrays old between new a bytes i long h one two =
       sent = after2.sent ∙ after.sent;
       traced = after2.traced ∙ after.traced;
     })
+
+-- ---- bytes of variables
+
+first_byte : (m : Machine) (i : Item) (word : ℕ) → word < 256 → HasWord i word m → m.blocks i 0 ≡ word
+unfolding bytes_at
+first_byte m i word h is = ap (λ l. slice_index l 0) is ∙ omega arith
+
+-- the byte of a variable, by its address
+pub does_push_variable : (arrays : List ℕ) (old between new : Lines) (source x word : ℕ)
+    → between ≡ followed_by old (line_of source (Pointer (Variable x) 0) ∷ [])
+    → new ≡ followed_by between (line_of source (Plain Lb) ∷ []) → word < 256
+    → Does arrays old new (HasWord (Variable x) word) (PushesAlone (plain word))
+unfolding performed effect
+does_push_variable arrays old between new source x word one two h =
+    does_both arrays old between new _ _ _ _ _
+    (does_served arrays old between source (Pointer (Variable x) 0) (HasWord (Variable x) word) (push (address (Variable x) 0)) one
+    (λ m said served. refl) (λ m. refl) (λ m. refl) (λ m. refl))
+    (does_step arrays between new source (Plain Lb)
+    (λ m. (m.areg ≡ address (Variable x) 0) × (m.blocks (Variable x) 0 ≡ word) × (4 ≤ m.sizes (Variable x)))
+    (set_areg (number word)) two
+    (λ m said served. let fits : 0 + 1 ≤ m.sizes (Variable x) = omega (arith, said.2) in
+        rw said.0 (rw (le-leb _ _ fits) (ap (λ w. Some (set_areg (number w) (at_place (m.place + 1) m))) said.1)))
+    (λ m. refl) (λ m. refl) (λ m. refl))
+    (λ m middle said after. (ap (λ e. e.areg) after.0, ap (λ e. e.blocks (Variable x) 0) after.0 ∙ first_byte m (Variable x) word h said,
+        subst (λ n. 4 ≤ n) (sym (ap (λ e. e.sizes (Variable x)) after.0)) after.1))
+    (λ m middle end said after after2.
+        pushes_alone word (place_behind new) m end (after2 ∙ ap (λ e. at_place (place_behind new) (set_areg (number word) e)) after.0))

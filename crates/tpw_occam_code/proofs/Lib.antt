@@ -4,3 +4,4 @@ pub mod Machines
 pub mod Answering
 pub mod Indexing
 pub mod Elements
+pub mod Computing

@@ -2,7 +2,6 @@
 use Rattle.std.specs.Prelude.{◌≡◌, ℕ, ◌+◌, ◌*◌, ◌/◌, ◌^◌, ◌<◌, ◌≤◌, pos, Bool, true, false, ◌||◌, List, length, slice_index, slice_index_or}
 use Rattle.std.specs.Prelude.{slice_set, All, Option, Some, None, IsTrue}
 use Rattle.std.specs.List.{list_any}
-use Rattle.std.specs.Int.{w32, to_le_bytes}
 use Rattle.tp_decode.specs.Words.{signed}
 use Rattle.tpw_occam_core.specs.declared.kind.Kind.{Kind}
 use Rattle.tpw_occam_core.specs.declared.kind.Kind.TheVariants as kind
@@ -16,9 +15,8 @@ use Rattle.tpw_occam_code.specs.declared.items.Item.TheVariants as item
 use Rattle.tpw_occam_code.specs.declared.emitter.Fact.{Fact}
 use Rattle.tpw_occam_code.specs.declared.range.Range.{Range}
 use Rattle.tpw_occam_code.specs.Ranges.{full, from_to, Contains}
-use Rattle.tpw_occam_code.specs.Blocks.{bytes_at}
 use Rattle.tpw_occam_code.specs.Symbolic.{Machine, Contents, number}
-use Rattle.tpw_occam_code.specs.Leading.{HasConstants, HasArray}
+use Rattle.tpw_occam_code.specs.Leading.{HasConstants, HasArray, HasWord}
 
 -- ---- what is known of names
 
@@ -83,7 +81,7 @@ pub record Knows (k : Knowledge) (scope : List Entry) (unset : ℕ → Bool) (s 
 -- A machine agrees with a state in the names in scope that are assigned and have a word, and in the arrays in scope.
 pub record Agrees (k : Knowledge) (scope : List Entry) (unset : ℕ → Bool) (s : Store) (m : Machine) : Type 0 where
   pub words : (x : ℕ) → IsTrue (list_any (is_name x) scope) → unset x ≡ false → (fact_at k x).constant ≡ None
-      → bytes_at m.blocks (item.Variable x) 0 4 ≡ to_le_bytes w32 (slice_index s.values x)
+      → HasWord (item.Variable x) (slice_index s.values x) m
   pub arrays : (a : ℕ) → IsTrue (list_any (is_array a) scope) → HasArray a (array_of s a) m
   pub constants : HasConstants m
 

@@ -1,25 +1,31 @@
 -- What the code of an expression does.
 use Rattle.std.specs.Prelude.{◌≡◌, ℕ, ◌+◌, ◌-◌, ◌*◌, ◌%◌, ◌^◌, ◌<◌, ◌≤◌, Bool, true, false, not, ◌||◌, ◌&&◌, ◌==◌, nat_le}
-use Rattle.std.specs.Prelude.{if◌then◌else◌, List, length, map, slice_index, Option, Some, None, is_some, IsTrue}
+use Rattle.std.specs.Prelude.{if◌then◌else◌, List, [], ◌∷◌, ◌++◌, length, map, slice_index, Option, Some, None, is_some, IsTrue, pos, ◌⊎◌}
 use Rattle.std.specs.Option.{option_and_then, option_map_or}
 use Rattle.tp_prefix.specs.Canonical.{canonical}
 use Rattle.tp_decode.specs.Words.{signed}
 use Rattle.tpw_occam_core.specs.declared.worker.Storage.{Storage}
+use Rattle.tpw_occam_core.specs.declared.arithmetic.Answer.{Answer}
 use Rattle.tpw_occam_core.specs.declared.scope.Entry.{Entry}
 use Rattle.tpw_occam_core.specs.declared.expression.Operator.{Operator}
 use Rattle.tpw_occam_core.specs.declared.expression.Operator.TheVariants.{Add, Subtract, Multiply, Plus, Minus, Times}
-use Rattle.tpw_occam_core.specs.declared.expression.Operator.TheVariants.{BitAnd, BitOr, BitXor, Equal}
+use Rattle.tpw_occam_core.specs.declared.expression.Operator.TheVariants.{BitAnd, BitOr, BitXor, Equal, ShiftLeft, ShiftRight}
 use Rattle.tpw_occam_core.specs.declared.expression.Expression.{Expression}
 use Rattle.tpw_occam_core.specs.declared.expression.Expression.TheVariants.{Constant, Variable, Element', Checked'}
 use Rattle.tpw_occam_core.specs.declared.expression.Expression.TheVariants.{Binary', Complement', Not', LowByte', And'}
 use Rattle.tpw_occam_core.specs.declared.expression.Expression.TheVariants.{Or', Let'}
-use Rattle.tpw_occam_core.specs.Meaning.{Store, value_of}
-use Rattle.tpw_occam_core.specs.Sound.{is_sound_expression, bytes_of}
+use Rattle.tp_step.specs.Numbers.{truth}
+use Rattle.tpw_occam_core.specs.Arithmetic.{answer, plain, subscript, applied}
+use Rattle.tpw_occam_core.specs.Meaning.{Store, value_of, followed, with_value}
+use Rattle.tpw_occam_code.specs.Ranges.{from_to, ContainsAllOf}
+use Rattle.tpw_occam_core.specs.declared.scope.Entry.TheVariants as entry
+use Rattle.tpw_occam_core.specs.Sound.{is_sound_expression, is_new_name, bytes_of}
 use Rattle.tpw_occam_code.specs.declared.expressions.Value.{Value}
 use Rattle.tpw_occam_code.specs.declared.emitter.Room.{Room}
 use Rattle.tpw_occam_code.specs.Code.{Lines}
 use Rattle.tpw_occam_code.specs.Leading.{Does}
-use Rattle.tpw_occam_code.specs.Values.{Holds, Pushes}
+use Rattle.tpw_occam_code.specs.Values.{Holds, HasOperands, Pushes}
+use Rattle.tpw_occam_code.specs.Symbolic.{Machine}
 use Rattle.tpw_occam_code.specs.Agreement.{Knowledge, fact_at, constant_in, Knows, Agrees, LeavesItems}
 
 -- ---- registers
@@ -43,11 +49,14 @@ immediate_of operator c =
     option_and_then (λ operand. if is_short operand && not (operand == 2 ^ 31) then Some operand else None)
     (operand_of operator c)
 
--- PLUS and MINUS may have to wrap, which no instruction with an operand does
+-- there is such an instruction; PLUS and MINUS may have to wrap, which none does
+abbrev pub has_immediate : Operator → ℕ → Bool
+has_immediate Plus c = false
+has_immediate Minus c = false
+has_immediate operator c = is_some (immediate_of operator c)
+
 abbrev pub is_immediate : Knowledge → Operator → Expression → Bool
-is_immediate k Plus e = false
-is_immediate k Minus e = false
-is_immediate k operator e = is_some (option_and_then (immediate_of operator) (constant_in k e))
+is_immediate k operator e = option_map_or (has_immediate operator) (constant_in k e) false
 
 abbrev pub commutes : Operator → Bool
 commutes Add = true
@@ -116,16 +125,126 @@ pub record MayStand (k : Knowledge) (storages : List Storage) (scope : List Entr
   pub sound : IsTrue (is_sound_expression (length k.kinds) storages scope e)
   pub assigned : (x : ℕ) → unset x ≡ true → reads e x ≡ false
 
--- The code of an expression pushes its value, sets the error flag where the value does, and leaves what is in use.
-abbrev pub Computes : Knowledge → (old new : Lines) → Expression → (registers kept : ℕ) → Type 0
-Computes k old new e registers kept =
+-- The code of an expression pushes what is made of its state, sets the error flag where that does, and leaves what is
+-- in use.
+abbrev pub ComputesTo : Knowledge → (old new : Lines) → Expression → (Store → Answer) → (registers kept : ℕ) → Type 0
+ComputesTo k old new e made registers kept =
     (storages : List Storage) (scope : List Entry) (unset : ℕ → Bool) (s : Store) → IsPlace k storages scope
     → MayStand k storages scope unset e → Suffices k registers e → Knows k scope unset s
     → Does k.arrays old new (Agrees k scope unset s)
-    (λ m end. Pushes registers (value_of e s) m end × LeavesItems scope kept m end)
+    (λ m end. Pushes registers (made s) m end × LeavesItems scope kept m end)
 
--- what is known of its value holds
-abbrev pub IsKnown : Knowledge → Expression → Value → Type 0
-IsKnown k e value =
+-- .. its value
+abbrev pub Computes : Knowledge → (old new : Lines) → Expression → (registers kept : ℕ) → Type 0
+Computes k old new e registers kept = ComputesTo k old new e (value_of e) registers kept
+
+-- what is known of what is made holds
+abbrev pub IsKnownOf : Knowledge → Expression → (Store → Answer) → Value → Type 0
+IsKnownOf k e made value =
     (storages : List Storage) (scope : List Entry) (unset : ℕ → Bool) (s : Store) → IsPlace k storages scope
-    → MayStand k storages scope unset e → Knows k scope unset s → Holds value (value_of e s).word
+    → MayStand k storages scope unset e → Knows k scope unset s → Holds value (made s).word
+
+abbrev pub IsKnown : Knowledge → Expression → Value → Type 0
+IsKnown k e value = IsKnownOf k e (value_of e) value
+
+-- whether a value is FALSE
+abbrev pub inverse_of : Expression → Store → Answer
+inverse_of e s = followed (value_of e s) (λ a. plain (truth (a == 0)))
+
+-- a value as a subscript
+abbrev pub subscript_value : Expression → ℕ → Store → Answer
+subscript_value e size s = followed (value_of e s) (subscript size)
+
+-- an expression that is one constant, below a size
+abbrev pub IsConstantBelow : Knowledge → Expression → ℕ → Type 0
+IsConstantBelow k e size = (c : ℕ) × (constant_in k e ≡ Some c) × (c < size)
+
+-- a variable that is a byte and has a word
+pub record IsByteVariable (k : Knowledge) (e : Expression) (x : ℕ) : Type 0 where
+  pub variable : e ≡ Variable x
+  pub word : (fact_at k x).constant ≡ None
+  pub small : ContainsAllOf (from_to (pos 0) (pos 255)) (fact_at k x).source
+
+-- ---- operators
+
+abbrev pub IsNoShift : Operator → Type 0
+IsNoShift ShiftLeft = ⊥
+IsNoShift ShiftRight = ⊥
+IsNoShift operator = Unit {0}
+
+-- what an operator makes of two values, of a value and a constant, and of a constant and a value
+abbrev pub applied_value : Operator → (left right : Expression) → Store → Answer
+applied_value operator left right s = followed (value_of left s) (λ b. followed (value_of right s) (applied operator b))
+
+abbrev pub applied_last : Operator → Expression → ℕ → Store → Answer
+applied_last operator left c s = followed (value_of left s) (λ b. applied operator b c)
+
+abbrev pub applied_first : Operator → ℕ → Expression → Store → Answer
+applied_first operator c right s = followed (value_of right s) (applied operator c)
+
+-- the code of two operands
+abbrev pub ComputesBoth : Knowledge → (old new : Lines) → (left right : Expression) → (Store → Answer)
+    → (registers kept : ℕ) → Type 0
+ComputesBoth k old new left right made registers kept =
+    (storages : List Storage) (scope : List Entry) (unset : ℕ → Bool) (s : Store) → IsPlace k storages scope
+    → MayStand k storages scope unset left → MayStand k storages scope unset right → 1 ≤ registers → registers ≤ 3
+    → Knows k scope unset s
+    → Does k.arrays old new (Agrees k scope unset s)
+    (λ m end. Pushes registers (made s) m end × LeavesItems scope kept m end)
+
+abbrev pub IsKnownOfBoth : Knowledge → (left right : Expression) → (Store → Answer) → Value → Type 0
+IsKnownOfBoth k left right made value =
+    (storages : List Storage) (scope : List Entry) (unset : ℕ → Bool) (s : Store) → IsPlace k storages scope
+    → MayStand k storages scope unset left → MayStand k storages scope unset right → Knows k scope unset s
+    → Holds value (made s).word
+
+-- one register is enough for an operator's operands, in this order or in either
+abbrev pub HasImmediate : Knowledge → Operator → (left right : Expression) → Type 0
+HasImmediate k operator left right = IsTrue (is_immediate k operator right && is_simple k left)
+
+abbrev pub IsSimplePair : Knowledge → Operator → (left right : Expression) → Type 0
+IsSimplePair k operator left right =
+    IsTrue ((is_immediate k operator right && is_simple k left)
+    || (commutes operator && is_immediate k operator left && is_simple k right))
+
+-- Two numbers are pushed, b below a; where they may change places, in either order.
+pub record PushesTwo (registers b a : ℕ) (flag may_change : Bool) (m end : Machine) : Type 0 where
+  pub operands : HasOperands b a end ⊎ ((may_change ≡ true) × HasOperands a b end)
+  pub creg : registers ≤ 2 → end.creg ≡ m.areg
+  pub error : end.error ≡ (m.error || flag)
+
+-- the code of two operands that are left in registers
+abbrev pub ComputesTwo : Knowledge → (old new : Lines) → (left right : Expression) → (Store → Answer) → (Store → Answer)
+    → Bool → (registers kept : ℕ) → Type 0
+ComputesTwo k old new left right b a may_change registers kept =
+    (storages : List Storage) (scope : List Entry) (unset : ℕ → Bool) (s : Store) → IsPlace k storages scope
+    → MayStand k storages scope unset left → MayStand k storages scope unset right → 2 ≤ registers → registers ≤ 3
+    → Knows k scope unset s
+    → Does k.arrays old new (Agrees k scope unset s)
+    (λ m end. PushesTwo registers (b s).word (a s).word ((b s).flag || (a s).flag) may_change m end × LeavesItems scope kept m end)
+
+-- ---- names with values
+
+-- a name that is not in scope takes the value of an expression: what is known then holds of the state with that value
+abbrev pub Binds : (before after : Knowledge) → ℕ → Expression → Type 0
+Binds before after x e =
+    (storages : List Storage) (scope : List Entry) (unset : ℕ → Bool) (s : Store) → IsPlace before storages scope
+    → MayStand before storages scope unset e → Knows before scope unset s
+    → IsTrue (is_new_name (length before.kinds) scope x) → x < length s.values
+    → Knows after (scope ++ entry.Value x ∷ []) unset (with_value x (value_of e s).word s)
+
+-- .. and its code gives the name's word that value, if it has a word, and leaves what is in use
+pub record Binding (registers kept : ℕ) (scope : List Entry) (flag : Bool) (m end : Machine) : Type 0 where
+  pub areg : registers ≤ 2 → end.areg ≡ m.areg
+  pub breg : registers ≤ 1 → end.breg ≡ m.breg
+  pub error : end.error ≡ (m.error || flag)
+  pub leaves : LeavesItems scope kept m end
+
+abbrev pub ComputesBinding : (before after : Knowledge) → (old new : Lines) → ℕ → Expression → (registers kept : ℕ) → Type 0
+ComputesBinding before after old new x e registers kept =
+    (storages : List Storage) (scope : List Entry) (unset : ℕ → Bool) (s : Store) → IsPlace before storages scope
+    → MayStand before storages scope unset e → Suffices before registers e → Knows before scope unset s
+    → IsTrue (is_new_name (length before.kinds) scope x) → x < length s.values
+    → Does before.arrays old new (Agrees before scope unset s)
+    (λ m end. Binding registers kept scope (value_of e s).flag m end
+    × Agrees after (scope ++ entry.Value x ∷ []) unset (with_value x (value_of e s).word s) end)

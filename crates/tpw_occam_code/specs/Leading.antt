@@ -7,7 +7,8 @@ use Rattle.tpw_occam_code.specs.declared.code.Step.{Step}
 use Rattle.tpw_occam_code.specs.declared.code.Step.TheVariants.{Load, Store, Pointer}
 use Rattle.tpw_occam_code.specs.declared.code.CodeLine.{CodeLine}
 use Rattle.tpw_occam_code.specs.Code.{Lines, place_behind}
-use Rattle.tpw_occam_code.specs.Blocks.{word_at}
+use Rattle.std.specs.Int.{w32, to_le_bytes}
+use Rattle.tpw_occam_code.specs.Blocks.{bytes_at, word_at}
 use Rattle.tpw_occam_code.specs.Symbolic.{Machine, Leads, at_place}
 
 -- whole words of so many bytes
@@ -61,6 +62,10 @@ HasConstants m = (c : ℕ) → c < 2 ^ 32 → word_at m.blocks (Constant c) 0 �
 -- an array's bytes are those of its item
 abbrev pub HasArray : ℕ → List ℕ → Machine → Type 0
 HasArray a bytes m = (i : ℕ) → i < length bytes → m.blocks (Array a) i ≡ slice_index bytes i
+
+-- the first word of an item
+abbrev pub HasWord : Item → ℕ → Machine → Type 0
+HasWord i word m = bytes_at m.blocks i 0 4 ≡ to_le_bytes w32 word
 
 -- the lines lengthen code, and make of each machine with its constants what f says
 abbrev pub Makes : Lines → Lines → (Machine → Type 0) → (Machine → Machine) → Type 0

@@ -3,6 +3,12 @@
 //! The code of an expression pushes its value. It uses so many registers at most, that of the value among them: what
 //! the others hold stays. One register is enough only where the expression needs no more.
 
+ghost use Rattle.std.specs.Prelude.{◌≡◌, ◌≤◌, ℕ, IfOk, OnOk};
+ghost use Rattle.tpw_occam_core.specs.declared.expression.Expression.TheVariants as expression;
+ghost use Rattle.tpw_occam_code.specs.declared.emitter.Fact.{Fact};
+ghost use Rattle.tpw_occam_code.specs.Agreement.{with_fact};
+ghost use Rattle.tpw_occam_code.specs.Computing.{Binds, ComputesBinding, Computes, ComputesTo, IsKnown, IsKnownOf, inverse_of};
+
 use crate::code::{Code, Step};
 use crate::emitter::{Emitter, Room, constant, valued};
 use crate::fault::CodeFault;
@@ -46,7 +52,11 @@ impl Emitter<'_> {
         code: &mut Code,
         e: &Expression,
         room: Room,
-    ) -> Result<Value, CodeFault> {
+    ) -> Result<Value, CodeFault>
+        ensures knowledge { OnOk result (self.new ≡ self.old) }
+        ensures computes { OnOk result (Computes self.old code.old code.new e.now room.registers room.kept) }
+        ensures known { IfOk result (λ value. IsKnown self.old e.now value) }
+    {
         let line = room.line;
         match e {
             Expression::Constant(c) => number(code, line, *c),
@@ -115,7 +125,10 @@ impl Emitter<'_> {
     }
 
     /// Pushes the value of a name.
-    fn name(&self, code: &mut Code, line: u32, x: usize) -> Result<Value, CodeFault> {
+    fn name(&self, code: &mut Code, line: u32, x: usize) -> Result<Value, CodeFault>
+        ensures computes { OnOk result ((registers kept : ℕ) → Computes self.now code.old code.new (expression.Variable x) registers kept) }
+        ensures known { IfOk result (λ value. IsKnown self.now (expression.Variable x) value) }
+    {
         let fact = self.fact(x);
         match fact.constant {
             Some(c) => number(code, line, c),
@@ -137,7 +150,13 @@ impl Emitter<'_> {
         x: usize,
         e: &Expression,
         room: Room,
-    ) -> Result<(), CodeFault> {
+    ) -> Result<(), CodeFault>
+        ensures kinds { OnOk result (self.new.kinds ≡ self.old.kinds) }
+        ensures arrays { OnOk result (self.new.arrays ≡ self.old.arrays) }
+        ensures facts { OnOk result ((fact : Fact) × (self.new ≡ with_fact x fact self.old)) }
+        ensures knows { OnOk result (Binds self.old self.new x e.now) }
+        ensures computes { OnOk result (ComputesBinding self.old self.new code.old code.new x e.now room.registers room.kept) }
+    {
         if let Some(c) = self.constant_of(e) {
             self.set_fact(x, constant(c));
             return Ok(());
@@ -155,7 +174,11 @@ impl Emitter<'_> {
         code: &mut Code,
         e: &Expression,
         room: Room,
-    ) -> Result<Value, CodeFault> {
+    ) -> Result<Value, CodeFault>
+        ensures knowledge { OnOk result (self.new ≡ self.old) }
+        ensures computes { OnOk result (ComputesTo self.old code.old code.new e.now (inverse_of e.now) room.registers room.kept) }
+        ensures known { IfOk result (λ value. IsKnownOf self.old e.now (inverse_of e.now) value) }
+    {
         if let Expression::Binary {
             operator: Operator::Greater,
             left,

@@ -3,12 +3,15 @@
 //! A check is left out where the text shows that it holds. A mask is left out where the verifier knows the range of
 //! the register.
 
-ghost use Rattle.std.specs.Prelude.{◌≡◌, ◌<◌, ◌≤◌, ◌^◌, ◌%◌, ℕ, List, length, slice_index, OnOk, IfOk, IfSome, bit_and, nat_le};
+ghost use Rattle.std.specs.Prelude.{◌≡◌, ◌<◌, ◌≤◌, ◌^◌, ◌%◌, ℕ, List, length, slice_index, pos, None, IsTrue, OnOk, IfOk, IfSome, bit_and, nat_le};
 ghost use Rattle.tpw_occam_core.specs.Arithmetic.{answer, plain, subscript};
-ghost use Rattle.tpw_occam_code.specs.Ranges.{Contains};
+ghost use Rattle.tpw_occam_code.specs.Ranges.{from_to, Contains, ContainsAllOf};
 ghost use Rattle.tpw_occam_core.specs.Arrays.{size, element};
 ghost use Rattle.tpw_occam_core.specs.declared.kind.Kind.TheVariants.{Byte};
-ghost use Rattle.tpw_occam_code.specs.Leading.{Does, HasArray};
+ghost use Rattle.tpw_occam_code.specs.Leading.{Does, HasArray, HasWord};
+ghost use Rattle.tpw_occam_code.specs.declared.items.Item.TheVariants.{Variable};
+ghost use Rattle.tpw_occam_code.specs.Agreement.{fact_at};
+ghost use Rattle.tpw_occam_code.specs.Computing.{ComputesTo, IsKnownOf, IsConstantBelow, IsByteVariable, subscript_value};
 ghost use Rattle.tpw_occam_code.specs.Values.{Answers, Holds, HasNumber, HasAddress, Replaces, PushesAlone, IsAtElement, scaled};
 
 use crate::code::{Code, Step};
@@ -16,6 +19,7 @@ use crate::emitter::{Emitter, Room};
 use crate::expressions::Value;
 use crate::fault::CodeFault;
 use crate::items::Item;
+use crate::operators::number;
 use crate::range::{BYTE, FULL, Range};
 use tp_decode::Instr;
 use tpw_occam_core::{Expression, Kind, Operator};
@@ -143,7 +147,11 @@ pub(crate) fn indexed(
 }
 
 /// Pushes the byte of a variable, of which the verifier then knows the range.
-fn byte_variable(code: &mut Code, line: u32, x: usize) -> Result<Value, CodeFault> {
+fn push_byte(code: &mut Code, line: u32, x: usize) -> Result<Value, CodeFault>
+    ensures makes { OnOk result ((arrays : List ℕ) (word : ℕ) → word < 256 → Does arrays code.old code.new
+        (HasWord (Variable x) word) (PushesAlone (plain word))) }
+    ensures holds { IfOk result (λ value. (word : ℕ) → word < 256 → Holds value word) }
+{
     code.emit(line, Step::Pointer(Item::Variable(x), 0))?;
     code.instr(line, Instr::Lb)?;
     Ok(Value {
@@ -288,9 +296,22 @@ pub(crate) fn indexed_element(
 }
 
 impl Emitter<'_> {
-    /// Whether a subscript of so many elements is better read as a byte.
-    fn is_byte_variable(&self, x: usize, size: u32) -> bool {
-        size >= 256 && self.kind(x) == Kind::Byte && self.fact(x).constant.is_none()
+    /// The variable that a subscript of so many elements is, where it is better read as a byte.
+    fn byte_variable(&self, e: &Expression, size: u32) -> Option<usize>
+        ensures { IfSome result (λ x. IsByteVariable self.now e.now x) }
+    {
+        match e {
+            Expression::Variable(x) if size >= 256 && self.is_byte(*x) => Some(*x),
+            _ => None,
+        }
+    }
+
+    /// Whether a name is a BYTE that has a word.
+    fn is_byte(&self, x: usize) -> bool
+        ensures { IsTrue result → ((fact_at self.now x).constant ≡ None) × ContainsAllOf (from_to (pos 0) (pos 255)) (fact_at self.now x).source }
+    {
+        let fact = self.fact(x);
+        self.kind(x) == Kind::Byte && fact.constant.is_none() && fact.source.is_within(BYTE)
     }
 
     /// Pushes a number that is checked against a size, and that the verifier knows to be below it.
@@ -301,13 +322,21 @@ impl Emitter<'_> {
         e: &Expression,
         size: u32,
         room: Room,
-    ) -> Result<Value, CodeFault> {
-        let value = match e {
-            Expression::Variable(x) if self.is_byte_variable(*x, size) => {
-                byte_variable(code, room.line, *x)?
-            }
-            _ => self.expression(code, e, room)?,
-        };
+    ) -> Result<Value, CodeFault>
+        ensures knowledge { OnOk result (self.new ≡ self.old) }
+        ensures computes { OnOk result (0 < size → size ≤ 2 ^ 31 → (room.registers ≤ 1 → IsConstantBelow self.old e.now size)
+            → ComputesTo self.old code.old code.new e.now (subscript_value e.now size) room.registers room.kept) }
+        ensures known { IfOk result (λ value. 0 < size → size ≤ 2 ^ 31
+            → IsKnownOf self.old e.now (subscript_value e.now size) value) }
+    {
+        if let Some(c) = self.constant_of(e).filter(|c| *c < size) {
+            return number(code, room.line, c);
+        }
+        if let Some(x) = self.byte_variable(e, size) {
+            let value = push_byte(code, room.line, x)?;
+            return settled(code, room.line, value, size);
+        }
+        let value = self.expression(code, e, room)?;
         settled(code, room.line, value, size)
     }
 
