@@ -130,12 +130,12 @@ word_there m i v h is = ap (from_le_bytes w32) is ∙ from_le_bytes-to_le_bytes_
 
 -- ---- names
 
-in_scope : (k : Knowledge) (storages : List Storage) (scope : List Entry) (unset : ℕ → Bool) (x : ℕ) → MayStand k storages scope unset (expression.Variable x)
+pub in_scope : (k : Knowledge) (storages : List Storage) (scope : List Entry) (unset : ℕ → Bool) (x : ℕ) → MayStand k storages scope unset (expression.Variable x)
     → IsTrue (list_any (is_name x) scope)
 in_scope k storages scope unset x stands = stands.sound
 
 -- a name that is read is assigned
-set_name : (k : Knowledge) (storages : List Storage) (scope : List Entry) (unset : ℕ → Bool) (x : ℕ) → MayStand k storages scope unset (expression.Variable x)
+pub set_name : (k : Knowledge) (storages : List Storage) (scope : List Entry) (unset : ℕ → Bool) (x : ℕ) → MayStand k storages scope unset (expression.Variable x)
     → unset x ≡ false
 set_name k storages scope unset x stands = by_test (unset x) refl
   where

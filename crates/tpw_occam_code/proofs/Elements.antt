@@ -47,7 +47,7 @@ load_byte m a bytes i h at =
     let fits : scaled Byte i + 1 ≤ m.sizes (Array a) = omega (arith, at.room) in
     rw at.areg (rw (le-leb _ _ fits) (ap (λ w. Some (set_areg (number w) m)) (at.has i h)))
 
-replaces_set : (w p : ℕ) (m end : Machine) → end ≡ at_place p (set_areg (number w) m) → Replaces 1 (plain w) m end
+pub replaces_set : (w p : ℕ) (m end : Machine) → end ≡ at_place p (set_areg (number w) m) → Replaces 1 (plain w) m end
 replaces_set w p m end is = record {
   areg = ap (λ x. x.areg) is;
   breg = λ h. ap (λ x. x.breg) is;

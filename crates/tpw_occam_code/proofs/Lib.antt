@@ -5,3 +5,5 @@ pub mod Answering
 pub mod Indexing
 pub mod Elements
 pub mod Computing
+pub mod Standing
+pub mod Constructs

@@ -2,6 +2,7 @@
 use Rattle.std.specs.Prelude.{◌≡◌, ℕ, ◌+◌, ◌-◌, ◌*◌, ◌%◌, ◌^◌, ◌<◌, ◌≤◌, Bool, true, false, not, ◌||◌, ◌&&◌, ◌==◌, nat_le}
 use Rattle.std.specs.Prelude.{if◌then◌else◌, List, [], ◌∷◌, ◌++◌, length, map, slice_index, Option, Some, None, is_some, IsTrue, pos, ◌⊎◌}
 use Rattle.std.specs.Option.{option_and_then, option_map_or}
+use Rattle.std.specs.List.{list_any}
 use Rattle.tp_prefix.specs.Canonical.{canonical}
 use Rattle.tp_decode.specs.Words.{signed}
 use Rattle.tpw_occam_core.specs.declared.worker.Storage.{Storage}
@@ -19,7 +20,7 @@ use Rattle.tpw_occam_core.specs.Arithmetic.{answer, plain, subscript, applied}
 use Rattle.tpw_occam_core.specs.Meaning.{Store, value_of, followed, with_value}
 use Rattle.tpw_occam_code.specs.Ranges.{from_to, ContainsAllOf}
 use Rattle.tpw_occam_core.specs.declared.scope.Entry.TheVariants as entry
-use Rattle.tpw_occam_core.specs.Sound.{is_sound_expression, is_new_name, bytes_of}
+use Rattle.tpw_occam_core.specs.Sound.{is_sound_expression, is_new_name, is_array, bytes_of}
 use Rattle.tpw_occam_code.specs.declared.expressions.Value.{Value}
 use Rattle.tpw_occam_code.specs.declared.emitter.Room.{Room}
 use Rattle.tpw_occam_code.specs.Code.{Lines}
@@ -112,11 +113,12 @@ reads (And' p e q f) x = reads e x || reads f x
 reads (Or' p e q f) x = reads e x || reads f x
 reads (Let' y p e q f) x = reads e x || reads f x
 
--- Where expressions stand: arrays are those of the storages, of at most 2,048 bytes; each name has a fact; of a name out
--- of scope no constant is known.
+-- Where expressions stand: arrays are those of the storages, those in scope of 1 to 2,048 bytes, and each name has a
+-- fact.
 pub record IsPlace (k : Knowledge) (storages : List Storage) (scope : List Entry) : Type 0 where
   pub arrays : k.arrays ≡ map bytes_of storages
-  pub sizes : (a : ℕ) → slice_index k.arrays a ≤ 2048
+  pub least : (a : ℕ) → IsTrue (list_any (is_array a) scope) → 0 < slice_index k.arrays a
+  pub most : (a : ℕ) → IsTrue (list_any (is_array a) scope) → slice_index k.arrays a ≤ 2048
   pub facts : length k.facts ≡ length k.kinds
 
 -- An expression may stand there: it is sound, and reads no name that is not assigned yet.

@@ -1,0 +1,280 @@
+-- The code of each construct of expressions.
+use Rattle.std.proofs.Common.{◌≡◌, ◌⊎◌, inl, inr, ◌+◌, ◌*◌, ◌/◌, ◌%◌, ◌^◌, ◌≤◌, ◌<◌, [], ◌∷◌, ◌++◌, ℕ, zero, suc, List, length, map, Option, Some, None, Bool, false, true, refl, ap, sym, subst, ◌∙◌, arith, w32}
+use Rattle.std.specs.Prelude.{slice_index, ◌||◌, ◌&&◌, ◌==◌, IsTrue, pos}
+use Rattle.std.specs.List.{list_any}
+use Rattle.std.proofs.Math.Bool.{or_assoc, or-false}
+use Rattle.std.proofs.Math.Pow.{mod-mod-pow}
+use Rattle.std.proofs.lemmas.Bool.{cases_lt, lt-ltb, le-ltb, eqb-true}
+use Rattle.tp_decode.specs.Words.{complement}
+use Rattle.tp_decode.specs.declared.instr.Instr.TheVariants.{BitNot, Eqc}
+use Rattle.tp_step.specs.Numbers.{truth}
+use Rattle.tpw_occam_core.specs.declared.arithmetic.Answer.{Answer}
+use Rattle.tpw_occam_core.specs.declared.worker.Storage.{Storage}
+use Rattle.tpw_occam_core.specs.declared.scope.Entry.{Entry}
+use Rattle.tpw_occam_core.specs.declared.kind.Kind.{Kind}
+use Rattle.tpw_occam_core.specs.declared.kind.Kind.TheVariants as kind
+use Rattle.tpw_occam_core.specs.declared.expression.Operator.{Operator}
+use Rattle.tpw_occam_core.specs.declared.expression.Expression.{Expression}
+use Rattle.tpw_occam_core.specs.declared.expression.Expression.TheVariants.{Constant, Variable, Element', Checked', Binary', Complement', Not', LowByte', And', Or', Let'}
+use Rattle.tpw_occam_core.specs.Arithmetic.{answer, plain, applied, subscript, low_byte}
+use Rattle.tpw_occam_core.specs.Arrays.{size, element}
+use Rattle.tpw_occam_core.specs.Meaning.{Store, followed, value_of, array_of, element_at}
+use Rattle.tpw_occam_core.specs.Sound.{is_name, is_array, is_seen, bytes_of, storage_of}
+use Rattle.tpw_occam_code.specs.declared.code.Step.TheVariants.{Plain}
+use Rattle.tpw_occam_code.specs.declared.expressions.Value.{Value}
+use Rattle.tpw_occam_code.specs.Code.{Lines, followed_by, line_of, place_behind}
+use Rattle.tpw_occam_code.specs.Symbolic.{Machine, effect, performed, at_place, number, push, set_areg}
+use Rattle.tpw_occam_code.specs.Ranges.{Contains}
+use Rattle.tpw_occam_code.specs.Leading.{Does, HasConstants, HasArray, HasWord, Makes}
+use Rattle.tpw_occam_code.specs.Values.{Holds, HasNumber, Replaces, Pushes, PushesAlone, Answers}
+use Rattle.tpw_occam_code.specs.Agreement.{Knowledge, elements_of, constant_in, fact_at, Knows, Agrees, LeavesItems}
+use Rattle.tpw_occam_code.specs.Computing.{IsPlace, MayStand, Suffices, Computes, ComputesTo, ComputesBoth, IsKnown, IsKnownOf, IsKnownOfBoth, is_simple, inverse_of, subscript_value, applied_value, applied_last, applied_first, IsConstantBelow, IsByteVariable, IsSimplePair, HasImmediate}
+use Rattle.tpw_occam_code.proofs.Leading.{does_both, does_less, does_step}
+use Rattle.std.proofs.lemmas.Option.{same_Some}
+use Rattle.tpw_occam_code.proofs.Indexing.{subscript_below, subscript_word_below}
+use Rattle.tpw_occam_code.proofs.Elements.{pushes_alone, replaces_set}
+use Rattle.tpw_occam_code.proofs.Computing.{in_scope, set_name, agrees_after, alone_pushes, replaces_pushed, replaces_more}
+use Rattle.tpw_occam_code.proofs.Standing.{Place, and_first, and_second, stand_checked, stand_element, stand_binary, stand_complement, stand_not, stand_low_byte, two_registers, suffices_two, suffices_part}
+
+-- what is done with a value that was pushed
+pub record Goes (k : Knowledge) (scope : List Entry) (unset : ℕ → Bool) (s : Store) (between new : Lines) (registers few : ℕ)
+    (one two : Answer) : Type 0 where
+  pub enough : few ≤ registers
+  pub does : Does k.arrays between new (λ m. Agrees k scope unset s m × HasNumber one.word m) (Replaces few two)
+
+pub goes_by : (k : Knowledge) (scope : List Entry) (unset : ℕ → Bool) (s : Store) (between new : Lines) (registers few : ℕ)
+    (one two : Answer) → few ≤ registers → Answers between new few one.word two → Goes k scope unset s between new registers few one two
+goes_by k scope unset s between new registers few one two h makes = record {
+  enough = h;
+  does = does_less k.arrays between new _ _ _ _ (makes k.arrays) (λ m said. (said.0.constants, said.1)) (λ m end said after. after);
+}
+
+-- a value that is pushed, and another that takes its place
+pub computes_then : (k : Knowledge) (old between new : Lines) (outer inner : Expression) (f : Store → Answer) (next : ℕ → Answer)
+    (registers few kept : ℕ) → ComputesTo k old between inner f registers kept
+    → ((storages : List Storage) (scope : List Entry) (unset : ℕ → Bool) (s : Store) → IsPlace k storages scope
+    → MayStand k storages scope unset outer → Suffices k registers outer → Knows k scope unset s
+    → MayStand k storages scope unset inner × Suffices k registers inner × Goes k scope unset s between new registers few (f s) (next (f s).word))
+    → ComputesTo k old new outer (λ s. followed (f s) next) registers kept
+computes_then k old between new outer inner f next registers few kept first second storages scope unset s place stands suffices knows =
+    let parts = second storages scope unset s place stands suffices knows in
+    does_both k.arrays old between new _ _ _ _ _ (first storages scope unset s place parts.0 parts.1 knows) parts.2.does
+    (λ m middle agrees after. (agrees_after k scope unset kept s m middle agrees after.1, after.0.areg))
+    (λ m middle end agrees after after2.
+        replaces_pushed registers kept scope (f s) (next (f s).word) m middle end after
+        (replaces_more few registers (next (f s).word) middle end parts.2.enough after2))
+
+-- ---- a constant
+
+pub constant_computes : (k : Knowledge) (old new : Lines) (c registers kept : ℕ) → Makes old new HasConstants (push (number c))
+    → Computes k old new (Constant c) registers kept
+constant_computes k old new c registers kept makes storages scope unset s place stands suffices knows =
+    does_less k.arrays old new _ _ _ _ (makes k.arrays) (λ m said. said.constants)
+    (λ m end said after. alone_pushes registers kept scope (plain c) m end suffices.least (pushes_alone c (place_behind new) m end after))
+
+-- ---- a check
+
+pub checked_computes : (k : Knowledge) (old between new : Lines) (below : ℕ) (p : Place) (e : Expression) (value : Value) (registers kept : ℕ)
+    → Computes k old between e registers kept → IsKnown k e value
+    → ((i : ℕ) → Holds value i → 0 < below → below ≤ 2 ^ 31 → Answers between new 2 i (subscript below i))
+    → Computes k old new (Checked' below p e) registers kept
+checked_computes k old between new below p e value registers kept computes known makes =
+    computes_then k old between new (Checked' below p e) e (value_of e) (subscript below) registers 2 kept computes
+    (λ storages scope unset s place stands suffices knows.
+        let parts = stand_checked k storages scope unset below p e stands in
+        let two = two_registers k registers (Checked' below p e) refl suffices in
+        (parts.2, suffices_two k registers e two suffices.most,
+        goes_by k scope unset s between new registers 2 (value_of e s) (subscript below (value_of e s).word) two
+        (makes (value_of e s).word (known storages scope unset s place parts.2 knows) parts.0 parts.1)))
+
+pub checked_known : (k : Knowledge) (below : ℕ) (p : Place) (e : Expression) (value made : Value) → IsKnown k e value
+    → ((i : ℕ) → Holds value i → 0 < below → below ≤ 2 ^ 31 → Holds made (subscript below i).word)
+    → IsKnown k (Checked' below p e) made
+checked_known k below p e value made known holds storages scope unset s place stands knows =
+    let parts = stand_checked k storages scope unset below p e stands in
+    holds (value_of e s).word (known storages scope unset s place parts.2 knows) parts.0 parts.1
+
+-- ---- a low byte
+
+low_byte_is : (i : ℕ) → low_byte i ≡ subscript 256 i
+low_byte_is i = by_test (cases_lt i 256)
+  where
+    by_test : (i < 256) ⊎ (256 ≤ i) → low_byte i ≡ subscript 256 i
+    by_test (inl below) = rw (lt-ltb i 256 below) (ap (λ n. answer n false) (omega arith))
+    by_test (inr above) = rw (le-ltb i 256 above) (ap (λ n. answer n true) (sym (mod-mod-pow i 23 8)))
+
+pub low_byte_computes : (k : Knowledge) (old between new : Lines) (p : Place) (e : Expression) (value : Value) (registers kept : ℕ)
+    → Computes k old between e registers kept → IsKnown k e value
+    → ((i : ℕ) → Holds value i → 0 < 256 → 256 ≤ 2 ^ 31 → Answers between new 2 i (subscript 256 i))
+    → Computes k old new (LowByte' p e) registers kept
+low_byte_computes k old between new p e value registers kept computes known makes =
+    computes_then k old between new (LowByte' p e) e (value_of e) low_byte registers 2 kept computes
+    (λ storages scope unset s place stands suffices knows.
+        let two = two_registers k registers (LowByte' p e) refl suffices in
+        let word = (value_of e s).word in
+        let part = stand_low_byte k storages scope unset p e stands in
+        (part, suffices_two k registers e two suffices.most,
+        goes_by k scope unset s between new registers 2 (value_of e s) (low_byte word) two
+        (subst (λ made. Answers between new 2 word made) (sym (low_byte_is word))
+        (makes word (known storages scope unset s place part knows) (omega arith) (omega arith)))))
+
+pub low_byte_known : (k : Knowledge) (p : Place) (e : Expression) (value made : Value) → IsKnown k e value
+    → ((i : ℕ) → Holds value i → 0 < 256 → 256 ≤ 2 ^ 31 → Holds made (subscript 256 i).word)
+    → IsKnown k (LowByte' p e) made
+low_byte_known k p e value made known holds storages scope unset s place stands knows =
+    let word = (value_of e s).word in
+    subst (λ a. Holds made a.word) (sym (low_byte_is word))
+    (holds word (known storages scope unset s place (stand_low_byte k storages scope unset p e stands) knows) (omega arith) (omega arith))
+
+-- ---- a complement
+
+complement_small : (i : ℕ) → complement i < 2 ^ 32
+complement_small i = omega arith
+
+pub answers_not : (old new : Lines) (source i : ℕ) → new ≡ followed_by old (line_of source (Plain BitNot) ∷ [])
+    → Answers old new 1 i (plain (complement i))
+unfolding performed effect
+answers_not old new source i is arrays =
+    does_less arrays old new _ _ _ _
+    (does_step arrays old new source (Plain BitNot) (HasNumber i) (set_areg (number (complement i))) is
+    (λ m areg served. rw areg refl) (λ m. refl) (λ m. refl) (λ m. refl))
+    (λ m said. said.1) (λ m end said after. replaces_set (complement i) (place_behind new) m end after)
+
+pub complement_computes : (k : Knowledge) (old between new : Lines) (source : ℕ) (p : Place) (e : Expression) (registers kept : ℕ)
+    → Computes k old between e registers kept → new ≡ followed_by between (line_of source (Plain BitNot) ∷ [])
+    → Computes k old new (Complement' p e) registers kept
+complement_computes k old between new source p e registers kept computes is =
+    computes_then k old between new (Complement' p e) e (value_of e) (λ a. plain (complement a)) registers 1 kept computes
+    (λ storages scope unset s place stands suffices knows.
+        (stand_complement k storages scope unset p e stands, suffices_part k registers (Complement' p e) e (λ simple. simple) suffices,
+        goes_by k scope unset s between new registers 1 (value_of e s) (plain (complement (value_of e s).word)) suffices.least
+        (answers_not between new source (value_of e s).word is)))
+
+pub complement_known : (k : Knowledge) (p : Place) (e : Expression) (value made : Value) → IsKnown k e value
+    → ((word : ℕ) → word < 2 ^ 32 → Contains value.source word → Contains made.source (complement word))
+    → ((word : ℕ) → word < 2 ^ 32 → Contains value.known word → Contains made.known (complement word))
+    → IsKnown k (Complement' p e) made
+complement_known k p e value made known source said storages scope unset s place stands knows =
+    let holds = known storages scope unset s place (stand_complement k storages scope unset p e stands) knows in
+    let word = (value_of e s).word in
+    record { small = complement_small word; source = source word holds.small holds.source; known = said word holds.small holds.known }
+
+-- ---- an operator
+
+pub binary_computes : (k : Knowledge) (old new : Lines) (operator : Operator) (p : Place) (e : Expression) (q : Place) (f : Expression)
+    (registers kept : ℕ)
+    → ((registers ≤ 1 → IsSimplePair k operator e f) → ComputesBoth k old new e f (applied_value operator e f) registers kept)
+    → Computes k old new (Binary' operator p e q f) registers kept
+binary_computes k old new operator p e q f registers kept both storages scope unset s place stands suffices knows =
+    let parts = stand_binary k storages scope unset operator p e q f stands in
+    both suffices.simple storages scope unset s place parts.0 parts.1 suffices.least suffices.most knows
+
+pub binary_known : (k : Knowledge) (operator : Operator) (p : Place) (e : Expression) (q : Place) (f : Expression) (value : Value)
+    → IsKnownOfBoth k e f (applied_value operator e f) value → IsKnown k (Binary' operator p e q f) value
+binary_known k operator p e q f value known storages scope unset s place stands knows =
+    let parts = stand_binary k storages scope unset operator p e q f stands in
+    known storages scope unset s place parts.0 parts.1 knows
+
+-- ---- constants
+
+-- the value of an expression that is one constant
+pub constant_value : (k : Knowledge) (storages : List Storage) (scope : List Entry) (unset : ℕ → Bool) (s : Store) (e : Expression) (c : ℕ)
+    → MayStand k storages scope unset e → Knows k scope unset s → constant_in k e ≡ Some c → value_of e s ≡ plain c
+constant_value k storages scope unset s (Constant d) c stands knows is = ap plain (same_Some d c is)
+constant_value k storages scope unset s (Variable x) c stands knows is =
+    let fits = knows.names x (in_scope k storages scope unset x stands) (set_name k storages scope unset x stands) in
+    ap plain (fits.constant c is)
+constant_value k storages scope unset s e c stands knows is = cc
+
+-- ---- elements
+
+-- an array in scope
+seen_array : (storages : List Storage) (scope : List Entry) (a : ℕ) (view : Kind) → is_seen storages scope a view ≡ true
+    → list_any (is_array a) scope ≡ true
+seen_array storages scope a kind.Word e = and_first _ _ e
+seen_array storages scope a kind.Byte e = e
+
+-- how many bytes a storage has
+slice_bytes : (storages : List Storage) (a : ℕ) → slice_index (map bytes_of storages) a ≡ bytes_of (storage_of storages a)
+slice_bytes [] a = refl
+slice_bytes (storage ∷ storages) zero = refl
+slice_bytes (storage ∷ storages) (suc a) = slice_bytes storages a
+
+-- an array seen as words has whole ones
+seen_size : (k : Knowledge) (storages : List Storage) (scope : List Entry) (a : ℕ) (view : Kind) → IsPlace k storages scope
+    → is_seen storages scope a view ≡ true → 0 < elements_of view (slice_index k.arrays a)
+seen_size k storages scope a kind.Word place e =
+    let least = place.least a (seen_array storages scope a kind.Word e) in
+    let whole : bytes_of (storage_of storages a) % 4 ≡ 0 = eqb-true _ 0 (and_second (list_any (is_array a) scope) _ e) in
+    let same : slice_index k.arrays a ≡ bytes_of (storage_of storages a) = ap (λ l. slice_index l a) place.arrays ∙ slice_bytes storages a in
+    omega (arith, least, whole, same)
+seen_size k storages scope a kind.Byte place e = place.least a e
+
+size_is : (view : Kind) (bytes : List ℕ) (n : ℕ) → length bytes ≡ n → elements_of view n ≡ size view bytes
+size_is kind.Word bytes n e = ap (λ m. m / 4) (sym e)
+size_is kind.Byte bytes n e = sym e
+
+elements_most : (view : Kind) (n : ℕ) → n ≤ 2048 → elements_of view n ≤ 2 ^ 31
+elements_most kind.Word n h = omega arith
+elements_most kind.Byte n h = omega arith
+
+-- the element of a subscript that is pushed
+pub element_computes : (k : Knowledge) (old between new : Lines) (a : ℕ) (view : Kind) (p : Place) (e : Expression) (elements : ℕ) (registers kept : ℕ)
+    → (slice_index k.arrays a < 2 ^ 32 → elements ≡ elements_of view (slice_index k.arrays a))
+    → (0 < elements → elements ≤ 2 ^ 31 → (registers ≤ 1 → IsConstantBelow k e elements)
+    → ComputesTo k old between e (subscript_value e elements) registers kept)
+    → ((arrays bytes : List ℕ) (i : ℕ) → length bytes ≡ slice_index arrays a → i < size view bytes
+    → Does arrays between new (λ m. HasNumber i m × HasArray a bytes m) (Replaces 2 (plain (element view bytes i))))
+    → Computes k old new (Element' a view p e) registers kept
+element_computes k old between new a view p e elements registers kept counted computes makes storages scope unset s place stands suffices knows =
+    let parts = stand_element k storages scope unset a view p e stands in
+    let there = seen_array storages scope a view parts.0 in
+    let most = place.most a there in
+    let bytes = array_of s a in
+    let two = two_registers k registers (Element' a view p e) refl suffices in
+    let count : elements ≡ elements_of view (slice_index k.arrays a) = counted (omega (arith, most)) in
+    let sized : elements ≡ size view bytes = count ∙ size_is view bytes _ (knows.lengths a there) in
+    let least : 0 < elements = subst (λ n. 0 < n) (sym count) (seen_size k storages scope a view place parts.0) in
+    let small : elements ≤ 2 ^ 31 = subst (λ n. n ≤ 2 ^ 31) (sym count) (elements_most view _ most) in
+    let one = subscript_value e elements s in
+    let below : one.word < size view bytes = subst (λ n. one.word < n) sized (subscript_word_below elements (value_of e s).word least) in
+    let pushed = computes least small (λ one. absurd (omega (arith, two, one))) storages scope unset s place parts.1
+        (suffices_two k registers e two suffices.most) knows in
+    let made : answer (element view bytes one.word) (one.flag || false) ≡ value_of (Element' a view p e) s =
+        ap (answer (element view bytes one.word)) (or-false one.flag)
+        ∙ ap (λ n. answer (element view bytes (subscript n (value_of e s).word).word) ((value_of e s).flag || (subscript n (value_of e s).word).flag)) sized in
+    does_less k.arrays old new _ _ _ _
+    (does_both k.arrays old between new _ _ _ _ _ pushed
+    (does_less k.arrays between new _ _ (λ m. Agrees k scope unset s m × HasNumber one.word m) _
+    (makes k.arrays bytes one.word (knows.lengths a there) below) (λ m said. (said.1, said.0.arrays a there)) (λ m end said after. after))
+    (λ m middle agrees after. (agrees_after k scope unset kept s m middle agrees after.1, after.0.areg))
+    (λ m middle end agrees after after2.
+        replaces_pushed registers kept scope one (plain (element view bytes one.word)) m middle end after (replaces_more 2 registers _ middle end two after2)))
+    (λ m said. said)
+    (λ m end said after. subst (λ x. Pushes registers x m end × LeavesItems scope kept m end) made after)
+
+pub element_known : (k : Knowledge) (a : ℕ) (view : Kind) (p : Place) (e : Expression) (value : Value)
+    → ((bytes : List ℕ) (i : ℕ) → ((at : ℕ) → slice_index bytes at < 256) → Holds value (element view bytes i))
+    → IsKnown k (Element' a view p e) value
+element_known k a view p e value holds storages scope unset s place stands knows =
+    holds (array_of s a) _ (knows.bytes a)
+
+-- an element with a constant subscript
+pub fixed_computes : (k : Knowledge) (old new : Lines) (a : ℕ) (view : Kind) (p : Place) (e : Expression) (c : ℕ) (registers kept : ℕ)
+    → constant_in k e ≡ Some c → c < elements_of view (slice_index k.arrays a) → (view ≡ kind.Byte → c % 4 ≡ 0)
+    → ((arrays bytes : List ℕ) → length bytes ≡ slice_index arrays a → c < size view bytes → (view ≡ kind.Byte → c % 4 ≡ 0)
+    → Does arrays old new (HasArray a bytes) (PushesAlone (plain (element view bytes c))))
+    → Computes k old new (Element' a view p e) registers kept
+fixed_computes k old new a view p e c registers kept is below whole makes storages scope unset s place stands suffices knows =
+    let parts = stand_element k storages scope unset a view p e stands in
+    let there = seen_array storages scope a view parts.0 in
+    let bytes = array_of s a in
+    let value : value_of e s ≡ plain c = constant_value k storages scope unset s e c parts.1 knows is in
+    let within : c < size view bytes = subst (λ n. c < n) (size_is view bytes _ (knows.lengths a there)) below in
+    let made : plain (element view bytes c) ≡ value_of (Element' a view p e) s =
+        ap (λ x. answer (element view bytes x.word) x.flag) (sym (subscript_below (size view bytes) c within))
+        ∙ ap (λ v. answer (element view bytes (subscript (size view bytes) v.word).word) (v.flag || (subscript (size view bytes) v.word).flag)) (sym value) in
+    does_less k.arrays old new _ _ _ _ (makes k.arrays bytes (knows.lengths a there) within whole)
+    (λ m agrees. agrees.arrays a there)
+    (λ m end said after. subst (λ x. Pushes registers x m end × LeavesItems scope kept m end) made
+    (alone_pushes registers kept scope (plain (element view bytes c)) m end suffices.least after))
