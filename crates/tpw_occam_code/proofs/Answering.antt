@@ -10,7 +10,10 @@ use Rattle.tpw_occam_code.specs.declared.code.Step.TheVariants.{Plain}
 use Rattle.tpw_occam_code.specs.Code.{Lines, followed_by, line_of, place_behind}
 use Rattle.tpw_occam_code.specs.Symbolic.{Machine, pair_answer, effect, performed, at_place, number, push, pop, raised}
 use Rattle.tpw_occam_code.specs.Leading.{Makes, Does, HasConstants}
-use Rattle.tpw_occam_code.specs.Values.{HasOperands, HasNumber, Replaces, Answers, answered}
+use Rattle.tpw_occam_core.specs.declared.expression.Operator.{Operator}
+use Rattle.tpw_occam_core.specs.declared.expression.Operator.TheVariants.{ShiftLeft, ShiftRight}
+use Rattle.tpw_occam_code.specs.Computing.{IsNoShift}
+use Rattle.tpw_occam_code.specs.Values.{HasCount, HasOperands, HasNumber, Replaces, Answers, answered}
 use Rattle.tpw_occam_code.proofs.Leading.{does_step, does_both, does_less, does_nothing}
 use Rattle.tpw_occam_code.proofs.Machines.{makes_pair}
 
@@ -53,13 +56,13 @@ answers_nothing code registers a arrays =
       traced = ap (λ e. e.traced) is;
     })
 
--- a constant above the number, and an instruction that works on both
-pub answers_constant : (old between new : Lines) (source : ℕ) (instr : Instr) (a c : ℕ) (made : Answer)
-    → Makes old between HasConstants (push (number c)) → new ≡ followed_by between (line_of source (Plain instr) ∷ [])
-    → pair_answer instr a c ≡ Some made → Answers old new 2 a made
-answers_constant old between new source instr a c made pushes is e arrays =
+-- a constant above the number, and what works on both
+pub answers_above : (old between new : Lines) (a c : ℕ) (made : Answer)
+    → Makes old between HasConstants (push (number c)) → Makes between new (HasOperands a c) (answered made) → Answers old new 2 a made
+answers_above old between new a c made pushes works arrays =
     does_both arrays old between new _ _ _ _ _
-    (does_less arrays old between _ _ (λ m. HasConstants m × HasNumber a m) _ (pushes arrays) (λ m said. said.0) (λ m end said at. at)) (makes_pair between new source instr a c made is e arrays)
+    (does_less arrays old between _ _ (λ m. HasConstants m × HasNumber a m) _ (pushes arrays) (λ m said. said.0) (λ m end said at. at))
+    (works arrays)
     (λ m middle said at. (ap (λ x. x.breg) at ∙ said.1, ap (λ x. x.areg) at))
     (λ m middle end said at at2.
         let both : end ≡ at_place (place_behind new) (answered made (push (number c) m)) = at2 ∙ ap (λ x. at_place (place_behind new) (answered made x)) at in
@@ -73,6 +76,18 @@ answers_constant old between new source instr a c made pushes is e arrays =
           sent = ap (λ x. x.sent) both;
           traced = ap (λ x. x.traced) both;
         })
+
+-- .. an instruction that works on both
+pub answers_constant : (old between new : Lines) (source : ℕ) (instr : Instr) (a c : ℕ) (made : Answer)
+    → Makes old between HasConstants (push (number c)) → new ≡ followed_by between (line_of source (Plain instr) ∷ [])
+    → pair_answer instr a c ≡ Some made → Answers old new 2 a made
+answers_constant old between new source instr a c made pushes is e =
+    answers_above old between new a c made pushes (makes_pair between new source instr a c made is e)
+
+pub count_of_no_shift : (operator : Operator) (a : ℕ) → IsNoShift operator → HasCount operator a
+count_of_no_shift ShiftLeft a unshifted = absurd unshifted
+count_of_no_shift ShiftRight a unshifted = absurd unshifted
+count_of_no_shift operator a unshifted = tt
 
 -- a size above the number, and a check
 pub answers_check : (old between new : Lines) (source a size : ℕ)

@@ -7,3 +7,4 @@ pub mod Elements
 pub mod Computing
 pub mod Standing
 pub mod Constructs
+pub mod Immediates

@@ -16,7 +16,7 @@ use Rattle.tpw_occam_core.specs.Arithmetic.{applied, divided, quotient_answer, s
 use Rattle.tpw_occam_core.specs.declared.expression.Operator.{Operator}
 use Rattle.tpw_occam_core.specs.declared.expression.Operator.TheVariants.{Add, Subtract, Multiply, Plus, Minus, Times, Divide, Remainder, BitAnd, BitOr, BitXor, ShiftLeft, ShiftRight, Equal, Greater}
 
-signed_high : (v : ℕ) → 2 ^ 31 ≤ v → signed v ≡ negsuc (2 ^ 32 - suc v)
+pub signed_high : (v : ℕ) → 2 ^ 31 ≤ v → signed v ≡ negsuc (2 ^ 32 - suc v)
 signed_high v h = grind (arith, nat_tests)
 
 -- a word that is read signed, and wrapped, is the same word

@@ -1,5 +1,6 @@
 -- What is known of values, and what code of expressions makes of registers.
 use Rattle.std.specs.Prelude.{◌≡◌, ℕ, ◌+◌, ◌*◌, ◌/◌, ◌<◌, ◌≤◌, ◌^◌, Bool, ◌||◌, true, false, IsTrue, List, Option, Some, None}
+use Rattle.tp_decode.specs.declared.instr.Instr.{Instr}
 use Rattle.tpw_occam_core.specs.declared.arithmetic.Answer.{Answer}
 use Rattle.tpw_occam_core.specs.declared.expression.Operator.{Operator}
 use Rattle.tpw_occam_core.specs.declared.expression.Operator.TheVariants.{Add, Plus, Multiply, Times, Minus, Equal, ShiftLeft, ShiftRight}
@@ -10,7 +11,7 @@ use Rattle.tpw_occam_core.specs.Arithmetic.{applied}
 use Rattle.tpw_occam_code.specs.declared.items.Item.TheVariants.{Array}
 use Rattle.tpw_occam_code.specs.declared.expressions.Value.{Value}
 use Rattle.tpw_occam_code.specs.Ranges.{Contains}
-use Rattle.tpw_occam_code.specs.Symbolic.{Machine, number, address, replace_pair, set_areg, raised}
+use Rattle.tpw_occam_code.specs.Symbolic.{Machine, effect, number, address, replace_pair, set_areg, raised}
 use Rattle.tpw_occam_code.specs.Code.{Lines}
 use Rattle.tpw_occam_code.specs.Leading.{Does, HasConstants, HasArray, word_bytes}
 
@@ -104,3 +105,7 @@ pub record IsAtElement (kind : Kind) (a : ℕ) (bytes : List ℕ) (i : ℕ) (m :
   pub areg : m.areg ≡ address (Array a) (scaled kind i)
   pub has : HasArray a bytes m
   pub room : length bytes ≤ m.sizes (Array a)
+
+-- an instruction makes this of a number in Areg, and leaves the other registers
+abbrev pub WorksOn : Instr → ℕ → Answer → Type 0
+WorksOn instr a made = (m : Machine) → HasNumber a m → effect instr m ≡ Some (answered_one made m)

@@ -1,11 +1,12 @@
 //! What an operator makes of registers.
 
-ghost use Rattle.std.specs.Prelude.{◌≡◌, ℕ, ◌<◌, ◌^◌, Some, IfOk, OnOk, IsTrue};
+ghost use Rattle.std.specs.Prelude.{◌≡◌, ℕ, ◌<◌, ◌^◌, Some, false, IfOk, IfSome, IfNone, OnOk, IsTrue};
 ghost use Rattle.tpw_occam_core.specs.Arithmetic.{applied};
 ghost use Rattle.tpw_occam_code.specs.Symbolic.{push, number, pair_answer};
 ghost use Rattle.tpw_occam_code.specs.Ranges.{TwinsAgree};
 ghost use Rattle.tpw_occam_code.specs.Leading.{Makes, HasConstants};
-ghost use Rattle.tpw_occam_code.specs.Values.{Holds, HasOperands, HasCount, answered, working, AreTwins};
+ghost use Rattle.tpw_occam_code.specs.Computing.{IsNoShift, has_immediate};
+ghost use Rattle.tpw_occam_code.specs.Values.{Answers, WorksOn, Holds, HasOperands, HasCount, answered, working, AreTwins};
 
 use crate::code::Code;
 use crate::expressions::Value;
@@ -115,7 +116,10 @@ pub(crate) fn apply(
 }
 
 /// The instruction that works out an operator on Areg and a constant, if there is one.
-fn immediate_instr(operator: Operator, b: Value, c: u32) -> Option<Instr> {
+fn immediate_instr(operator: Operator, b: Value, c: u32) -> Option<Instr>
+    ensures some { IfSome result (λ instr. (vb : ℕ) → Holds b vb → WorksOn instr vb (applied operator vb c)) }
+    ensures none { IfNone result (has_immediate operator c ≡ false) }
+{
     let n = immediate(operator, c)?;
     match operator {
         Operator::Equal => Some(Instr::Eqc(n)),
@@ -132,7 +136,13 @@ pub(crate) fn apply_constant(
     operator: Operator,
     b: Value,
     c: u32,
-) -> Result<Value, CodeFault> {
+) -> Result<Value, CodeFault>
+    ensures makes { OnOk result ((vb : ℕ) → Holds b vb → IsNoShift operator
+        → Answers code.old code.new 2 vb (applied operator vb c)) }
+    ensures immediate { OnOk result ((vb : ℕ) → Holds b vb → IsTrue (has_immediate operator c)
+        → Answers code.old code.new 1 vb (applied operator vb c)) }
+    ensures holds { IfOk result (λ made. (vb : ℕ) → Holds b vb → Holds made (applied operator vb c).word) }
+{
     match immediate_instr(operator, b, c) {
         Some(instr) => {
             code.instr(line, instr)?;

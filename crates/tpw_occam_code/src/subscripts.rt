@@ -3,14 +3,14 @@
 //! A check is left out where the text shows that it holds. A mask is left out where the verifier knows the range of
 //! the register.
 
-ghost use Rattle.std.specs.Prelude.{◌≡◌, ◌<◌, ◌≤◌, ◌^◌, ◌%◌, ℕ, List, length, slice_index, pos, None, IsTrue, OnOk, IfOk, IfSome, bit_and, nat_le};
+ghost use Rattle.std.specs.Prelude.{◌≡◌, ◌<◌, ◌≤◌, ◌^◌, ◌%◌, ℕ, List, length, slice_index, pos, Some, None, IsTrue, OnOk, IfOk, IfSome, IfNone, bit_and, nat_le};
 ghost use Rattle.tpw_occam_core.specs.Arithmetic.{answer, plain, subscript};
 ghost use Rattle.tpw_occam_code.specs.Ranges.{from_to, Contains, ContainsAllOf};
 ghost use Rattle.tpw_occam_core.specs.Arrays.{size, element};
 ghost use Rattle.tpw_occam_core.specs.declared.kind.Kind.TheVariants.{Byte};
 ghost use Rattle.tpw_occam_code.specs.Leading.{Does, HasArray, HasWord};
 ghost use Rattle.tpw_occam_code.specs.declared.items.Item.TheVariants.{Variable};
-ghost use Rattle.tpw_occam_code.specs.Agreement.{fact_at};
+ghost use Rattle.tpw_occam_code.specs.Agreement.{fact_at, constant_in};
 ghost use Rattle.tpw_occam_code.specs.Computing.{ComputesTo, IsKnownOf, IsConstantBelow, IsByteVariable, subscript_value};
 ghost use Rattle.tpw_occam_code.specs.Values.{Answers, Holds, HasNumber, HasAddress, Replaces, PushesAlone, IsAtElement, scaled};
 
@@ -296,6 +296,17 @@ pub(crate) fn indexed_element(
 }
 
 impl Emitter<'_> {
+    /// The value of an expression that is one constant, below a size.
+    fn constant_below(&self, e: &Expression, size: u32) -> Option<u32>
+        ensures some { IfSome result (λ c. (constant_in self.now e.now ≡ Some c) × (c < size)) }
+        ensures none { IfNone result (IsConstantBelow self.now e.now size → ⊥) }
+    {
+        match self.constant_of(e) {
+            Some(c) if c < size => Some(c),
+            _ => None,
+        }
+    }
+
     /// The variable that a subscript of so many elements is, where it is better read as a byte.
     fn byte_variable(&self, e: &Expression, size: u32) -> Option<usize>
         ensures { IfSome result (λ x. IsByteVariable self.now e.now x) }
@@ -329,7 +340,7 @@ impl Emitter<'_> {
         ensures known { IfOk result (λ value. 0 < size → size ≤ 2 ^ 31
             → IsKnownOf self.old e.now (subscript_value e.now size) value) }
     {
-        if let Some(c) = self.constant_of(e).filter(|c| *c < size) {
+        if let Some(c) = self.constant_below(e, size) {
             return number(code, room.line, c);
         }
         if let Some(x) = self.byte_variable(e, size) {
