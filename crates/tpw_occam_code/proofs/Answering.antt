@@ -65,17 +65,17 @@ answers_above old between new a c made pushes works arrays =
     (works arrays)
     (λ m middle said at. (ap (λ x. x.breg) at ∙ said.1, ap (λ x. x.areg) at))
     (λ m middle end said at at2.
-        let both : end ≡ at_place (place_behind new) (answered made (push (number c) m)) = at2 ∙ ap (λ x. at_place (place_behind new) (answered made x)) at in
-        record {
-          areg = ap (λ x. x.areg) both;
-          breg = λ h. ap (λ x. x.breg) both;
-          creg = λ h. absurd (omega arith);
-          error = ap (λ x. x.error) both;
-          blocks = ap (λ x. x.blocks) both;
-          to_come = ap (λ x. x.to_come) both;
-          sent = ap (λ x. x.sent) both;
-          traced = ap (λ x. x.traced) both;
-        })
+    let both : end ≡ at_place (place_behind new) (answered made (push (number c) m)) = at2 ∙ ap (λ x. at_place (place_behind new) (answered made x)) at in
+    record {
+      areg = ap (λ x. x.areg) both;
+      breg = λ h. ap (λ x. x.breg) both;
+      creg = λ h. absurd (omega arith);
+      error = ap (λ x. x.error) both;
+      blocks = ap (λ x. x.blocks) both;
+      to_come = ap (λ x. x.to_come) both;
+      sent = ap (λ x. x.sent) both;
+      traced = ap (λ x. x.traced) both;
+    })
 
 -- .. an instruction that works on both
 pub answers_constant : (old between new : Lines) (source : ℕ) (instr : Instr) (a c : ℕ) (made : Answer)
@@ -101,15 +101,15 @@ answers_check old between new source a size pushes is arrays =
     (λ m said served. rw said.1 (rw said.0 refl)) (λ m. refl) (λ m. refl) (λ m. refl))
     (λ m middle said at. (ap (λ x. x.breg) at ∙ said.1, ap (λ x. x.areg) at))
     (λ m middle end said at at2.
-        let both : end ≡ at_place (place_behind new) (pop (raised (nat_le size a) (push (number size) m))) =
-            at2 ∙ ap (λ x. at_place (place_behind new) (pop (raised (nat_le size a) x))) at in
-        record {
-          areg = ap (λ x. x.areg) both ∙ said.1;
-          breg = λ h. ap (λ x. x.breg) both;
-          creg = λ h. absurd (omega arith);
-          error = ap (λ x. x.error) both;
-          blocks = ap (λ x. x.blocks) both;
-          to_come = ap (λ x. x.to_come) both;
-          sent = ap (λ x. x.sent) both;
-          traced = ap (λ x. x.traced) both;
-        })
+    let both : end ≡ at_place (place_behind new) (pop (raised (nat_le size a) (push (number size) m))) =
+    at2 ∙ ap (λ x. at_place (place_behind new) (pop (raised (nat_le size a) x))) at in
+    record {
+      areg = ap (λ x. x.areg) both ∙ said.1;
+      breg = λ h. ap (λ x. x.breg) both;
+      creg = λ h. absurd (omega arith);
+      error = ap (λ x. x.error) both;
+      blocks = ap (λ x. x.blocks) both;
+      to_come = ap (λ x. x.to_come) both;
+      sent = ap (λ x. x.sent) both;
+      traced = ap (λ x. x.traced) both;
+    })

@@ -65,35 +65,39 @@ leaves_then scope kept m middle end one two = record {
 
 pub alone_pushes : (registers kept : ℕ) (scope : List Entry) (made : Answer) (m end : Machine) → 1 ≤ registers → PushesAlone made m end
     → Pushes registers made m end × LeavesItems scope kept m end
-alone_pushes registers kept scope made m end least alone =
-    (record {
-      areg = alone.pushed.areg;
-      breg = λ h. alone.pushed.breg (omega arith);
-      creg = λ h. alone.pushed.creg (omega arith);
-      error = alone.pushed.error;
-    }, record {
-      blocks = λ i at stays. ap (λ b. b i at) alone.blocks;
-      to_come = alone.to_come;
-      sent = alone.sent;
-      traced = alone.traced;
-    })
+alone_pushes registers kept scope made m end least alone = (
+  record {
+    areg = alone.pushed.areg;
+    breg = λ h. alone.pushed.breg (omega arith);
+    creg = λ h. alone.pushed.creg (omega arith);
+    error = alone.pushed.error;
+  },
+  record {
+    blocks = λ i at stays. ap (λ b. b i at) alone.blocks;
+    to_come = alone.to_come;
+    sent = alone.sent;
+    traced = alone.traced;
+  },
+)
 
 -- a value that takes the place of one that was pushed
 pub replaces_pushed : (registers kept : ℕ) (scope : List Entry) (one two : Answer) (m middle end : Machine)
     → Pushes registers one m middle × LeavesItems scope kept m middle → Replaces registers two middle end
     → Pushes registers (answer two.word (one.flag || two.flag)) m end × LeavesItems scope kept m end
-replaces_pushed registers kept scope one two m middle end a b =
-    (record {
-      areg = b.areg;
-      breg = λ h. b.breg h ∙ a.0.breg h;
-      creg = λ h. b.creg h ∙ a.0.creg h;
-      error = b.error ∙ ap (λ e. e || two.flag) a.0.error ∙ or_assoc m.error one.flag two.flag;
-    }, record {
-      blocks = λ i at stays. ap (λ x. x i at) b.blocks ∙ a.1.blocks i at stays;
-      to_come = b.to_come ∙ a.1.to_come;
-      sent = b.sent ∙ a.1.sent;
-      traced = b.traced ∙ a.1.traced;
-    })
+replaces_pushed registers kept scope one two m middle end a b = (
+  record {
+    areg = b.areg;
+    breg = λ h. b.breg h ∙ a.0.breg h;
+    creg = λ h. b.creg h ∙ a.0.creg h;
+    error = b.error ∙ ap (λ e. e || two.flag) a.0.error ∙ or_assoc m.error one.flag two.flag;
+  },
+  record {
+    blocks = λ i at stays. ap (λ x. x i at) b.blocks ∙ a.1.blocks i at stays;
+    to_come = b.to_come ∙ a.1.to_come;
+    sent = b.sent ∙ a.1.sent;
+    traced = b.traced ∙ a.1.traced;
+  },
+)
 
 -- fewer registers are used than may be
 pub replaces_more : (few many : ℕ) (made : Answer) (m end : Machine) → few ≤ many → Replaces few made m end → Replaces many made m end
@@ -119,7 +123,7 @@ does_replace k scope unset s old between new registers few kept one two h first 
     does_both k.arrays old between new _ _ _ _ _ first (second k.arrays)
     (λ m middle agrees after. ((agrees_after k scope unset kept s m middle agrees after.1).constants, after.0.areg))
     (λ m middle end agrees after after2.
-        replaces_pushed registers kept scope one two m middle end after (replaces_more few registers two middle end h after2))
+    replaces_pushed registers kept scope one two m middle end after (replaces_more few registers two middle end h after2))
 
 -- ---- words of variables
 

@@ -61,8 +61,8 @@ computes_then k old between new outer inner f next registers few kept first seco
     does_both k.arrays old between new _ _ _ _ _ (first storages scope unset s place parts.0 parts.1 knows) parts.2.does
     (λ m middle agrees after. (agrees_after k scope unset kept s m middle agrees after.1, after.0.areg))
     (λ m middle end agrees after after2.
-        replaces_pushed registers kept scope (f s) (next (f s).word) m middle end after
-        (replaces_more few registers (next (f s).word) middle end parts.2.enough after2))
+    replaces_pushed registers kept scope (f s) (next (f s).word) m middle end after
+    (replaces_more few registers (next (f s).word) middle end parts.2.enough after2))
 
 -- ---- a constant
 
@@ -81,11 +81,13 @@ pub checked_computes : (k : Knowledge) (old between new : Lines) (below : ℕ) (
 checked_computes k old between new below p e value registers kept computes known makes =
     computes_then k old between new (Checked' below p e) e (value_of e) (subscript below) registers 2 kept computes
     (λ storages scope unset s place stands suffices knows.
-        let parts = stand_checked k storages scope unset below p e stands in
-        let two = two_registers k registers (Checked' below p e) refl suffices in
-        (parts.2, suffices_two k registers e two suffices.most,
-        goes_by k scope unset s between new registers 2 (value_of e s) (subscript below (value_of e s).word) two
-        (makes (value_of e s).word (known storages scope unset s place parts.2 knows) parts.0 parts.1)))
+    let parts = stand_checked k storages scope unset below p e stands in
+    let two = two_registers k registers (Checked' below p e) refl suffices in (
+      parts.2,
+      suffices_two k registers e two suffices.most,
+      goes_by k scope unset s between new registers 2 (value_of e s) (subscript below (value_of e s).word) two
+          (makes (value_of e s).word (known storages scope unset s place parts.2 knows) parts.0 parts.1),
+    ))
 
 pub checked_known : (k : Knowledge) (below : ℕ) (p : Place) (e : Expression) (value made : Value) → IsKnown k e value
     → ((i : ℕ) → Holds value i → 0 < below → below ≤ 2 ^ 31 → Holds made (subscript below i).word)
@@ -110,13 +112,15 @@ pub low_byte_computes : (k : Knowledge) (old between new : Lines) (p : Place) (e
 low_byte_computes k old between new p e value registers kept computes known makes =
     computes_then k old between new (LowByte' p e) e (value_of e) low_byte registers 2 kept computes
     (λ storages scope unset s place stands suffices knows.
-        let two = two_registers k registers (LowByte' p e) refl suffices in
-        let word = (value_of e s).word in
-        let part = stand_low_byte k storages scope unset p e stands in
-        (part, suffices_two k registers e two suffices.most,
-        goes_by k scope unset s between new registers 2 (value_of e s) (low_byte word) two
-        (subst (λ made. Answers between new 2 word made) (sym (low_byte_is word))
-        (makes word (known storages scope unset s place part knows) (omega arith) (omega arith)))))
+    let two = two_registers k registers (LowByte' p e) refl suffices in
+    let word = (value_of e s).word in
+    let part = stand_low_byte k storages scope unset p e stands in (
+      part,
+      suffices_two k registers e two suffices.most,
+      goes_by k scope unset s between new registers 2 (value_of e s) (low_byte word) two
+          (subst (λ made. Answers between new 2 word made) (sym (low_byte_is word))
+          (makes word (known storages scope unset s place part knows) (omega arith) (omega arith))),
+    ))
 
 pub low_byte_known : (k : Knowledge) (p : Place) (e : Expression) (value made : Value) → IsKnown k e value
     → ((i : ℕ) → Holds value i → 0 < 256 → 256 ≤ 2 ^ 31 → Holds made (subscript 256 i).word)
@@ -145,10 +149,12 @@ pub complement_computes : (k : Knowledge) (old between new : Lines) (source : �
     → Computes k old new (Complement' p e) registers kept
 complement_computes k old between new source p e registers kept computes is =
     computes_then k old between new (Complement' p e) e (value_of e) (λ a. plain (complement a)) registers 1 kept computes
-    (λ storages scope unset s place stands suffices knows.
-        (stand_complement k storages scope unset p e stands, suffices_part k registers (Complement' p e) e (λ simple. simple) suffices,
-        goes_by k scope unset s between new registers 1 (value_of e s) (plain (complement (value_of e s).word)) suffices.least
-        (answers_not between new source (value_of e s).word is)))
+    (λ storages scope unset s place stands suffices knows. (
+      stand_complement k storages scope unset p e stands,
+      suffices_part k registers (Complement' p e) e (λ simple. simple) suffices,
+      goes_by k scope unset s between new registers 1 (value_of e s) (plain (complement (value_of e s).word)) suffices.least
+          (answers_not between new source (value_of e s).word is),
+    ))
 
 pub complement_known : (k : Knowledge) (p : Place) (e : Expression) (value made : Value) → IsKnown k e value
     → ((word : ℕ) → word < 2 ^ 32 → Contains value.source word → Contains made.source (complement word))
@@ -239,17 +245,17 @@ element_computes k old between new a view p e elements registers kept counted co
     let one = subscript_value e elements s in
     let below : one.word < size view bytes = subst (λ n. one.word < n) sized (subscript_word_below elements (value_of e s).word least) in
     let pushed = computes least small (λ one. absurd (omega (arith, two, one))) storages scope unset s place parts.1
-        (suffices_two k registers e two suffices.most) knows in
+    (suffices_two k registers e two suffices.most) knows in
     let made : answer (element view bytes one.word) (one.flag || false) ≡ value_of (Element' a view p e) s =
-        ap (answer (element view bytes one.word)) (or-false one.flag)
-        ∙ ap (λ n. answer (element view bytes (subscript n (value_of e s).word).word) ((value_of e s).flag || (subscript n (value_of e s).word).flag)) sized in
+    ap (answer (element view bytes one.word)) (or-false one.flag)
+    ∙ ap (λ n. answer (element view bytes (subscript n (value_of e s).word).word) ((value_of e s).flag || (subscript n (value_of e s).word).flag)) sized in
     does_less k.arrays old new _ _ _ _
     (does_both k.arrays old between new _ _ _ _ _ pushed
     (does_less k.arrays between new _ _ (λ m. Agrees k scope unset s m × HasNumber one.word m) _
     (makes k.arrays bytes one.word (knows.lengths a there) below) (λ m said. (said.1, said.0.arrays a there)) (λ m end said after. after))
     (λ m middle agrees after. (agrees_after k scope unset kept s m middle agrees after.1, after.0.areg))
     (λ m middle end agrees after after2.
-        replaces_pushed registers kept scope one (plain (element view bytes one.word)) m middle end after (replaces_more 2 registers _ middle end two after2)))
+    replaces_pushed registers kept scope one (plain (element view bytes one.word)) m middle end after (replaces_more 2 registers _ middle end two after2)))
     (λ m said. said)
     (λ m end said after. subst (λ x. Pushes registers x m end × LeavesItems scope kept m end) made after)
 
@@ -272,8 +278,8 @@ fixed_computes k old new a view p e c registers kept is below whole makes storag
     let value : value_of e s ≡ plain c = constant_value k storages scope unset s e c parts.1 knows is in
     let within : c < size view bytes = subst (λ n. c < n) (size_is view bytes _ (knows.lengths a there)) below in
     let made : plain (element view bytes c) ≡ value_of (Element' a view p e) s =
-        ap (λ x. answer (element view bytes x.word) x.flag) (sym (subscript_below (size view bytes) c within))
-        ∙ ap (λ v. answer (element view bytes (subscript (size view bytes) v.word).word) (v.flag || (subscript (size view bytes) v.word).flag)) (sym value) in
+    ap (λ x. answer (element view bytes x.word) x.flag) (sym (subscript_below (size view bytes) c within))
+    ∙ ap (λ v. answer (element view bytes (subscript (size view bytes) v.word).word) (v.flag || (subscript (size view bytes) v.word).flag)) (sym value) in
     does_less k.arrays old new _ _ _ _ (makes k.arrays bytes (knows.lengths a there) within whole)
     (λ m agrees. agrees.arrays a there)
     (λ m end said after. subst (λ x. Pushes registers x m end × LeavesItems scope kept m end) made

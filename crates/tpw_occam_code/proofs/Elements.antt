@@ -117,7 +117,7 @@ has_address : (kind : Kind) (arrays : List ℕ) (a i p q : ℕ) (m middle end : 
     → HasAddress arrays a (scaled kind i) m end
 has_address kind arrays a i p q m middle end one two served =
     let both : end ≡ at_place q (replace_pair (address (Array a) (scaled kind i)) (push (address (Array a) 0) m)) =
-        two ∙ ap (λ x. at_place q (replace_pair (address (Array a) (scaled kind i)) x)) one in
+    two ∙ ap (λ x. at_place q (replace_pair (address (Array a) (scaled kind i)) x)) one in
     record {
       areg = ap (λ x. x.areg) both;
       breg = ap (λ x. x.breg) both;
@@ -144,7 +144,7 @@ does_index Word arrays old between new source a i one two =
     (λ m said served. rw said.0 (rw said.1 (ap (λ n. Some (replace_pair (address (Array a) n) (at_place (m.place + 1) m))) (omega arith)))) (λ m. refl) (λ m. refl) (λ m. refl))
     (λ m middle said after. (ap (λ x. x.areg) after.0, ap (λ x. x.breg) after.0 ∙ said))
     (λ m middle end said after after2.
-        has_address Word arrays a i (place_behind between) (place_behind new) m middle end after.0 after2 after.1)
+    has_address Word arrays a i (place_behind between) (place_behind new) m middle end after.0 after2 after.1)
 does_index Byte arrays old between new source a i one two =
     does_both arrays old between new _ _ _ _ _
     (does_served arrays old between source (Pointer (Array a) 0) (HasNumber i) (push (address (Array a) 0)) one
@@ -154,7 +154,7 @@ does_index Byte arrays old between new source a i one two =
     (λ m said served. rw said.0 (rw said.1 (ap (λ n. Some (replace_pair (address (Array a) n) (at_place (m.place + 1) m))) (omega arith)))) (λ m. refl) (λ m. refl) (λ m. refl))
     (λ m middle said after. (ap (λ x. x.areg) after.0, ap (λ x. x.breg) after.0 ∙ said))
     (λ m middle end said after after2.
-        has_address Byte arrays a i (place_behind between) (place_behind new) m middle end after.0 after2 after.1)
+    has_address Byte arrays a i (place_behind between) (place_behind new) m middle end after.0 after2 after.1)
 
 -- ---- elements
 
@@ -245,9 +245,12 @@ does_push_variable arrays old between new source x word one two h =
     (λ m. (m.areg ≡ address (Variable x) 0) × (m.blocks (Variable x) 0 ≡ word) × (4 ≤ m.sizes (Variable x)))
     (set_areg (number word)) two
     (λ m said served. let fits : 0 + 1 ≤ m.sizes (Variable x) = omega (arith, said.2) in
-        rw said.0 (rw (le-leb _ _ fits) (ap (λ w. Some (set_areg (number w) (at_place (m.place + 1) m))) said.1)))
+    rw said.0 (rw (le-leb _ _ fits) (ap (λ w. Some (set_areg (number w) (at_place (m.place + 1) m))) said.1)))
     (λ m. refl) (λ m. refl) (λ m. refl))
-    (λ m middle said after. (ap (λ e. e.areg) after.0, ap (λ e. e.blocks (Variable x) 0) after.0 ∙ first_byte m (Variable x) word h said,
-        subst (λ n. 4 ≤ n) (sym (ap (λ e. e.sizes (Variable x)) after.0)) after.1))
+    (λ m middle said after. (
+      ap (λ e. e.areg) after.0,
+      ap (λ e. e.blocks (Variable x) 0) after.0 ∙ first_byte m (Variable x) word h said,
+      subst (λ n. 4 ≤ n) (sym (ap (λ e. e.sizes (Variable x)) after.0)) after.1,
+    ))
     (λ m middle end said after after2.
-        pushes_alone word (place_behind new) m end (after2 ∙ ap (λ e. at_place (place_behind new) (set_areg (number word) e)) after.0))
+    pushes_alone word (place_behind new) m end (after2 ∙ ap (λ e. at_place (place_behind new) (set_areg (number word) e)) after.0))

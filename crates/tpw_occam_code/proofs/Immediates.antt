@@ -32,7 +32,6 @@ HasTwin Plus b c = applied Add b c ≡ applied Plus b c
 HasTwin Minus b c = applied Subtract b c ≡ applied Minus b c
 HasTwin operator b c = Unit {0}
 
-
 -- the operand of an instruction
 pub record Operand (operator : Operator) (c : ℕ) (n : ℤ) : Type 0 where
   pub operand : ℕ
@@ -48,6 +47,7 @@ operand_found operator c n e = by_operand (operand_of operator c) refl e
     by_tests w true false is same e = record { operand = w; is = is; not_least = same; reads = sym (same_Some _ _ e) }
     by_tests w true true is same e = cc
     by_tests w false least is same e = cc
+
     by_operand : (o : Option ℕ) → operand_of operator c ≡ o
         → option_map signed (option_and_then (λ operand. if is_short operand && not (operand == 2 ^ 31) then Some operand else None) o) ≡ Some n → Operand operator c n
     by_operand None is e = cc
@@ -80,6 +80,7 @@ negated c h not_least b = by_size (cases_lt 0 c) (cases_lt c (2 ^ 31))
   where
     least : (2 ^ 32 - c) % 2 ^ 32 ≡ 2 ^ 31 → ⊥
     least e = eqb-false _ _ not_least e
+
     by_size : (0 < c) ⊎ (c ≤ 0) → (c < 2 ^ 31) ⊎ (2 ^ 31 ≤ c) → b +ℤ signed ((2 ^ 32 - c) % 2 ^ 32) ≡ b -ℤ signed c
     by_size (inr none) sign =
         let is : c ≡ 0 = omega arith in
@@ -130,7 +131,7 @@ difference_works n b c operand hc same not_least reads =
     let small : operand < 2 ^ 32 = subst (λ w. w < 2 ^ 32) same (omega arith) in
     let reading : cast_signed w32 (cast_unsigned w32 n) ≡ signed ((2 ^ 32 - c) % 2 ^ 32) = operand_reads n operand small reads ∙ ap signed (sym same) in
     let less : signed b +ℤ cast_signed w32 (cast_unsigned w32 n) ≡ signed b -ℤ signed c =
-        ap (λ x. signed b +ℤ x) reading ∙ negated c hc (subst (λ w. nat_eq w (2 ^ 31) ≡ false) (sym same) not_least) (signed b) in
+    ap (λ x. signed b +ℤ x) reading ∙ negated c hc (subst (λ w. nat_eq w (2 ^ 31) ≡ false) (sym same) not_least) (signed b) in
     subst (λ x. WorksOn (Adc (cast_signed w32 (cast_unsigned w32 n))) b (checked x)) less
     (adc_works (cast_signed w32 (cast_unsigned w32 n)) b)
 

@@ -62,8 +62,10 @@ remainder_answer i size h positive small =
         let less : i % suc d < suc d = mod-lt i (omega arith) in
         let low : (i % suc d) % 2 ^ 32 ≡ i % suc d = omega (arith, less) in
         rw (int_eq_false (pos (suc d)) (pos 0) (positive_differs d)) (rw (int_eq_false (pos i) (negsuc (2 ^ 31 - 1)) (unlike i _)) (ap plain low))
+
     by_least : divided int_rem (pos i) (negsuc (2 ^ 31 - 1)) ≡ plain (i % 2 ^ 31)
     by_least = rw (int_eq_false (pos i) (negsuc (2 ^ 31 - 1)) (unlike i _)) (ap plain (omega arith))
+
     by_size : (size < 2 ^ 31) ⊎ (2 ^ 31 ≤ size) → divided int_rem (pos i) (signed size) ≡ plain (i % size)
     by_size (inl less) = ap (λ z. divided int_rem (pos i) z) (to_z_pos w32 size less) ∙ by_number size positive less
     by_size (inr least) = let is : size ≡ 2 ^ 31 = omega arith in

@@ -73,10 +73,10 @@ does_served w old new source made Before f is performs code_stays sizes_stay sto
       let line = line_of source made in
       let last : length old.lines < length new.lines = omega (arith, ap (λ l. length l.lines) is, length-append old.lines (line ∷ [])) in
       let at : slice_get m.code m.place ≡ Some line =
-          ap (slice_get m.code) (before.place ∙ ap (λ l. l.base + length old.lines) (sym is)) ∙ before.lines (length old.lines) last
-          ∙ ap (λ l. slice_get l.lines (length old.lines)) is ∙ get_last old.lines line in
+      ap (slice_get m.code) (before.place ∙ ap (λ l. l.base + length old.lines) (sym is)) ∙ before.lines (length old.lines) last
+      ∙ ap (λ l. slice_get l.lines (length old.lines)) is ∙ get_last old.lines line in
       let next : m.place + 1 ≡ place_behind new =
-          omega (arith, before.place, ap (λ l. l.base) is, ap (λ l. length l.lines) is, length-append old.lines (line ∷ [])) in
+      omega (arith, before.place, ap (λ l. l.base) is, ap (λ l. length l.lines) is, length-append old.lines (line ∷ [])) in
       record {
         end = at_place (m.place + 1) (f m);
         way = onward m (at_place (m.place + 1) (f m)) (at_place (m.place + 1) (f m))

@@ -8,3 +8,4 @@ pub mod Computing
 pub mod Standing
 pub mod Constructs
 pub mod Immediates
+pub mod Ranges

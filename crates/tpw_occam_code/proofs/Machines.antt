@@ -50,7 +50,7 @@ unfolding performed
 makes_pair old new source instr b a made is e w =
     does_step w old new source (Plain instr) (HasOperands b a) (answered made) is
     (λ m operands served.
-        effect_pair instr (at_place (m.place + 1) m) b a made e ∙ pair_made instr (at_place (m.place + 1) m) b a made e operands)
+    effect_pair instr (at_place (m.place + 1) m) b a made e ∙ pair_made instr (at_place (m.place + 1) m) b a made e operands)
     (λ m. refl) (λ m. refl) (λ m. refl)
 
 -- whether Areg is a number

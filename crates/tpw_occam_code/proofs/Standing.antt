@@ -35,9 +35,11 @@ Place = Box (Unit {0}) Global
 module _ (k : Knowledge) (storages : List Storage) (scope : List Entry) (unset : ℕ → Bool) where
   pub stand_checked : (below : ℕ) (p : Place) (e : Expression) → MayStand k storages scope unset (Checked' below p e)
       → (0 < below) × (below ≤ 2 ^ 31) × MayStand k storages scope unset e
-  stand_checked below p e stands =
-      (ltb-true 0 below (and_first _ _ (and_first _ _ stands.sound)), leb-true below (2 ^ 31) (and_second _ _ (and_first _ _ stands.sound)),
-      record { sound = and_second _ _ stands.sound; assigned = stands.assigned })
+  stand_checked below p e stands = (
+    ltb-true 0 below (and_first _ _ (and_first _ _ stands.sound)),
+    leb-true below (2 ^ 31) (and_second _ _ (and_first _ _ stands.sound)),
+    record { sound = and_second _ _ stands.sound; assigned = stands.assigned },
+  )
 
   pub stand_element : (a : ℕ) (kind : Kind) (p : Place) (e : Expression) → MayStand k storages scope unset (Element' a kind p e)
       → IsTrue (is_seen storages scope a kind) × MayStand k storages scope unset e
@@ -47,23 +49,26 @@ module _ (k : Knowledge) (storages : List Storage) (scope : List Entry) (unset :
   pub stand_binary : (operator : Operator) (p : Place) (e : Expression) (q : Place) (f : Expression)
       → MayStand k storages scope unset (Binary' operator p e q f)
       → MayStand k storages scope unset e × MayStand k storages scope unset f
-  stand_binary operator p e q f stands =
-      (record { sound = and_first _ _ stands.sound; assigned = λ x h. or_first _ _ (stands.assigned x h) },
-      record { sound = and_second _ _ stands.sound; assigned = λ x h. or_second (reads e x) _ (stands.assigned x h) })
+  stand_binary operator p e q f stands = (
+    record { sound = and_first _ _ stands.sound; assigned = λ x h. or_first _ _ (stands.assigned x h) },
+    record { sound = and_second _ _ stands.sound; assigned = λ x h. or_second (reads e x) _ (stands.assigned x h) },
+  )
 
   pub stand_and : (p : Place) (e : Expression) (q : Place) (f : Expression)
       → MayStand k storages scope unset (And' p e q f)
       → MayStand k storages scope unset e × MayStand k storages scope unset f
-  stand_and p e q f stands =
-      (record { sound = and_first _ _ stands.sound; assigned = λ x h. or_first _ _ (stands.assigned x h) },
-      record { sound = and_second _ _ stands.sound; assigned = λ x h. or_second (reads e x) _ (stands.assigned x h) })
+  stand_and p e q f stands = (
+    record { sound = and_first _ _ stands.sound; assigned = λ x h. or_first _ _ (stands.assigned x h) },
+    record { sound = and_second _ _ stands.sound; assigned = λ x h. or_second (reads e x) _ (stands.assigned x h) },
+  )
 
   pub stand_or : (p : Place) (e : Expression) (q : Place) (f : Expression)
       → MayStand k storages scope unset (Or' p e q f)
       → MayStand k storages scope unset e × MayStand k storages scope unset f
-  stand_or p e q f stands =
-      (record { sound = and_first _ _ stands.sound; assigned = λ x h. or_first _ _ (stands.assigned x h) },
-      record { sound = and_second _ _ stands.sound; assigned = λ x h. or_second (reads e x) _ (stands.assigned x h) })
+  stand_or p e q f stands = (
+    record { sound = and_first _ _ stands.sound; assigned = λ x h. or_first _ _ (stands.assigned x h) },
+    record { sound = and_second _ _ stands.sound; assigned = λ x h. or_second (reads e x) _ (stands.assigned x h) },
+  )
 
   pub stand_complement : (p : Place) (e : Expression) → MayStand k storages scope unset (Complement' p e) → MayStand k storages scope unset e
   stand_complement p e stands = record { sound = stands.sound; assigned = stands.assigned }

@@ -1,5 +1,6 @@
 -- Ranges: which words they contain, and what operators make of two words that they contain.
-use Rattle.std.specs.Prelude.{◌≡◌, ℕ, ◌<◌, ◌^◌, false, ℤ, ◌+ℤ◌, ◌-ℤ◌, ◌*ℤ◌, ◌≤ℤ◌}
+use Rattle.std.specs.Prelude.{◌≡◌, ℕ, ◌<◌, ◌^◌, false, ◌||◌, if◌then◌else◌, ℤ, ◌+ℤ◌, ◌-ℤ◌, ◌*ℤ◌, ◌≤ℤ◌}
+use Rattle.std.specs.Int.{int_min, int_max}
 use Rattle.tp_decode.specs.Words.{signed}
 use Rattle.tp_step.specs.Numbers.{least_integer, greatest_integer, overflows}
 use Rattle.tpw_occam_core.specs.Arithmetic.{applied}
@@ -14,6 +15,14 @@ from_to low high = record { low = low; high = high }
 -- every number
 abbrev pub full : Range
 full = from_to least_integer greatest_integer
+
+-- the range of whole numbers, and every number where an end is none of a word's
+unfoldable pub between : ℤ → ℤ → Range
+between low high = if overflows low || overflows high then full else from_to low high
+
+-- the least range that has four whole numbers, and every number where one of them is none of a word's
+unfoldable pub hull : ℤ → ℤ → ℤ → ℤ → Range
+hull a b c d = between (int_min (int_min a b) (int_min c d)) (int_max (int_max a b) (int_max c d))
 
 -- a word whose signed value lies in a range
 pub record Contains (r : Range) (word : ℕ) : Type 0 where

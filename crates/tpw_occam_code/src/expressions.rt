@@ -169,12 +169,7 @@ impl Emitter<'_> {
 
     /// Pushes whether an expression is FALSE. Of `x > c` that is `c + 1 > x`, and of `c > x` it is `x > c - 1`.
     #[cycle(expression)]
-    fn inverted(
-        &mut self,
-        code: &mut Code,
-        e: &Expression,
-        room: Room,
-    ) -> Result<Value, CodeFault>
+    fn inverted(&mut self, code: &mut Code, e: &Expression, room: Room) -> Result<Value, CodeFault>
         ensures knowledge { OnOk result (self.new ≡ self.old) }
         ensures computes { OnOk result (ComputesTo self.old code.old code.new e.now (inverse_of e.now) room.registers room.kept) }
         ensures known { IfOk result (λ value. IsKnownOf self.old e.now (inverse_of e.now) value) }

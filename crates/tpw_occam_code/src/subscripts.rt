@@ -130,12 +130,7 @@ pub(crate) fn kept_byte(code: &mut Code, line: u32, value: Value) -> Result<(), 
 }
 
 /// Makes Areg, a subscript, the address of an array's element.
-pub(crate) fn indexed(
-    code: &mut Code,
-    line: u32,
-    array: usize,
-    kind: Kind,
-) -> Result<(), CodeFault>
+pub(crate) fn indexed(code: &mut Code, line: u32, array: usize, kind: Kind) -> Result<(), CodeFault>
     ensures { OnOk result ((arrays : List ℕ) (i : ℕ) → Does arrays code.old code.new (HasNumber i)
         (HasAddress arrays array (scaled kind i))) }
 {
@@ -228,13 +223,7 @@ fn element_value(kind: Kind) -> Value
 }
 
 /// Pushes an element with a constant subscript.
-fn push_fixed(
-    code: &mut Code,
-    line: u32,
-    array: usize,
-    kind: Kind,
-    c: u32,
-) -> Result<(), CodeFault>
+fn push_fixed(code: &mut Code, line: u32, array: usize, kind: Kind, c: u32) -> Result<(), CodeFault>
     ensures { OnOk result ((arrays : List ℕ) (bytes : List ℕ) → length bytes ≡ slice_index arrays array
         → c < size kind bytes → (kind ≡ Byte → c % 4 ≡ 0) → Does arrays code.old code.new (HasArray array bytes)
         (PushesAlone (plain (element kind bytes c)))) }

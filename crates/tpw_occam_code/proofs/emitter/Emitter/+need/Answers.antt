@@ -24,11 +24,11 @@ pub need-returns-then-is_swapped-clause-simple : goal.need-returns-then-is_swapp
 need-returns-then-is_swapped-clause-simple t c h =
     let b = c.in-Binary in
     let swapped : is_swapped c.args.self.now b.operator b.left.value b.right.value ≡ true =
-        ap (λ l. is_swapped c.args.self.now b.operator l b.right.value) (sym c.deref-in-Binary.ensures)
-        ∙ ap (λ r. is_swapped c.args.self.now b.operator c.deref-in-Binary.result.now r) (sym c.deref-in-Binary-2.ensures)
-        ∙ sym c.if-is_swapped.ensures in
+    ap (λ l. is_swapped c.args.self.now b.operator l b.right.value) (sym c.deref-in-Binary.ensures)
+    ∙ ap (λ r. is_swapped c.args.self.now b.operator c.deref-in-Binary.result.now r) (sym c.deref-in-Binary-2.ensures)
+    ∙ sym c.if-is_swapped.ensures in
     let simple : (is_immediate c.args.self.now b.operator b.left.value && is_simple c.args.self.now b.right.value) ≡ true =
-        ap (λ l. is_immediate c.args.self.now b.operator l && is_simple c.args.self.now b.right.value) (sym c.deref-then-is_swapped-2.ensures)
-        ∙ ap (λ r. is_immediate c.args.self.now b.operator c.deref-then-is_swapped-2.result.now && is_simple c.args.self.now r) (sym c.deref-then-is_swapped.ensures)
-        ∙ c.need_of_operands.ensures.simple h in
+    ap (λ l. is_immediate c.args.self.now b.operator l && is_simple c.args.self.now b.right.value) (sym c.deref-then-is_swapped-2.ensures)
+    ∙ ap (λ r. is_immediate c.args.self.now b.operator c.deref-then-is_swapped-2.result.now && is_simple c.args.self.now r) (sym c.deref-then-is_swapped.ensures)
+    ∙ c.need_of_operands.ensures.simple h in
     rw b.is (swapped_simple c.args.self.now b.operator b.left.value b.right.value _ (swapped_commutes c.args.self.now b.operator b.left.value b.right.value swapped) simple)
