@@ -24,14 +24,15 @@ use Rattle.tpw_occam_code.specs.declared.code.Step.TheVariants.{Plain}
 use Rattle.tpw_occam_code.specs.declared.expressions.Value.{Value}
 use Rattle.tpw_occam_code.specs.Code.{Lines, followed_by, line_of, place_behind}
 use Rattle.tpw_occam_code.specs.Symbolic.{Machine, effect, performed, at_place, number, push, set_areg}
-use Rattle.tpw_occam_code.specs.Ranges.{Contains}
+use Rattle.tpw_occam_code.specs.declared.items.Item.TheVariants as item
+use Rattle.tpw_occam_code.specs.Ranges.{Contains, ContainsAllOf, from_to}
 use Rattle.tpw_occam_code.specs.Leading.{Does, HasConstants, HasArray, HasWord, Makes}
 use Rattle.tpw_occam_code.specs.Values.{Holds, HasNumber, Replaces, Pushes, PushesAlone, Answers}
 use Rattle.tpw_occam_code.specs.Agreement.{Knowledge, elements_of, constant_in, fact_at, Knows, Agrees, LeavesItems}
-use Rattle.tpw_occam_code.specs.Computing.{IsPlace, MayStand, Suffices, Computes, ComputesTo, ComputesBoth, IsKnown, IsKnownOf, IsKnownOfBoth, is_simple, inverse_of, subscript_value, applied_value, applied_last, applied_first, IsConstantBelow, IsByteVariable, IsSimplePair, HasImmediate}
+use Rattle.tpw_occam_code.specs.Computing.{IsPlace, MayStand, Suffices, Computes, ComputesTo, ComputesBoth, IsKnown, IsKnownOf, IsKnownOfBoth, is_simple, inverse_of, subscript_value, applied_value, applied_last, applied_first, IsConstantBelow, IsByteVariable, IsSimplePair, HasImmediate, IsNoShift, has_immediate}
 use Rattle.tpw_occam_code.proofs.Leading.{does_both, does_less, does_step}
 use Rattle.std.proofs.lemmas.Option.{same_Some}
-use Rattle.tpw_occam_code.proofs.Indexing.{subscript_below, subscript_word_below}
+use Rattle.tpw_occam_code.proofs.Indexing.{subscript_below, subscript_word_below, byte_small}
 use Rattle.tpw_occam_code.proofs.Elements.{pushes_alone, replaces_set}
 use Rattle.tpw_occam_code.proofs.Computing.{in_scope, set_name, agrees_after, alone_pushes, replaces_pushed, replaces_more}
 use Rattle.tpw_occam_code.proofs.Standing.{Place, and_first, and_second, stand_checked, stand_element, stand_binary, stand_complement, stand_not, stand_low_byte, two_registers, suffices_two, suffices_part}
@@ -284,3 +285,100 @@ fixed_computes k old new a view p e c registers kept is below whole makes storag
     (λ m agrees. agrees.arrays a there)
     (λ m end said after. subst (λ x. Pushes registers x m end × LeavesItems scope kept m end) made
     (alone_pushes registers kept scope (plain (element view bytes c)) m end suffices.least after))
+
+-- ---- subscripts
+
+pub constant_subscript_computes : (k : Knowledge) (old new : Lines) (e : Expression) (size c registers kept : ℕ)
+    → (constant_in k e ≡ Some c) × (c < size) → Makes old new HasConstants (push (number c))
+    → ComputesTo k old new e (subscript_value e size) registers kept
+constant_subscript_computes k old new e size c registers kept is makes storages scope unset s place stands suffices knows =
+    let value : value_of e s ≡ plain c = constant_value k storages scope unset s e c stands knows is.0 in
+    let made : plain c ≡ subscript_value e size s =
+        sym (subscript_below size c is.1) ∙ ap (λ v. answer (subscript size v.word).word (v.flag || (subscript size v.word).flag)) (sym value) in
+    does_less k.arrays old new _ _ _ _ (makes k.arrays) (λ m said. said.constants)
+    (λ m end said after. subst (λ x. Pushes registers x m end × LeavesItems scope kept m end) made
+    (alone_pushes registers kept scope (plain c) m end suffices.least (pushes_alone c (place_behind new) m end after)))
+
+pub constant_subscript_known : (k : Knowledge) (e : Expression) (size c : ℕ) (value : Value)
+    → (constant_in k e ≡ Some c) × (c < size) → Holds value c → IsKnownOf k e (subscript_value e size) value
+constant_subscript_known k e size c value is holds storages scope unset s place stands knows =
+    let same : value_of e s ≡ plain c = constant_value k storages scope unset s e c stands knows is.0 in
+    let made : plain c ≡ subscript_value e size s =
+        sym (subscript_below size c is.1) ∙ ap (λ v. answer (subscript size v.word).word (v.flag || (subscript size v.word).flag)) (sym same) in
+    subst (λ a. Holds value a.word) made holds
+
+-- an expression that is no constant below the size needs two registers for a check
+not_constant : (k : Knowledge) (e : Expression) (size registers : ℕ) → (IsConstantBelow k e size → ⊥) → (registers ≤ 1 → IsConstantBelow k e size)
+    → 2 ≤ registers
+not_constant k e size registers none enough = by_number (cases_lt 1 registers)
+  where
+    by_number : (1 < registers) ⊎ (registers ≤ 1) → 2 ≤ registers
+    by_number (inl more) = more
+    by_number (inr one) = absurd (none (enough one))
+
+pub settled_computes : (k : Knowledge) (old between new : Lines) (e : Expression) (value : Value) (size registers kept : ℕ)
+    → Computes k old between e registers kept → IsKnown k e value → (IsConstantBelow k e size → ⊥)
+    → ((i : ℕ) → Holds value i → 0 < size → size ≤ 2 ^ 31 → Answers between new 2 i (subscript size i))
+    → 0 < size → size ≤ 2 ^ 31 → (registers ≤ 1 → IsConstantBelow k e size)
+    → ComputesTo k old new e (subscript_value e size) registers kept
+settled_computes k old between new e value size registers kept computes known none makes positive small enough =
+    computes_then k old between new e e (value_of e) (subscript size) registers 2 kept computes
+    (λ storages scope unset s place stands suffices knows.
+        let two = not_constant k e size registers none enough in
+        (stands, suffices,
+        goes_by k scope unset s between new registers 2 (value_of e s) (subscript size (value_of e s).word) two
+        (makes (value_of e s).word (known storages scope unset s place stands knows) positive small)))
+
+pub settled_known : (k : Knowledge) (e : Expression) (size : ℕ) (value made : Value) → IsKnown k e value
+    → ((i : ℕ) → Holds value i → 0 < size → size ≤ 2 ^ 31 → Holds made (subscript size i).word)
+    → 0 < size → size ≤ 2 ^ 31 → IsKnownOf k e (subscript_value e size) made
+settled_known k e size value made known holds positive small storages scope unset s place stands knows =
+    holds (value_of e s).word (known storages scope unset s place stands knows) positive small
+
+-- the value of a variable that is read as a byte
+byte_below : (k : Knowledge) (storages : List Storage) (scope : List Entry) (unset : ℕ → Bool) (s : Store) (x : ℕ)
+    → ContainsAllOf (from_to (pos 0) (pos 255)) (fact_at k x).source → MayStand k storages scope unset (Variable x) → Knows k scope unset s
+    → slice_index s.values x < 256
+byte_below k storages scope unset s x contains stands knows =
+    let fits = knows.names x (in_scope k storages scope unset x stands) (set_name k storages scope unset x stands) in
+    byte_small _ fits.small (contains _ fits.source)
+
+pub byte_computes : (k : Knowledge) (old between : Lines) (e : Expression) (x registers kept : ℕ) → IsByteVariable k e x
+    → ((arrays : List ℕ) (word : ℕ) → word < 256 → Does arrays old between (HasWord (item.Variable x) word) (PushesAlone (plain word)))
+    → Computes k old between e registers kept
+byte_computes k old between e x registers kept is makes = rw is.variable (λ storages scope unset s place stands suffices knows.
+    let small = byte_below k storages scope unset s x is.small stands knows in
+    does_less k.arrays old between _ _ _ _ (makes k.arrays (slice_index s.values x) small)
+    (λ m agrees. agrees.words x (in_scope k storages scope unset x stands) (set_name k storages scope unset x stands) is.word)
+    (λ m end said after. alone_pushes registers kept scope (plain (slice_index s.values x)) m end suffices.least after))
+
+pub byte_known : (k : Knowledge) (e : Expression) (x : ℕ) (value : Value) → IsByteVariable k e x
+    → ((word : ℕ) → word < 256 → Holds value word) → IsKnown k e value
+byte_known k e x value is holds = rw is.variable (λ storages scope unset s place stands knows.
+    holds (slice_index s.values x) (byte_below k storages scope unset s x is.small stands knows))
+
+-- ---- an operand and a constant
+
+pub last_computes : (k : Knowledge) (old between new : Lines) (operator : Operator) (left : Expression) (value : Value) (c registers kept : ℕ)
+    → Computes k old between left registers kept → IsKnown k left value
+    → ((vb : ℕ) → Holds value vb → IsNoShift operator → Answers between new 2 vb (applied operator vb c))
+    → ((vb : ℕ) → Holds value vb → IsTrue (has_immediate operator c) → Answers between new 1 vb (applied operator vb c))
+    → IsNoShift operator → (registers ≤ 1 → IsTrue (has_immediate operator c))
+    → ComputesTo k old new left (applied_last operator left c) registers kept
+last_computes k old between new operator left value c registers kept computes known makes immediate unshifted enough storages scope unset s place stands suffices knows =
+    by_number (cases_lt 1 registers) storages scope unset s place stands suffices knows
+  where
+    by_number : (1 < registers) ⊎ (registers ≤ 1) → ComputesTo k old new left (applied_last operator left c) registers kept
+    by_number (inl two) = computes_then k old between new left left (value_of left) (λ b. applied operator b c) registers 2 kept computes
+        (λ storages scope unset s place stands suffices knows. (stands, suffices,
+        goes_by k scope unset s between new registers 2 (value_of left s) (applied operator (value_of left s).word c) two
+        (makes (value_of left s).word (known storages scope unset s place stands knows) unshifted)))
+    by_number (inr one) = computes_then k old between new left left (value_of left) (λ b. applied operator b c) registers 1 kept computes
+        (λ storages scope unset s place stands suffices knows. (stands, suffices,
+        goes_by k scope unset s between new registers 1 (value_of left s) (applied operator (value_of left s).word c) suffices.least
+        (immediate (value_of left s).word (known storages scope unset s place stands knows) (enough one))))
+
+pub last_known : (k : Knowledge) (operator : Operator) (left : Expression) (value made : Value) (c : ℕ) → IsKnown k left value
+    → ((vb : ℕ) → Holds value vb → Holds made (applied operator vb c).word) → IsKnownOf k left (applied_last operator left c) made
+last_known k operator left value made c known holds storages scope unset s place stands knows =
+    holds (value_of left s).word (known storages scope unset s place stands knows)
