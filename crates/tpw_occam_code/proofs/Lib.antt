@@ -9,3 +9,5 @@ pub mod Standing
 pub mod Constructs
 pub mod Immediates
 pub mod Ranges
+pub mod Keeping
+pub mod TwoOperands

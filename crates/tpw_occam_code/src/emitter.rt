@@ -1,10 +1,11 @@
 //! What is known while code is made.
 
-ghost use Rattle.std.specs.Prelude.{◌≡◌, ◌<◌, ◌^◌, ℕ, List, Some, OnOk, slice_index};
+ghost use Rattle.std.specs.Prelude.{◌≡◌, ◌<◌, ◌^◌, ◌+◌, ◌-◌, ℕ, List, Some, OnOk, IfOk, slice_index};
 ghost use Rattle.tpw_occam_core.specs.Meaning.{kind_of};
 ghost use Rattle.tpw_occam_code.specs.Agreement.{fact_of_kind, valued_fact, constant_fact, counted_fact, fact_at, with_fact};
 ghost use Rattle.tpw_occam_code.specs.Agreement.{constant_in, elements_of};
 ghost use Rattle.tpw_occam_code.specs.Computing.{is_short as short};
+ghost use Rattle.tpw_occam_code.specs.declared.items.Item.TheVariants.{Temporary};
 ghost use Rattle.tpw_occam_code.specs.Symbolic.{Machine, push, number, performed};
 ghost use Rattle.tpw_occam_code.specs.Leading.{Makes, HasConstants, Serves};
 
@@ -15,6 +16,7 @@ use crate::range::{BYTE, FULL, Range};
 use std::alloc::{AllocError, Global};
 use std::marker::Model;
 use tp_decode::Instr;
+use tp_image::limits::WORKSPACE_WORDS_2;
 use tp_prefix::encode;
 use tpw_occam_core::{Expression, Kind, Storage, Worker};
 
@@ -98,25 +100,36 @@ impl Room {
     }
 
     /// So many registers.
-    pub(crate) fn with_registers(self, registers: u32) -> Room {
+    pub(crate) fn with_registers(self, registers: u32) -> Room
+        ensures { result ≡ record self { registers = registers } }
+    {
         Room { registers, ..self }
     }
 
     /// One register less.
-    pub(crate) fn above(self) -> Room {
+    pub(crate) fn above(self) -> Room
+        ensures { result ≡ record self { registers = self.registers - 1 } }
+    {
         self.with_registers(self.registers.saturating_sub(1))
     }
 
-    /// One word more is kept.
-    pub(crate) fn beside(self) -> Room {
-        Room {
-            kept: self.kept.saturating_add(1),
-            ..self
+    /// One word more is kept. No workspace has room for more words than it has.
+    pub(crate) fn beside(self) -> Result<Room, CodeFault>
+        ensures { IfOk result (λ room. room ≡ record self { kept = self.kept + 1 }) }
+    {
+        if self.kept >= WORKSPACE_WORDS_2 as usize {
+            return Err(CodeFault::Workspace { line: self.line });
         }
+        Ok(Room {
+            kept: self.kept + 1,
+            ..self
+        })
     }
 
     /// The word that is kept next.
-    pub(crate) fn word(self) -> Item {
+    pub(crate) fn word(self) -> Item
+        ensures { result ≡ Temporary self.kept }
+    {
         Item::Temporary(self.kept)
     }
 }

@@ -153,7 +153,7 @@ impl Emitter<'_> {
         }
         let a = self.expression(code, right, room)?;
         code.emit(room.line, Step::Store(room.word(), 0))?;
-        let b = self.expression(code, left, room.beside())?;
+        let b = self.expression(code, left, room.beside()?)?;
         code.emit(room.line, Step::Load(room.word(), 0))?;
         Ok((b, recalled(a)))
     }
@@ -187,7 +187,7 @@ impl Emitter<'_> {
         }
         let b = self.expression(code, left, room)?;
         code.emit(room.line, Step::Store(room.word(), 0))?;
-        let a = self.subscript(code, count, 32, room.beside())?;
+        let a = self.subscript(code, count, 32, room.beside()?)?;
         code.emit(room.line, Step::Load(room.word(), 0))?;
         code.instr(room.line, Instr::Rev)?;
         Ok((recalled(b), a))
