@@ -34,7 +34,7 @@ true_false e = cc
 
 -- ---- items that stay
 
-bytes_same : (one other : Blocks) (i : Item) (at n : ℕ) → ((k : ℕ) → one i k ≡ other i k) → bytes_at one i at n ≡ bytes_at other i at n
+pub bytes_same : (one other : Blocks) (i : Item) (at n : ℕ) → ((k : ℕ) → one i k ≡ other i k) → bytes_at one i at n ≡ bytes_at other i at n
 unfolding bytes_at
 bytes_same one other i at zero same = refl
 bytes_same one other i at (suc n) same = rw (same at) (ap (λ bytes. other i at ∷ bytes) (bytes_same one other i (at + 1) n same))

@@ -10,17 +10,18 @@ use Rattle.tpw_occam_core.specs.declared.expression.Operator.{Operator}
 use Rattle.tpw_occam_core.specs.declared.expression.Expression.{Expression}
 use Rattle.tpw_occam_core.specs.Arithmetic.{answer, plain, applied}
 use Rattle.tpw_occam_core.specs.Meaning.{Store, followed, value_of}
-use Rattle.tpw_occam_code.specs.declared.items.Item.TheVariants.{Temporary}
+use Rattle.tpw_occam_code.specs.declared.items.Item.{Item}
+use Rattle.tpw_occam_code.specs.declared.items.Item.TheVariants as item
 use Rattle.tpw_occam_code.specs.declared.code.Step.TheVariants.{Plain, Load, Store as StoreTo}
 use Rattle.tpw_occam_code.specs.declared.expressions.Value.{Value}
 use Rattle.tpw_occam_code.specs.Code.{Lines, followed_by, line_of, place_behind}
 use Rattle.tpw_occam_code.specs.Symbolic.{Machine, effect, performed, at_place, number, push, set_areg}
-use Rattle.tpw_occam_code.specs.Leading.{Does, HasConstants, HasWord, Makes}
+use Rattle.tpw_occam_code.specs.Leading.{Does, IsBefore, Arrives, HasConstants, HasWord, Makes}
 use Rattle.tpw_occam_code.specs.Values.{Holds, HasNumber, HasOperands, Replaces, Pushes, PushesAlone, Answers, answered}
-use Rattle.tpw_occam_code.specs.Agreement.{Knowledge, Knows, Agrees, LeavesItems}
+use Rattle.tpw_occam_code.specs.Agreement.{Knowledge, Knows, Agrees, LeavesItems, Stays}
 use Rattle.tpw_occam_code.specs.Computing.{IsPlace, MayStand, Suffices, Computes, ComputesTo, ComputesBoth, ComputesTwo, PushesTwo, IsKnown, IsKnownOf, commutes, applied_value}
 use Rattle.tpw_occam_code.proofs.Leading.{does_both, does_less, does_step}
-use Rattle.tpw_occam_code.proofs.Computing.{agrees_after, leaves_then}
+use Rattle.tpw_occam_code.proofs.Computing.{agrees_after, leaves_then, bytes_same}
 use Rattle.tpw_occam_code.proofs.Keeping.{Saves, does_save, does_recall}
 
 -- ---- one value above another
@@ -108,3 +109,131 @@ does_rev k scope unset s old between new source registers kept b a f g is first 
         → HasOperands a b middle ⊎ ((false ≡ true) × HasOperands b a middle) → HasOperands b a end ⊎ ((false ≡ true) × HasOperands a b end)
     by_order m middle end at (inl in_order) = inl (ap (λ x. x.breg) at ∙ in_order.1, ap (λ x. x.areg) at ∙ in_order.0)
     by_order m middle end at (inr swapped) = absurd (false_true swapped.0)
+
+-- ---- one value kept in a word
+
+stays_more : (scope : List Entry) (kept : ℕ) (i : Item) → Stays scope kept i → Stays scope (kept + 1) i
+stays_more scope kept (item.Variable x) stays = stays
+stays_more scope kept (item.Temporary t) stays = omega (arith, stays)
+stays_more scope kept (item.Constant c) stays = stays
+stays_more scope kept (item.Array a) stays = stays
+stays_more scope kept item.Zeros stays = stays
+
+pub leaves_less : (scope : List Entry) (kept : ℕ) (m end : Machine) → LeavesItems scope (kept + 1) m end → LeavesItems scope kept m end
+leaves_less scope kept m end leaves = record {
+  blocks = λ i at stays. leaves.blocks i at (stays_more scope kept i stays);
+  to_come = leaves.to_come;
+  sent = leaves.sent;
+  traced = leaves.traced;
+}
+
+saved_leaves : (scope : List Entry) (kept registers : ℕ) (one : Answer) (m middle end : Machine)
+    → Pushes registers one m middle × LeavesItems scope kept m middle → Saves scope kept one.word middle end
+    → LeavesItems scope kept m end
+saved_leaves scope kept registers one m middle end a b = leaves_then scope kept m middle end a.1 b.leaves
+
+-- a value that is pushed and kept
+pub record Kept (registers kept : ℕ) (scope : List Entry) (one : Answer) (m end : Machine) : Type 0 where
+  pub areg : registers ≤ 2 → end.areg ≡ m.areg
+  pub error : end.error ≡ (m.error || one.flag)
+  pub held : HasWord (item.Temporary kept) one.word end
+  pub leaves : LeavesItems scope kept m end
+
+pub does_keep : (k : Knowledge) (scope : List Entry) (unset : ℕ → Bool) (s : Store) (old between new : Lines) (source registers kept : ℕ) (one : Answer)
+    → Does k.arrays old between (Agrees k scope unset s) (λ m end. Pushes registers one m end × LeavesItems scope kept m end)
+    → new ≡ followed_by between (line_of source (StoreTo (item.Temporary kept) 0) ∷ [])
+    → Does k.arrays old new (Agrees k scope unset s) (Kept registers kept scope one)
+does_keep k scope unset s old between new source registers kept one first is =
+    does_both k.arrays old between new _ _ _ _ _ first (does_save k.arrays scope between new source kept one.word is)
+    (λ m middle agrees after. after.0.areg)
+    (λ m middle end agrees after after2. record {
+      areg = λ h. after2.areg ∙ after.0.breg h;
+      error = after2.error ∙ after.0.error;
+      held = after2.held;
+      leaves = saved_leaves scope kept registers one m middle end after after2;
+    })
+
+record Both (registers kept : ℕ) (scope : List Entry) (b a : Answer) (m end : Machine) : Type 0 where
+  areg : end.areg ≡ number b.word
+  breg : registers ≤ 2 → end.breg ≡ m.areg
+  error : end.error ≡ (m.error || (a.flag || b.flag))
+  held : HasWord (item.Temporary kept) a.word end
+  leaves : LeavesItems scope kept m end
+
+-- a second value above it, and the first one recalled
+pub does_recalled : (k : Knowledge) (scope : List Entry) (unset : ℕ → Bool) (s : Store) (old saved between new : Lines) (source registers kept : ℕ)
+    (b a : Answer) → a.word < 2 ^ 32
+    → Does k.arrays old saved (Agrees k scope unset s) (Kept registers kept scope a)
+    → Does k.arrays saved between (Agrees k scope unset s) (λ m end. Pushes registers b m end × LeavesItems scope (kept + 1) m end)
+    → new ≡ followed_by between (line_of source (Load (item.Temporary kept) 0) ∷ [])
+    → Does k.arrays old new (Agrees k scope unset s)
+    (λ m end. PushesTwo registers b.word a.word (b.flag || a.flag) false m end × LeavesItems scope kept m end)
+does_recalled k scope unset s old saved between new source registers kept b a small first second is =
+    does_both k.arrays old between new _ _ _ _ _
+    (does_both k.arrays old saved between _ _ _ _ (Both registers kept scope b a) first second
+    (λ m middle agrees after. agrees_after k scope unset kept s m middle agrees after.leaves)
+    (λ m middle end agrees after after2. record {
+      areg = after2.0.areg;
+      breg = λ h. after2.0.breg h ∙ after.areg h;
+      error = after2.0.error ∙ ap (λ e. e || b.flag) after.error ∙ or_assoc m.error a.flag b.flag;
+      held = bytes_same end.blocks middle.blocks (item.Temporary kept) 0 4 (λ at. after2.1.blocks (item.Temporary kept) at (omega arith)) ∙ after.held;
+      leaves = leaves_then scope kept m middle end after.leaves (leaves_less scope kept middle end after2.1);
+    }))
+    (does_recall k.arrays between new source (item.Temporary kept) a.word small is)
+    (λ m middle agrees after. after.held)
+    (λ m middle end agrees after after2. (record {
+      operands = inl (after2.pushed.breg (omega arith) ∙ after.areg, after2.pushed.areg);
+      creg = λ h. after2.pushed.creg (omega arith) ∙ after.breg h;
+      error = after2.pushed.error ∙ or-false middle.error ∙ after.error ∙ ap (λ e. m.error || e) (or_comm a.flag b.flag);
+    }, record {
+      blocks = λ i at stays. ap (λ x. x i at) after2.blocks ∙ after.leaves.blocks i at stays;
+      to_come = after2.to_come ∙ after.leaves.to_come;
+      sent = after2.sent ∙ after.leaves.sent;
+      traced = after2.traced ∙ after.leaves.traced;
+    }))
+
+-- ---- what works on two operands
+
+-- code that does the same of either order does it of whichever there is
+either_way : (k : Knowledge) (between new : Lines) (b a : ℕ) (may_change : Bool) (made : Answer)
+    → Makes between new (HasOperands b a) (answered made)
+    → (may_change ≡ true → Makes between new (HasOperands a b) (answered made))
+    → Does k.arrays between new (λ m. HasOperands b a m ⊎ ((may_change ≡ true) × HasOperands a b m))
+    (λ m end. end ≡ at_place (place_behind new) (answered made m))
+either_way k between new b a may_change made works changed =
+    let one = works k.arrays in
+    record {
+      base = one.base;
+      more = one.more;
+      lines = one.lines;
+      arrives = λ m at which. by_order m at which;
+    }
+  where
+    by_order : (m : Machine) → IsBefore k.arrays between new m → HasOperands b a m ⊎ ((may_change ≡ true) × HasOperands a b m)
+        → Arrives new m (λ m end. end ≡ at_place (place_behind new) (answered made m))
+    by_order m at (inl in_order) = (works k.arrays).arrives m at in_order
+    by_order m at (inr swapped) = (changed swapped.0 k.arrays).arrives m at swapped.1
+
+pub does_work : (k : Knowledge) (scope : List Entry) (unset : ℕ → Bool) (s : Store) (old between new : Lines) (registers kept : ℕ)
+    (b a : ℕ) (flag may_change : Bool) (made : Answer) → 2 ≤ registers
+    → Does k.arrays old between (Agrees k scope unset s)
+    (λ m end. PushesTwo registers b a flag may_change m end × LeavesItems scope kept m end)
+    → Makes between new (HasOperands b a) (answered made)
+    → (may_change ≡ true → Makes between new (HasOperands a b) (answered made))
+    → Does k.arrays old new (Agrees k scope unset s)
+    (λ m end. Pushes registers (answer made.word (flag || made.flag)) m end × LeavesItems scope kept m end)
+does_work k scope unset s old between new registers kept b a flag may_change made least first works changed =
+    does_both k.arrays old between new _ _ _ _ _ first
+    (either_way k between new b a may_change made works changed)
+    (λ m middle agrees after. after.0.operands)
+    (λ m middle end agrees after at. (record {
+      areg = ap (λ x. x.areg) at;
+      breg = λ h. ap (λ x. x.breg) at ∙ after.0.creg h;
+      creg = λ h. absurd (omega (arith, least, h));
+      error = ap (λ x. x.error) at ∙ ap (λ e. e || made.flag) after.0.error ∙ or_assoc m.error flag made.flag;
+    }, record {
+      blocks = λ i place stays. ap (λ x. x.blocks i place) at ∙ after.1.blocks i place stays;
+      to_come = ap (λ x. x.to_come) at ∙ after.1.to_come;
+      sent = ap (λ x. x.sent) at ∙ after.1.sent;
+      traced = ap (λ x. x.traced) at ∙ after.1.traced;
+    }))
