@@ -29,7 +29,7 @@ use Rattle.tpw_occam_code.specs.Ranges.{Contains, ContainsAllOf, from_to}
 use Rattle.tpw_occam_code.specs.Leading.{Does, HasConstants, HasArray, HasWord, Makes}
 use Rattle.tpw_occam_code.specs.Values.{Holds, HasNumber, Replaces, Pushes, PushesAlone, Answers}
 use Rattle.tpw_occam_code.specs.Agreement.{Knowledge, elements_of, constant_in, fact_at, Knows, Agrees, LeavesItems}
-use Rattle.tpw_occam_code.specs.Computing.{IsPlace, MayStand, Suffices, Computes, ComputesTo, ComputesBoth, IsKnown, IsKnownOf, IsKnownOfBoth, is_simple, inverse_of, subscript_value, applied_value, applied_last, applied_first, IsConstantBelow, IsByteVariable, IsSimplePair, HasImmediate, IsNoShift, has_immediate}
+use Rattle.tpw_occam_code.specs.Computing.{IsPlace, MayStand, Suffices, Computes, ComputesTo, ComputesBoth, IsKnown, IsKnownOf, IsKnownOfBoth, is_simple, inverse_of, subscript_value, applied_value, applied_last, applied_first, IsConstantBelow, IsByteVariable, IsSimplePair, HasImmediate, IsNoShift, IsFixed, has_immediate}
 use Rattle.tpw_occam_code.proofs.Leading.{does_both, does_less, does_step}
 use Rattle.std.proofs.lemmas.Option.{same_Some}
 use Rattle.tpw_occam_code.proofs.Indexing.{subscript_below, subscript_word_below, byte_small}
@@ -268,20 +268,22 @@ element_known k a view p e value holds storages scope unset s place stands knows
 
 -- an element with a constant subscript
 pub fixed_computes : (k : Knowledge) (old new : Lines) (a : ℕ) (view : Kind) (p : Place) (e : Expression) (c : ℕ) (registers kept : ℕ)
-    → constant_in k e ≡ Some c → c < elements_of view (slice_index k.arrays a) → (view ≡ kind.Byte → c % 4 ≡ 0)
+    → IsFixed k a view e c
     → ((arrays bytes : List ℕ) → length bytes ≡ slice_index arrays a → c < size view bytes → (view ≡ kind.Byte → c % 4 ≡ 0)
     → Does arrays old new (HasArray a bytes) (PushesAlone (plain (element view bytes c))))
     → Computes k old new (Element' a view p e) registers kept
-fixed_computes k old new a view p e c registers kept is below whole makes storages scope unset s place stands suffices knows =
+fixed_computes k old new a view p e c registers kept fixed makes storages scope unset s place stands suffices knows =
     let parts = stand_element k storages scope unset a view p e stands in
     let there = seen_array storages scope a view parts.0 in
     let bytes = array_of s a in
-    let value : value_of e s ≡ plain c = constant_value k storages scope unset s e c parts.1 knows is in
+    let value : value_of e s ≡ plain c = constant_value k storages scope unset s e c parts.1 knows fixed.constant in
+    let most = place.most a there in
+    let below = fixed.below (omega (arith, most)) in
     let within : c < size view bytes = subst (λ n. c < n) (size_is view bytes _ (knows.lengths a there)) below in
     let made : plain (element view bytes c) ≡ value_of (Element' a view p e) s =
     ap (λ x. answer (element view bytes x.word) x.flag) (sym (subscript_below (size view bytes) c within))
     ∙ ap (λ v. answer (element view bytes (subscript (size view bytes) v.word).word) (v.flag || (subscript (size view bytes) v.word).flag)) (sym value) in
-    does_less k.arrays old new _ _ _ _ (makes k.arrays bytes (knows.lengths a there) within whole)
+    does_less k.arrays old new _ _ _ _ (makes k.arrays bytes (knows.lengths a there) within fixed.whole)
     (λ m agrees. agrees.arrays a there)
     (λ m end said after. subst (λ x. Pushes registers x m end × LeavesItems scope kept m end) made
     (alone_pushes registers kept scope (plain (element view bytes c)) m end suffices.least after))
@@ -382,3 +384,11 @@ pub last_known : (k : Knowledge) (operator : Operator) (left : Expression) (valu
     → ((vb : ℕ) → Holds value vb → Holds made (applied operator vb c).word) → IsKnownOf k left (applied_last operator left c) made
 last_known k operator left value made c known holds storages scope unset s place stands knows =
     holds (value_of left s).word (known storages scope unset s place stands knows)
+
+-- ---- an inverse
+
+pub not_computes : (k : Knowledge) (old new : Lines) (p : Place) (e : Expression) (registers kept : ℕ)
+    → ComputesTo k old new e (inverse_of e) registers kept → Computes k old new (Not' p e) registers kept
+not_computes k old new p e registers kept computes storages scope unset s place stands suffices knows =
+    computes storages scope unset s place (stand_not k storages scope unset p e stands)
+    (suffices_part k registers (Not' p e) e (λ simple. simple) suffices) knows

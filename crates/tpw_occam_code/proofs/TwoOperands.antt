@@ -1,6 +1,8 @@
 -- The code of two operands, and what works on them.
 use Rattle.std.proofs.Common.{◌≡◌, ◌⊎◌, inl, inr, ◌+◌, ◌-◌, ◌*◌, ◌^◌, ◌≤◌, ◌<◌, [], ◌∷◌, ℕ, List, length, Option, Some, None, Bool, false, true, refl, ap, sym, subst, ◌∙◌, arith}
-use Rattle.std.specs.Prelude.{slice_index, ◌||◌, IsTrue}
+use Rattle.std.specs.Prelude.{slice_index, ◌||◌, not, IsTrue}
+use Rattle.tpw_occam_code.specs.Ranges.{Contains, full}
+use Rattle.tpw_occam_code.proofs.Ranges.{full_contains}
 use Rattle.std.proofs.Math.Bool.{or_assoc, or_comm, or-false}
 use Rattle.tp_decode.specs.declared.instr.Instr.TheVariants.{Rev}
 use Rattle.tpw_occam_core.specs.declared.arithmetic.Answer.{Answer}
@@ -8,6 +10,8 @@ use Rattle.tpw_occam_core.specs.declared.worker.Storage.{Storage}
 use Rattle.tpw_occam_core.specs.declared.scope.Entry.{Entry}
 use Rattle.tpw_occam_core.specs.declared.expression.Operator.{Operator}
 use Rattle.tpw_occam_core.specs.declared.expression.Expression.{Expression}
+use Rattle.tpw_occam_core.specs.declared.expression.Expression.TheVariants as expression
+use Rattle.tpw_occam_code.proofs.Standing.{suffices_two}
 use Rattle.tpw_occam_core.specs.Arithmetic.{answer, plain, applied}
 use Rattle.tpw_occam_core.specs.Meaning.{Store, followed, value_of}
 use Rattle.tpw_occam_code.specs.declared.items.Item.{Item}
@@ -18,8 +22,8 @@ use Rattle.tpw_occam_code.specs.Code.{Lines, followed_by, line_of, place_behind}
 use Rattle.tpw_occam_code.specs.Symbolic.{Machine, effect, performed, at_place, number, push, set_areg}
 use Rattle.tpw_occam_code.specs.Leading.{Does, IsBefore, Arrives, HasConstants, HasWord, Makes}
 use Rattle.tpw_occam_code.specs.Values.{Holds, HasNumber, HasOperands, Replaces, Pushes, PushesAlone, Answers, answered}
-use Rattle.tpw_occam_code.specs.Agreement.{Knowledge, Knows, Agrees, LeavesItems, Stays}
-use Rattle.tpw_occam_code.specs.Computing.{IsPlace, MayStand, Suffices, Computes, ComputesTo, ComputesBoth, ComputesTwo, PushesTwo, IsKnown, IsKnownOf, commutes, applied_value}
+use Rattle.tpw_occam_code.specs.Agreement.{Knowledge, constant_in, Knows, Agrees, LeavesItems, Stays}
+use Rattle.tpw_occam_code.specs.Computing.{IsPlace, MayStand, Suffices, Computes, ComputesTo, ComputesBoth, ComputesTwo, PushesTwo, IsKnown, IsKnownOf, commutes, applied_value, is_simple, IsConstantBelow}
 use Rattle.tpw_occam_code.proofs.Leading.{does_both, does_less, does_step}
 use Rattle.tpw_occam_code.proofs.Computing.{agrees_after, leaves_then, bytes_same}
 use Rattle.tpw_occam_code.proofs.Keeping.{Saves, does_save, does_recall}
@@ -237,3 +241,119 @@ does_work k scope unset s old between new registers kept b a flag may_change mad
       sent = ap (λ x. x.sent) at ∙ after.1.sent;
       traced = ap (λ x. x.traced) at ∙ after.1.traced;
     }))
+
+-- ---- the ways of two operands
+
+-- what fewer registers than there are need
+pub suffices_above : (k : Knowledge) (registers n : ℕ) (e : Expression) → 1 ≤ n → (n ≤ 1 → IsTrue (is_simple k e)) → n < registers → registers ≤ 3
+    → Suffices k (registers - 1) e
+suffices_above k registers n e least simple less most =
+    record { least = omega arith; most = omega arith; simple = λ one. simple (omega (arith, one, less)) }
+
+constant_simple : (k : Knowledge) (e : Expression) (c : ℕ) → constant_in k e ≡ Some c → is_simple k e ≡ true
+constant_simple k (expression.Constant d) c is = refl
+constant_simple k (expression.Variable x) c is = refl
+constant_simple k e c is = cc
+
+-- the right operand above the left one
+pub in_order_computes : (k k1 : Knowledge) (old between new : Lines) (left right : Expression) (b a : Store → Answer) (may_change : Bool) (registers kept : ℕ)
+    → k1 ≡ k → ComputesTo k old between left b registers kept → ComputesTo k1 between new right a (registers - 1) kept
+    → (registers ≤ 3 → Suffices k (registers - 1) right)
+    → ComputesTwo k old new left right b a may_change registers kept
+in_order_computes k k1 old between new left right b a may_change registers kept same first second enough storages scope unset s place one two least most knows =
+    let second : ComputesTo k between new right a (registers - 1) kept = subst (λ k. ComputesTo k between new right a (registers - 1) kept) same second in
+    does_less k.arrays old new _ _ _ _
+    (does_above k scope unset s old between new registers kept (b s) (a s) least most
+    (first storages scope unset s place one (suffices_two k registers left least most) knows)
+    (second storages scope unset s place two (enough most) knows))
+    (λ m said. said)
+    (λ m end said after. (two_fixed registers (b s).word (a s).word ((b s).flag || (a s).flag) may_change m end after.0, after.1))
+
+-- the left operand above the right one, which may stay
+pub changed_computes : (k k1 : Knowledge) (old between new : Lines) (left right : Expression) (b a : Store → Answer) (may_change : Bool) (registers kept : ℕ)
+    → k1 ≡ k → may_change ≡ true → ComputesTo k old between right a registers kept → ComputesTo k1 between new left b (registers - 1) kept
+    → (registers ≤ 3 → Suffices k (registers - 1) left)
+    → ComputesTwo k old new left right b a may_change registers kept
+changed_computes k k1 old between new left right b a may_change registers kept same may first second enough storages scope unset s place one two least most knows =
+    let second : ComputesTo k between new left b (registers - 1) kept = subst (λ k. ComputesTo k between new left b (registers - 1) kept) same second in
+    does_less k.arrays old new _ _ _ _
+    (does_above k scope unset s old between new registers kept (a s) (b s) least most
+    (first storages scope unset s place two (suffices_two k registers right least most) knows)
+    (second storages scope unset s place one (enough most) knows))
+    (λ m said. said)
+    (λ m end said after. (two_changed registers (b s).word (a s).word (b s).flag (a s).flag may_change m end may after.0, after.1))
+
+-- .. or changes places with it
+pub reversed_computes : (k k1 : Knowledge) (old between above new : Lines) (source : ℕ) (left right : Expression) (b a : Store → Answer) (may_change : Bool) (registers kept : ℕ)
+    → k1 ≡ k → ComputesTo k old between right a registers kept → ComputesTo k1 between above left b (registers - 1) kept
+    → (registers ≤ 3 → Suffices k (registers - 1) left) → new ≡ followed_by above (line_of source (Plain Rev) ∷ [])
+    → ComputesTwo k old new left right b a may_change registers kept
+reversed_computes k k1 old between above new source left right b a may_change registers kept same first second enough is storages scope unset s place one two least most knows =
+    let second : ComputesTo k between above left b (registers - 1) kept = subst (λ k. ComputesTo k between above left b (registers - 1) kept) same second in
+    does_less k.arrays old new _ _ _ _
+    (does_rev k scope unset s old above new source registers kept (b s).word (a s).word (b s).flag (a s).flag is
+    (does_above k scope unset s old between above registers kept (a s) (b s) least most
+    (first storages scope unset s place two (suffices_two k registers right least most) knows)
+    (second storages scope unset s place one (enough most) knows)))
+    (λ m said. said)
+    (λ m end said after. (two_fixed registers (b s).word (a s).word ((b s).flag || (a s).flag) may_change m end after.0, after.1))
+
+-- the right operand kept in a word while the left one is evaluated
+pub kept_computes : (k k1 : Knowledge) (old first_code saved between new : Lines) (source : ℕ) (left right : Expression) (b a : Store → Answer) (may_change : Bool)
+    (registers kept : ℕ) → k1 ≡ k
+    → ComputesTo k old first_code right a registers kept
+    → ((storages : List Storage) (scope : List Entry) (unset : ℕ → Bool) (s : Store) → IsPlace k storages scope
+    → MayStand k storages scope unset right → Knows k scope unset s → (a s).word < 2 ^ 32)
+    → saved ≡ followed_by first_code (line_of source (StoreTo (item.Temporary kept) 0) ∷ [])
+    → ComputesTo k1 saved between left b registers (kept + 1)
+    → new ≡ followed_by between (line_of source (Load (item.Temporary kept) 0) ∷ [])
+    → ComputesTwo k old new left right b a may_change registers kept
+kept_computes k k1 old first_code saved between new source left right b a may_change registers kept same first small save second recall storages scope unset s place one two least most knows =
+    let second : ComputesTo k saved between left b registers (kept + 1) = subst (λ k. ComputesTo k saved between left b registers (kept + 1)) same second in
+    does_less k.arrays old new _ _ _ _
+    (does_recalled k scope unset s old saved between new source registers kept (b s) (a s) (small storages scope unset s place two knows)
+    (does_keep k scope unset s old first_code saved source registers kept (a s)
+    (first storages scope unset s place two (suffices_two k registers right least most) knows) save)
+    (second storages scope unset s place one (suffices_two k registers left least most) knows) recall)
+    (λ m said. said)
+    (λ m end said after. (two_fixed registers (b s).word (a s).word ((b s).flag || (a s).flag) may_change m end after.0, after.1))
+
+-- the left operand kept in a word while the right one is evaluated
+pub kept_reversed_computes : (k k1 : Knowledge) (old first_code saved between recalled new : Lines) (source : ℕ) (left right : Expression) (b a : Store → Answer) (may_change : Bool)
+    (registers kept : ℕ) → k1 ≡ k
+    → ComputesTo k old first_code left b registers kept
+    → ((storages : List Storage) (scope : List Entry) (unset : ℕ → Bool) (s : Store) → IsPlace k storages scope
+    → MayStand k storages scope unset left → Knows k scope unset s → (b s).word < 2 ^ 32)
+    → saved ≡ followed_by first_code (line_of source (StoreTo (item.Temporary kept) 0) ∷ [])
+    → ComputesTo k1 saved between right a registers (kept + 1)
+    → recalled ≡ followed_by between (line_of source (Load (item.Temporary kept) 0) ∷ [])
+    → new ≡ followed_by recalled (line_of source (Plain Rev) ∷ [])
+    → ComputesTwo k old new left right b a may_change registers kept
+kept_reversed_computes k k1 old first_code saved between recalled new source left right b a may_change registers kept same first small save second recall rev storages scope unset s place one two least most knows =
+    let second : ComputesTo k saved between right a registers (kept + 1) = subst (λ k. ComputesTo k saved between right a registers (kept + 1)) same second in
+    does_less k.arrays old new _ _ _ _
+    (does_rev k scope unset s old recalled new source registers kept (b s).word (a s).word (b s).flag (a s).flag rev
+    (does_recalled k scope unset s old saved between recalled source registers kept (a s) (b s) (small storages scope unset s place one knows)
+    (does_keep k scope unset s old first_code saved source registers kept (b s)
+    (first storages scope unset s place one (suffices_two k registers left least most) knows) save)
+    (second storages scope unset s place two (suffices_two k registers right least most) knows) recall))
+    (λ m said. said)
+    (λ m end said after. (two_fixed registers (b s).word (a s).word ((b s).flag || (a s).flag) may_change m end after.0, after.1))
+
+-- a shift's count that needs one register is a constant
+pub suffices_count : (k : Knowledge) (registers n : ℕ) (count : Expression) → 1 ≤ n → (n ≤ 1 → IsConstantBelow k count 32) → n < registers → registers ≤ 3
+    → Suffices k (registers - 1) count
+suffices_count k registers n count least constant less most =
+    record { least = omega arith; most = omega arith; simple = λ one. let is = constant (omega (arith, one, less)) in constant_simple k count is.0 is.1 }
+
+pub may_change : (commute : Bool) → not commute ≡ false → commute ≡ true
+may_change true e = refl
+may_change false e = cc
+
+-- of what was kept in a word the verifier knows nothing
+pub recalled_holds : (value recalled : Value) (word : ℕ) → recalled ≡ record { source = value.source; known = full } → Holds value word → Holds recalled word
+recalled_holds value recalled word is holds = record {
+  small = holds.small;
+  source = subst (λ (v : Value). Contains v.source word) (sym is) holds.source;
+  known = subst (λ (v : Value). Contains v.known word) (sym is) (full_contains word holds.small);
+}

@@ -21,13 +21,15 @@ use Rattle.tpw_occam_core.specs.Meaning.{Store, value_of, followed, with_value}
 use Rattle.tpw_occam_code.specs.Ranges.{from_to, ContainsAllOf}
 use Rattle.tpw_occam_core.specs.declared.scope.Entry.TheVariants as entry
 use Rattle.tpw_occam_core.specs.Sound.{is_sound_expression, is_new_name, is_array, bytes_of}
+use Rattle.tpw_occam_core.specs.declared.kind.Kind.{Kind}
+use Rattle.tpw_occam_core.specs.declared.kind.Kind.TheVariants.{Byte}
 use Rattle.tpw_occam_code.specs.declared.expressions.Value.{Value}
 use Rattle.tpw_occam_code.specs.declared.emitter.Room.{Room}
 use Rattle.tpw_occam_code.specs.Code.{Lines}
 use Rattle.tpw_occam_code.specs.Leading.{Does}
 use Rattle.tpw_occam_code.specs.Values.{Holds, HasOperands, Pushes}
 use Rattle.tpw_occam_code.specs.Symbolic.{Machine}
-use Rattle.tpw_occam_code.specs.Agreement.{Knowledge, fact_at, constant_in, Knows, Agrees, LeavesItems}
+use Rattle.tpw_occam_code.specs.Agreement.{Knowledge, elements_of, fact_at, constant_in, Knows, Agrees, LeavesItems}
 
 -- ---- registers
 
@@ -250,3 +252,9 @@ ComputesBinding before after old new x e registers kept =
     → Does before.arrays old new (Agrees before scope unset s)
     (λ m end. Binding registers kept scope (value_of e s).flag m end
     × Agrees after (scope ++ entry.Value x ∷ []) unset (with_value x (value_of e s).word s) end)
+
+-- a subscript that is one constant, of a word or of the first byte of a word that there is
+pub record IsFixed (k : Knowledge) (a : ℕ) (view : Kind) (e : Expression) (c : ℕ) : Type 0 where
+  pub constant : constant_in k e ≡ Some c
+  pub below : slice_index k.arrays a < 2 ^ 32 → c < elements_of view (slice_index k.arrays a)
+  pub whole : view ≡ Byte → c % 4 ≡ 0

@@ -1,10 +1,11 @@
 //! How many registers an expression needs, where nothing is kept in the workspace (Sethi and Ullman).
 
-ghost use Rattle.std.specs.Prelude.{◌≡◌, ◌≤◌, ◌&&◌, IsTrue, is_some};
+ghost use Rattle.std.specs.Prelude.{◌≡◌, ◌≤◌, ◌⊎◌, ◌&&◌, false, IsTrue, is_some};
 ghost use Rattle.std.specs.Option.{option_map};
 ghost use Rattle.tp_decode.specs.Words.{signed};
 ghost use Rattle.tpw_occam_code.specs.Agreement.{constant_in};
-ghost use Rattle.tpw_occam_code.specs.Computing.{immediate_of, is_immediate, is_simple, is_swapped};
+ghost use Rattle.tpw_occam_core.specs.declared.expression.Operator.TheVariants.{ShiftLeft, ShiftRight};
+ghost use Rattle.tpw_occam_code.specs.Computing.{IsNoShift, immediate_of, is_immediate, is_simple, is_swapped, IsConstantBelow};
 ghost use Rattle.tpw_occam_code.specs.Computing.{commutes as commute};
 
 use crate::emitter::{Emitter, is_short};
@@ -38,7 +39,10 @@ pub(crate) fn commutes(operator: Operator) -> bool
     }
 }
 
-pub(crate) fn is_shift(operator: Operator) -> bool {
+pub(crate) fn is_shift(operator: Operator) -> bool
+    ensures yes { IsTrue result → (operator ≡ ShiftLeft) ⊎ (operator ≡ ShiftRight) }
+    ensures not { result ≡ false → IsNoShift operator }
+{
     operator == Operator::ShiftLeft || operator == Operator::ShiftRight
 }
 
@@ -117,7 +121,10 @@ impl Emitter<'_> {
 
     /// How many registers a shift's count needs, which may have to be checked.
     #[cycle(need)]
-    pub(crate) fn need_of_count(&self, count: &Expression) -> u32 {
+    pub(crate) fn need_of_count(&self, count: &Expression) -> u32
+        ensures least { 1 ≤ result }
+        ensures constant { result ≤ 1 → IsConstantBelow self.now count.now 32 }
+    {
         match self.constant_of(count) {
             Some(c) if c < 32 => 1,
             _ => self.need(count).max(2),

@@ -2,6 +2,7 @@
 
 ghost use Rattle.std.specs.Prelude.{◌≡◌, ◌≤◌, ℕ, false, IfOk, OnOk, IsTrue};
 ghost use Rattle.tpw_occam_core.specs.Meaning.{value_of};
+ghost use Rattle.tpw_occam_code.specs.Ranges.{full};
 ghost use Rattle.tpw_occam_code.specs.Computing.{ComputesBoth, ComputesTo, ComputesTwo, IsKnownOfBoth, IsKnownOf, IsNoShift};
 ghost use Rattle.tpw_occam_code.specs.Computing.{HasImmediate, IsSimplePair, has_immediate, subscript_value, applied_value};
 ghost use Rattle.tpw_occam_code.specs.Computing.{applied_last, applied_first};
@@ -17,7 +18,9 @@ use tp_decode::Instr;
 use tpw_occam_core::{Expression, Operator};
 
 /// What is known of a value that was kept in a word: the verifier knows nothing of it.
-fn recalled(value: Value) -> Value {
+fn recalled(value: Value) -> Value
+    ensures { result ≡ record { source = value.source; known = full } }
+{
     Value {
         source: value.source,
         known: FULL,

@@ -11,7 +11,7 @@ ghost use Rattle.tpw_occam_core.specs.declared.kind.Kind.TheVariants.{Byte};
 ghost use Rattle.tpw_occam_code.specs.Leading.{Does, HasArray, HasWord};
 ghost use Rattle.tpw_occam_code.specs.declared.items.Item.TheVariants.{Variable};
 ghost use Rattle.tpw_occam_code.specs.Agreement.{fact_at, constant_in};
-ghost use Rattle.tpw_occam_code.specs.Computing.{ComputesTo, IsKnownOf, IsConstantBelow, IsByteVariable, subscript_value};
+ghost use Rattle.tpw_occam_code.specs.Computing.{ComputesTo, IsKnownOf, IsConstantBelow, IsByteVariable, IsFixed, subscript_value};
 ghost use Rattle.tpw_occam_code.specs.Values.{Answers, Holds, HasNumber, HasAddress, Replaces, PushesAlone, IsAtElement, scaled};
 
 use crate::code::{Code, Step};
@@ -341,7 +341,9 @@ impl Emitter<'_> {
     }
 
     /// The constant subscript of a word, or of the first byte of a word, that there is.
-    pub(crate) fn fixed_subscript(&self, array: usize, kind: Kind, e: &Expression) -> Option<u32> {
+    pub(crate) fn fixed_subscript(&self, array: usize, kind: Kind, e: &Expression) -> Option<u32>
+        ensures { IfSome result (λ c. IsFixed self.now array kind e.now c) }
+    {
         let c = self.constant_of(e)?;
         if c >= self.elements(array, kind) || (kind == Kind::Byte && c % 4 != 0) {
             return None;

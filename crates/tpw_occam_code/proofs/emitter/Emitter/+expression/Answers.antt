@@ -1,6 +1,12 @@
-use Rattle.std.proofs.Common.{rules, ◌≡◌, ◌≤◌, ℕ, false, IfOk, OnOk, IsTrue, ◌+◌, ◌-◌, ◌*◌, ◌<◌, length, ◌/◌, ◌%◌, Bool, true, nat_eq, nat_lt, List, [], ◌∷◌, ◌++◌, slice_index_or, slice_set, bit_and, bit_or, Fits, w8, w32, w64, Bor, MutBor}
+use Rattle.std.proofs.Common.{◌≡◌, ◌≤◌, ◌<◌, ℕ, ◌+◌, ◌-◌, ◌*◌, ◌^◌, Bool, true, false, List, [], ◌∷◌, ◌++◌, Some, None, OnOk, IfOk, refl, ap, sym, subst, ◌∙◌, arith}
+use Rattle.std.specs.Bool.{IsTrue}
+use Rattle.std.proofs.lemmas.Result.{on_ok_weaker, IfOk-weaker}
 use Rattle.tpw_occam_core.specs.Meaning.{value_of}
-use Rattle.tpw_occam_code.specs.Computing.{ComputesBoth, ComputesTo, ComputesTwo, IsKnownOfBoth, IsKnownOf, IsNoShift, HasImmediate, IsSimplePair, has_immediate, subscript_value, applied_value, applied_last, applied_first}
+use Rattle.tpw_occam_code.specs.Computing.{Computes, ComputesBoth, ComputesTo, ComputesTwo, IsKnown, IsKnownOfBoth, IsKnownOf, IsNoShift, HasImmediate, IsSimplePair, has_immediate, subscript_value, applied_value, applied_last, applied_first, inverse_of, IsFixed, IsConstantBelow}
+use Rattle.tpw_occam_code.specs.Code.{followed_by, line_of}
+use Rattle.tpw_occam_code.specs.declared.code.Step.TheVariants.{Load, Store as StoreTo}
+use Rattle.tpw_occam_code.proofs.Constructs.{constant_computes, checked_computes, checked_known, low_byte_computes, low_byte_known, complement_computes, complement_known, binary_computes, binary_known, element_computes, element_known, fixed_computes, constant_subscript_computes, constant_subscript_known, settled_computes, settled_known, byte_computes, byte_known, last_computes, last_known, not_computes}
+use Rattle.tpw_occam_code.proofs.TwoOperands.{suffices_above, in_order_computes, changed_computes, reversed_computes, kept_computes, kept_reversed_computes, suffices_count, may_change, recalled_holds}
 use Rattle.tpw_occam_code.proofs.emitter.Emitter.+expression.Goals as goal
 
 -- src/operands.rt:45:13
@@ -49,7 +55,11 @@ constant_first-returns-clause-computes t c = ?
 
 -- src/expressions.rt:70:21
 pub expression-returns-in-Some-clause-computes : goal.expression-returns-in-Some-clause-computes
-expression-returns-in-Some-clause-computes t c = ?
+expression-returns-in-Some-clause-computes t c =
+    on_ok_weaker c.fixed_element.result (λ makes.
+    rw c.in-Element.is (fixed_computes c.args.self.now c.args.code.now c.fixed_element.new.code c.in-Element.array c.in-Element.kind _ c.in-Element.subscript.value c.in-Some.c c.args.room.registers c.args.room.kept
+    (subst (λ e. IsFixed c.args.self.now c.in-Element.array c.in-Element.kind e c.in-Some.c) c.deref.ensures c.in-Some.ensures) makes))
+    c.fixed_element.ensures.makes
 
 -- src/expressions.rt:73:21
 pub expression-returns-in-Some-offset_subscript-clause-computes :
@@ -64,56 +74,102 @@ expression-returns-in-Some-offset_subscript-clause-known t c = ?
 -- src/expressions.rt:49:5
 pub expression-returns-in-Constant-clause-computes :
     goal.expression-returns-in-Constant-clause-computes
-expression-returns-in-Constant-clause-computes t c = ?
+expression-returns-in-Constant-clause-computes t c =
+    on_ok_weaker c.number.result (λ makes.
+    rw c.in-Constant.is (constant_computes c.args.self.now c.args.code.now c.number.new.code c.in-Constant.c c.args.room.registers c.args.room.kept makes)) c.number.ensures.makes
 
 -- src/expressions.rt:49:5
 pub expression-returns-in-Variable-clause-computes :
     goal.expression-returns-in-Variable-clause-computes
-expression-returns-in-Variable-clause-computes t c = ?
+expression-returns-in-Variable-clause-computes t c =
+    on_ok_weaker c.name.result (λ computes. rw c.in-Variable.is (computes c.args.room.registers c.args.room.kept)) c.name.ensures.computes
 
 -- src/expressions.rt:49:5
 pub expression-returns-in_ok-subscript-in-Element-clause-computes :
     goal.expression-returns-in_ok-subscript-in-Element-clause-computes
-expression-returns-in_ok-subscript-in-Element-clause-computes t c = ?
+expression-returns-in_ok-subscript-in-Element-clause-computes t c =
+    on_ok_weaker c.indexed_element.result (λ makes.
+    rw c.in-Element.is (element_computes c.args.self.now c.args.code.now c.subscript.new.code c.indexed_element.new.code c.in-Element.array c.in-Element.kind _ c.in-Element.subscript.value
+    c.elements.result c.args.room.registers c.args.room.kept c.elements.ensures
+    (subst (λ e. 0 < c.elements.result → c.elements.result ≤ 2 ^ 31 → (c.args.room.registers ≤ 1 → IsConstantBelow c.args.self.now e c.elements.result)
+    → ComputesTo c.args.self.now c.args.code.now c.subscript.new.code e (subscript_value e c.elements.result) c.args.room.registers c.args.room.kept) c.deref-in-Element-2.ensures c.in_ok-subscript-in-Element.ensures.computes)
+    makes)) c.indexed_element.ensures.makes
 
 -- src/expressions.rt:49:5
 pub expression-returns-in_ok-value-in-Checked-clause-computes :
     goal.expression-returns-in_ok-value-in-Checked-clause-computes
-expression-returns-in_ok-value-in-Checked-clause-computes t c = ?
+expression-returns-in_ok-value-in-Checked-clause-computes t c =
+    on_ok_weaker c.checked.result (λ makes.
+    rw c.in-Checked.is (checked_computes c.args.self.now c.args.code.now c.expression.new.code c.checked.new.code c.in-Checked.below _ c.in-Checked.subscript.value
+    c.in_ok-value-in-Checked.value c.args.room.registers c.args.room.kept
+    (subst (λ e. Computes c.args.self.now c.args.code.now c.expression.new.code e c.args.room.registers c.args.room.kept) c.deref-in-Checked.ensures c.in_ok-value-in-Checked.ensures.computes)
+    (subst (λ e. IsKnown c.args.self.now e c.in_ok-value-in-Checked.value) c.deref-in-Checked.ensures c.in_ok-value-in-Checked.ensures.known) makes))
+    c.checked.ensures.makes
 
 -- src/expressions.rt:49:5
 pub expression-returns-in_ok-value-in-Checked-clause-known :
     goal.expression-returns-in_ok-value-in-Checked-clause-known
-expression-returns-in_ok-value-in-Checked-clause-known t c = ?
+expression-returns-in_ok-value-in-Checked-clause-known t c =
+    IfOk-weaker c.checked.result _ _ (λ made holds.
+    rw c.in-Checked.is (checked_known c.args.self.now c.in-Checked.below _ c.in-Checked.subscript.value c.in_ok-value-in-Checked.value made
+    (subst (λ e. IsKnown c.args.self.now e c.in_ok-value-in-Checked.value) c.deref-in-Checked.ensures c.in_ok-value-in-Checked.ensures.known) holds))
+    c.checked.ensures.holds
 
 -- src/expressions.rt:49:5
 pub expression-returns-in-Binary-clause-computes :
     goal.expression-returns-in-Binary-clause-computes
-expression-returns-in-Binary-clause-computes t c = ?
+expression-returns-in-Binary-clause-computes t c =
+    on_ok_weaker c.binary.result (λ both.
+    rw c.in-Binary.is (binary_computes c.args.self.now c.args.code.now c.binary.new.code c.in-Binary.operator _ c.in-Binary.left.value _ c.in-Binary.right.value c.args.room.registers c.args.room.kept
+    (subst (λ f. (c.args.room.registers ≤ 1 → IsSimplePair c.args.self.now c.in-Binary.operator c.in-Binary.left.value f)
+    → ComputesBoth c.args.self.now c.args.code.now c.binary.new.code c.in-Binary.left.value f (applied_value c.in-Binary.operator c.in-Binary.left.value f) c.args.room.registers c.args.room.kept) c.deref-in-Binary-2.ensures
+    (subst (λ e. (c.args.room.registers ≤ 1 → IsSimplePair c.args.self.now c.in-Binary.operator e c.deref-in-Binary-2.result.now)
+    → ComputesBoth c.args.self.now c.args.code.now c.binary.new.code e c.deref-in-Binary-2.result.now (applied_value c.in-Binary.operator e c.deref-in-Binary-2.result.now) c.args.room.registers c.args.room.kept)
+    c.deref-in-Binary.ensures both)))) c.binary.ensures.computes
 
 -- src/expressions.rt:49:5
 pub expression-returns-in_ok-instr-in-Complement-clause-computes :
     goal.expression-returns-in_ok-instr-in-Complement-clause-computes
-expression-returns-in_ok-instr-in-Complement-clause-computes t c = ?
+expression-returns-in_ok-instr-in-Complement-clause-computes t c =
+    rw c.in-Complement.is (complement_computes c.args.self.now c.args.code.now c.expression-in-Complement.new.code c.instr.new.self c.args.room.line _ c.in-Complement.e.value c.args.room.registers c.args.room.kept
+    (subst (λ e. Computes c.args.self.now c.args.code.now c.expression-in-Complement.new.code e c.args.room.registers c.args.room.kept) c.deref-in-Complement.ensures c.in_ok-value-in-Complement.ensures.computes)
+    c.in_ok-instr-in-Complement.ensures)
 
 -- src/expressions.rt:49:5
 pub expression-returns-in_ok-instr-in-Complement-clause-known :
     goal.expression-returns-in_ok-instr-in-Complement-clause-known
-expression-returns-in_ok-instr-in-Complement-clause-known t c = ?
+expression-returns-in_ok-instr-in-Complement-clause-known t c =
+    rw c.in-Complement.is (complement_known c.args.self.now _ c.in-Complement.e.value c.in_ok-value-in-Complement.value c.complement.result
+    (subst (λ e. IsKnown c.args.self.now e c.in_ok-value-in-Complement.value) c.deref-in-Complement.ensures c.in_ok-value-in-Complement.ensures.known)
+    ? ?)
 
 -- src/expressions.rt:49:5
 pub expression-returns-in-Not-clause-computes : goal.expression-returns-in-Not-clause-computes
-expression-returns-in-Not-clause-computes t c = ?
+expression-returns-in-Not-clause-computes t c =
+    on_ok_weaker c.inverted.result (λ computes.
+    rw c.in-Not.is (not_computes c.args.self.now c.args.code.now c.inverted.new.code _ c.in-Not.e.value c.args.room.registers c.args.room.kept
+    (subst (λ e. ComputesTo c.args.self.now c.args.code.now c.inverted.new.code e (inverse_of e) c.args.room.registers c.args.room.kept) c.deref-in-Not.ensures computes)))
+    c.inverted.ensures.computes
 
 -- src/expressions.rt:49:5
 pub expression-returns-in_ok-value-in-LowByte-clause-computes :
     goal.expression-returns-in_ok-value-in-LowByte-clause-computes
-expression-returns-in_ok-value-in-LowByte-clause-computes t c = ?
+expression-returns-in_ok-value-in-LowByte-clause-computes t c =
+    on_ok_weaker c.checked-in-LowByte.result (λ makes.
+    rw c.in-LowByte.is (low_byte_computes c.args.self.now c.args.code.now c.expression-in-LowByte.new.code c.checked-in-LowByte.new.code _ c.in-LowByte.e.value
+    c.in_ok-value-in-LowByte.value c.args.room.registers c.args.room.kept
+    (subst (λ e. Computes c.args.self.now c.args.code.now c.expression-in-LowByte.new.code e c.args.room.registers c.args.room.kept) c.deref-in-LowByte.ensures c.in_ok-value-in-LowByte.ensures.computes)
+    (subst (λ e. IsKnown c.args.self.now e c.in_ok-value-in-LowByte.value) c.deref-in-LowByte.ensures c.in_ok-value-in-LowByte.ensures.known) makes))
+    c.checked-in-LowByte.ensures.makes
 
 -- src/expressions.rt:49:5
 pub expression-returns-in_ok-value-in-LowByte-clause-known :
     goal.expression-returns-in_ok-value-in-LowByte-clause-known
-expression-returns-in_ok-value-in-LowByte-clause-known t c = ?
+expression-returns-in_ok-value-in-LowByte-clause-known t c =
+    IfOk-weaker c.checked-in-LowByte.result _ _ (λ made holds.
+    rw c.in-LowByte.is (low_byte_known c.args.self.now _ c.in-LowByte.e.value c.in_ok-value-in-LowByte.value made
+    (subst (λ e. IsKnown c.args.self.now e c.in_ok-value-in-LowByte.value) c.deref-in-LowByte.ensures c.in_ok-value-in-LowByte.ensures.known) holds))
+    c.checked-in-LowByte.ensures.holds
 
 -- src/expressions.rt:49:5
 pub expression-returns-in_ok-branch-in-And-clause-computes :
@@ -202,30 +258,62 @@ inverted-returns t c = ?
 -- src/operands.rt:144:13
 pub operands-returns-then-need-room-clause-computes :
     goal.operands-returns-then-need-room-clause-computes
-operands-returns-then-need-room-clause-computes t c = ?
+operands-returns-then-need-room-clause-computes t c =
+    in_order_computes c.args.self.now c.expression.new.self c.args.code.now c.expression.new.code c.expression-then-need-room.new.code c.args.left.now c.args.right.now
+    (value_of c.args.left.now) (value_of c.args.right.now) c.args.commute c.args.room.registers c.args.room.kept c.in_ok-b.ensures.knowledge c.in_ok-b.ensures.computes
+    (subst (λ r. Computes c.expression.new.self c.expression.new.code c.expression-then-need-room.new.code c.args.right.now r.registers r.kept)
+    c.above.ensures c.in_ok-a.ensures.computes)
+    (suffices_above c.args.self.now c.args.room.registers c.need.result c.args.right.now c.need.ensures.least c.need.ensures.simple c.if-need-room.true)
 
 -- src/operands.rt:152:13
 pub operands-returns-in_ok-instr-clause-computes :
     goal.operands-returns-in_ok-instr-clause-computes
-operands-returns-in_ok-instr-clause-computes t c = ?
+operands-returns-in_ok-instr-clause-computes t c =
+    reversed_computes c.args.self.now c.expression-then-need-room-2.new.self c.args.code.now c.expression-then-need-room-2.new.code c.expression-then-need-room-2-2.new.code c.instr.new.self
+    c.args.room.line c.args.left.now c.args.right.now
+    (value_of c.args.left.now) (value_of c.args.right.now) c.args.commute c.args.room.registers c.args.room.kept c.in_ok-a-2.ensures.knowledge c.in_ok-a-2.ensures.computes
+    (subst (λ r. Computes c.expression-then-need-room-2.new.self c.expression-then-need-room-2.new.code c.expression-then-need-room-2-2.new.code c.args.left.now r.registers r.kept)
+    c.above-then-need-room-2.ensures c.in_ok-b-2.ensures.computes)
+    (suffices_above c.args.self.now c.args.room.registers c.need-2.result c.args.left.now c.need-2.ensures.least c.need-2.ensures.simple c.if-need-room-2.true)
+    c.in_ok-instr.ensures
 
 -- src/operands.rt:152:13
 pub operands-returns-else-not-commute-clause-computes :
     goal.operands-returns-else-not-commute-clause-computes
-operands-returns-else-not-commute-clause-computes t c = ?
+operands-returns-else-not-commute-clause-computes t c =
+    changed_computes c.args.self.now c.expression-then-need-room-2.new.self c.args.code.now c.expression-then-need-room-2.new.code c.expression-then-need-room-2-2.new.code
+    c.args.left.now c.args.right.now
+    (value_of c.args.left.now) (value_of c.args.right.now) c.args.commute c.args.room.registers c.args.room.kept c.in_ok-a-2.ensures.knowledge (may_change c.args.commute c.if-not-commute.false)
+    c.in_ok-a-2.ensures.computes
+    (subst (λ r. Computes c.expression-then-need-room-2.new.self c.expression-then-need-room-2.new.code c.expression-then-need-room-2-2.new.code c.args.left.now r.registers r.kept)
+    c.above-then-need-room-2.ensures c.in_ok-b-2.ensures.computes)
+    (suffices_above c.args.self.now c.args.room.registers c.need-2.result c.args.left.now c.need-2.ensures.least c.need-2.ensures.simple c.if-need-room-2.true)
 
 -- src/operands.rt:126:5
 pub operands-returns-clause-computes : goal.operands-returns-clause-computes
-operands-returns-clause-computes t c = ?
+operands-returns-clause-computes t c =
+    kept_computes c.args.self.now c.expression-2.new.self c.args.code.now c.expression-2.new.code c.emit.new.self c.expression-3.new.code c.emit-2.new.self c.args.room.line
+    c.args.left.now c.args.right.now (value_of c.args.left.now) (value_of c.args.right.now) c.args.commute c.args.room.registers c.args.room.kept c.in_ok-a-3.ensures.knowledge
+    c.in_ok-a-3.ensures.computes (λ storages scope unset s place stands knows. (c.in_ok-a-3.ensures.known storages scope unset s place stands knows).small)
+    (c.in_ok-emit.ensures ∙ ap (λ i. followed_by c.expression-2.new.code (line_of c.args.room.line (StoreTo i 0) ∷ [])) c.word.ensures)
+    (subst (λ r. Computes c.expression-2.new.self c.emit.new.self c.expression-3.new.code c.args.left.now r.registers r.kept) c.in_ok-beside.ensures c.in_ok-b-3.ensures.computes)
+    (c.in_ok-emit-2.ensures ∙ ap (λ i. followed_by c.expression-3.new.code (line_of c.args.room.line (Load i 0) ∷ [])) c.word-2.ensures)
 
 -- src/operands.rt:126:5
 pub operands-returns-clause-right : goal.operands-returns-clause-right
-operands-returns-clause-right t c = ?
+operands-returns-clause-right t c =
+    λ storages scope unset s place stands knows.
+    recalled_holds c.in_ok-a-3.a c.recalled.result (value_of c.args.right.now s).word c.recalled.ensures
+    (c.in_ok-a-3.ensures.known storages scope unset s place stands knows)
 
 -- src/operands.rt:180:13
 pub shifted-returns-then-need_of_count-room-clause-computes :
     goal.shifted-returns-then-need_of_count-room-clause-computes
-shifted-returns-then-need_of_count-room-clause-computes t c = ?
+shifted-returns-then-need_of_count-room-clause-computes t c =
+    in_order_computes c.args.self.now c.expression.new.self c.args.code.now c.expression.new.code c.subscript.new.code c.args.left.now c.args.count.now
+    (value_of c.args.left.now) (subscript_value c.args.count.now 32) false c.args.room.registers c.args.room.kept c.in_ok-b.ensures.knowledge c.in_ok-b.ensures.computes
+    ?
+    (suffices_count c.args.self.now c.args.room.registers c.need_of_count.result c.args.count.now c.need_of_count.ensures.least c.need_of_count.ensures.constant c.if-need_of_count-room.true)
 
 -- src/operands.rt:186:13
 pub shifted-returns-then-need-room-clause-computes :
@@ -238,38 +326,62 @@ shifted-returns-clause-computes t c = ?
 
 -- src/operands.rt:163:5
 pub shifted-returns-clause-left : goal.shifted-returns-clause-left
-shifted-returns-clause-left t c = ?
+shifted-returns-clause-left t c =
+    λ storages scope unset s place stands knows.
+    recalled_holds c.in_ok-b-3.b c.recalled.result (value_of c.args.left.now s).word c.recalled.ensures
+    (c.in_ok-b-3.ensures.known storages scope unset s place stands knows)
 
 -- src/subscripts.rt:333:13
 pub subscript-returns-in-Some-clause-computes : goal.subscript-returns-in-Some-clause-computes
-subscript-returns-in-Some-clause-computes t c = ?
+subscript-returns-in-Some-clause-computes t c =
+    on_ok_weaker c.number.result (λ makes positive small enough.
+    constant_subscript_computes c.args.self.now c.args.code.now c.number.new.code c.args.e.now c.args.size c.in-Some.c c.args.room.registers c.args.room.kept c.in-Some.ensures.some makes) c.number.ensures.makes
 
 -- src/subscripts.rt:333:13
 pub subscript-returns-in-Some-clause-known : goal.subscript-returns-in-Some-clause-known
-subscript-returns-in-Some-clause-known t c = ?
+subscript-returns-in-Some-clause-known t c =
+    IfOk-weaker c.number.result _ _ (λ value holds positive small.
+    constant_subscript_known c.args.self.now c.args.e.now c.args.size c.in-Some.c value c.in-Some.ensures.some holds) c.number.ensures.holds
 
 -- src/subscripts.rt:337:13
 pub subscript-returns-in-Some-byte_variable-clause-computes :
     goal.subscript-returns-in-Some-byte_variable-clause-computes
-subscript-returns-in-Some-byte_variable-clause-computes t c = ?
+subscript-returns-in-Some-byte_variable-clause-computes t c =
+    on_ok_weaker c.settled.result (λ makes positive small enough.
+    settled_computes c.args.self.now c.args.code.now c.push_byte.new.code c.settled.new.code c.args.e.now c.in_ok-value.value c.args.size c.args.room.registers c.args.room.kept
+    (byte_computes c.args.self.now c.args.code.now c.push_byte.new.code c.args.e.now c.in-Some-byte_variable.x c.args.room.registers c.args.room.kept c.in-Some-byte_variable.ensures c.in_ok-value.ensures.makes)
+    (byte_known c.args.self.now c.args.e.now c.in-Some-byte_variable.x c.in_ok-value.value c.in-Some-byte_variable.ensures c.in_ok-value.ensures.holds)
+    ? makes positive small enough) c.settled.ensures.makes
 
 -- src/subscripts.rt:337:13
 pub subscript-returns-in-Some-byte_variable-clause-known :
     goal.subscript-returns-in-Some-byte_variable-clause-known
-subscript-returns-in-Some-byte_variable-clause-known t c = ?
+subscript-returns-in-Some-byte_variable-clause-known t c =
+    IfOk-weaker c.settled.result _ _ (λ made holds positive small.
+    settled_known c.args.self.now c.args.e.now c.args.size c.in_ok-value.value made
+    (byte_known c.args.self.now c.args.e.now c.in-Some-byte_variable.x c.in_ok-value.value c.in-Some-byte_variable.ensures c.in_ok-value.ensures.holds)
+    holds positive small) c.settled.ensures.holds
 
 -- src/subscripts.rt:318:5
 pub subscript-returns-clause-computes : goal.subscript-returns-clause-computes
-subscript-returns-clause-computes t c = ?
+subscript-returns-clause-computes t c =
+    on_ok_weaker c.settled-2.result (λ makes positive small enough.
+    settled_computes c.args.self.now c.args.code.now c.expression.new.code c.settled-2.new.code c.args.e.now c.in_ok-value-2.value c.args.size c.args.room.registers c.args.room.kept
+    c.in_ok-value-2.ensures.computes c.in_ok-value-2.ensures.known ? makes positive small enough) c.settled-2.ensures.makes
 
 -- src/subscripts.rt:318:5
 pub subscript-returns-clause-known : goal.subscript-returns-clause-known
-subscript-returns-clause-known t c = ?
+subscript-returns-clause-known t c =
+    IfOk-weaker c.settled-2.result _ _ (λ made holds positive small.
+    settled_known c.args.self.now c.args.e.now c.args.size c.in_ok-value-2.value made c.in_ok-value-2.ensures.known holds positive small) c.settled-2.ensures.holds
 
 -- src/operands.rt:81:5
 pub with_constant-returns-clause-computes : goal.with_constant-returns-clause-computes
-with_constant-returns-clause-computes t c = ?
+with_constant-returns-clause-computes t c =
+    ?
 
 -- src/operands.rt:81:5
 pub with_constant-returns-clause-known : goal.with_constant-returns-clause-known
-with_constant-returns-clause-known t c = ?
+with_constant-returns-clause-known t c =
+    IfOk-weaker c.apply_constant.result _ _ (λ made holds.
+    last_known c.args.self.now c.args.operator c.args.left.now c.in_ok-b.b made c.args.c c.in_ok-b.ensures.known holds) c.apply_constant.ensures.holds
