@@ -2,6 +2,7 @@
 use Rattle.std.proofs.Common.{◌≡◌, ◌⊎◌, inl, inr, ◌+◌, ◌*◌, ◌/◌, ◌%◌, ◌^◌, ◌≤◌, ◌<◌, [], ◌∷◌, ◌++◌, ℕ, zero, suc, List, length, map, Option, Some, None, Bool, false, true, refl, ap, sym, subst, ◌∙◌, arith, w32}
 use Rattle.std.specs.Prelude.{slice_index, ◌||◌, ◌&&◌, ◌==◌, IsTrue, pos}
 use Rattle.std.specs.List.{list_any}
+use Rattle.std.specs.Option.{option_map_or}
 use Rattle.std.proofs.Math.Bool.{or_assoc, or-false}
 use Rattle.std.proofs.Math.Pow.{mod-mod-pow}
 use Rattle.std.proofs.lemmas.Bool.{cases_lt, lt-ltb, le-ltb, eqb-true}
@@ -29,7 +30,7 @@ use Rattle.tpw_occam_code.specs.Ranges.{Contains, ContainsAllOf, from_to}
 use Rattle.tpw_occam_code.specs.Leading.{Does, HasConstants, HasArray, HasWord, Makes}
 use Rattle.tpw_occam_code.specs.Values.{Holds, HasNumber, Replaces, Pushes, PushesAlone, Answers}
 use Rattle.tpw_occam_code.specs.Agreement.{Knowledge, elements_of, constant_in, fact_at, Knows, Agrees, LeavesItems}
-use Rattle.tpw_occam_code.specs.Computing.{IsPlace, MayStand, Suffices, Computes, ComputesTo, ComputesBoth, IsKnown, IsKnownOf, IsKnownOfBoth, is_simple, inverse_of, subscript_value, applied_value, applied_last, applied_first, IsConstantBelow, IsByteVariable, IsSimplePair, HasImmediate, IsNoShift, IsFixed, has_immediate}
+use Rattle.tpw_occam_code.specs.Computing.{IsPlace, MayStand, Suffices, Computes, ComputesTo, ComputesBoth, IsKnown, IsKnownOf, IsKnownOfBoth, is_simple, inverse_of, subscript_value, applied_value, applied_last, applied_first, IsConstantBelow, IsByteVariable, IsSimplePair, HasImmediate, IsNoShift, IsFixed, has_immediate, is_immediate}
 use Rattle.tpw_occam_code.proofs.Leading.{does_both, does_less, does_step}
 use Rattle.std.proofs.lemmas.Option.{same_Some}
 use Rattle.tpw_occam_code.proofs.Indexing.{subscript_below, subscript_word_below, byte_small}
@@ -158,13 +159,10 @@ complement_computes k old between new source p e registers kept computes is =
     ))
 
 pub complement_known : (k : Knowledge) (p : Place) (e : Expression) (value made : Value) → IsKnown k e value
-    → ((word : ℕ) → word < 2 ^ 32 → Contains value.source word → Contains made.source (complement word))
-    → ((word : ℕ) → word < 2 ^ 32 → Contains value.known word → Contains made.known (complement word))
+    → ((word : ℕ) → Holds value word → Holds made (complement word))
     → IsKnown k (Complement' p e) made
-complement_known k p e value made known source said storages scope unset s place stands knows =
-    let holds = known storages scope unset s place (stand_complement k storages scope unset p e stands) knows in
-    let word = (value_of e s).word in
-    record { small = complement_small word; source = source word holds.small holds.source; known = said word holds.small holds.known }
+complement_known k p e value made known holds storages scope unset s place stands knows =
+    holds (value_of e s).word (known storages scope unset s place (stand_complement k storages scope unset p e stands) knows)
 
 -- ---- an operator
 
@@ -310,7 +308,7 @@ constant_subscript_known k e size c value is holds storages scope unset s place 
     subst (λ a. Holds value a.word) made holds
 
 -- an expression that is no constant below the size needs two registers for a check
-not_constant : (k : Knowledge) (e : Expression) (size registers : ℕ) → (IsConstantBelow k e size → ⊥) → (registers ≤ 1 → IsConstantBelow k e size)
+pub not_constant : (k : Knowledge) (e : Expression) (size registers : ℕ) → (IsConstantBelow k e size → ⊥) → (registers ≤ 1 → IsConstantBelow k e size)
     → 2 ≤ registers
 not_constant k e size registers none enough = by_number (cases_lt 1 registers)
   where
@@ -319,14 +317,13 @@ not_constant k e size registers none enough = by_number (cases_lt 1 registers)
     by_number (inr one) = absurd (none (enough one))
 
 pub settled_computes : (k : Knowledge) (old between new : Lines) (e : Expression) (value : Value) (size registers kept : ℕ)
-    → Computes k old between e registers kept → IsKnown k e value → (IsConstantBelow k e size → ⊥)
+    → Computes k old between e registers kept → IsKnown k e value
     → ((i : ℕ) → Holds value i → 0 < size → size ≤ 2 ^ 31 → Answers between new 2 i (subscript size i))
-    → 0 < size → size ≤ 2 ^ 31 → (registers ≤ 1 → IsConstantBelow k e size)
+    → 0 < size → size ≤ 2 ^ 31 → 2 ≤ registers
     → ComputesTo k old new e (subscript_value e size) registers kept
-settled_computes k old between new e value size registers kept computes known none makes positive small enough =
+settled_computes k old between new e value size registers kept computes known makes positive small two =
     computes_then k old between new e e (value_of e) (subscript size) registers 2 kept computes
     (λ storages scope unset s place stands suffices knows.
-        let two = not_constant k e size registers none enough in
         (stands, suffices,
         goes_by k scope unset s between new registers 2 (value_of e s) (subscript size (value_of e s).word) two
         (makes (value_of e s).word (known storages scope unset s place stands knows) positive small)))
@@ -392,3 +389,64 @@ pub not_computes : (k : Knowledge) (old new : Lines) (p : Place) (e : Expression
 not_computes k old new p e registers kept computes storages scope unset s place stands suffices knows =
     computes storages scope unset s place (stand_not k storages scope unset p e stands)
     (suffices_part k registers (Not' p e) e (λ simple. simple) suffices) knows
+
+-- ---- an operator of which an operand is a constant
+
+immediate_of_constant : (k : Knowledge) (operator : Operator) (e : Expression) (c : ℕ) → constant_in k e ≡ Some c → is_immediate k operator e ≡ true
+    → has_immediate operator c ≡ true
+immediate_of_constant k operator e c is h = sym (ap (λ o. option_map_or (has_immediate operator) o false) is) ∙ h
+
+pub right_constant_computes : (k : Knowledge) (old new : Lines) (operator : Operator) (left right : Expression) (c registers kept : ℕ)
+    → constant_in k right ≡ Some c
+    → (IsNoShift operator → (registers ≤ 1 → IsTrue (has_immediate operator c)) → ComputesTo k old new left (applied_last operator left c) registers kept)
+    → IsNoShift operator → (registers ≤ 1 → HasImmediate k operator left right)
+    → ComputesBoth k old new left right (applied_value operator left right) registers kept
+right_constant_computes k old new operator left right c registers kept is computes unshifted enough storages scope unset s place one two least most knows =
+    let value : value_of right s ≡ plain c = constant_value k storages scope unset s right c two knows is in
+    let made : applied_last operator left c s ≡ applied_value operator left right s =
+        ap (λ v. followed (value_of left s) (λ b. followed v (applied operator b))) (sym value) in
+    does_less k.arrays old new _ _ _ _
+    (computes unshifted (λ h. immediate_of_constant k operator right c is (and_first _ _ (enough h))) storages scope unset s place one
+    (record { least = least; most = most; simple = λ h. and_second _ _ (enough h) }) knows)
+    (λ m said. said)
+    (λ m end said after. subst (λ x. Pushes registers x m end × LeavesItems scope kept m end) made after)
+
+pub right_constant_known : (k : Knowledge) (operator : Operator) (left right : Expression) (c : ℕ) (value : Value) → constant_in k right ≡ Some c
+    → IsKnownOf k left (applied_last operator left c) value → IsKnownOfBoth k left right (applied_value operator left right) value
+right_constant_known k operator left right c value is known storages scope unset s place one two knows =
+    let same : value_of right s ≡ plain c = constant_value k storages scope unset s right c two knows is in
+    subst (λ v. Holds value (followed (value_of left s) (λ b. followed v (applied operator b))).word) (sym same)
+    (known storages scope unset s place one knows)
+
+-- where the right operand is no constant, one register is not enough
+pub no_immediate : (k : Knowledge) (operator : Operator) (left right : Expression) (registers : ℕ) → constant_in k right ≡ None
+    → (registers ≤ 1 → HasImmediate k operator left right) → 2 ≤ registers
+no_immediate k operator left right registers none enough = by_number (cases_lt 1 registers)
+  where
+    false_true : ◌≡◌ {A = Bool} false true → ⊥
+    false_true e = cc
+    by_number : (1 < registers) ⊎ (registers ≤ 1) → 2 ≤ registers
+    by_number (inl more) = more
+    by_number (inr one) = absurd (false_true (sym (ap (λ o. option_map_or (has_immediate operator) o false) none) ∙ and_first _ _ (enough one)))
+
+pub left_constant_computes : (k : Knowledge) (old new : Lines) (operator : Operator) (left right : Expression) (c registers kept : ℕ)
+    → constant_in k left ≡ Some c → constant_in k right ≡ None
+    → (IsNoShift operator → 2 ≤ registers → ComputesTo k old new right (applied_first operator c right) registers kept)
+    → IsNoShift operator → (registers ≤ 1 → HasImmediate k operator left right)
+    → ComputesBoth k old new left right (applied_value operator left right) registers kept
+left_constant_computes k old new operator left right c registers kept is none computes unshifted enough storages scope unset s place one two least most knows =
+    let more = no_immediate k operator left right registers none enough in
+    let value : value_of left s ≡ plain c = constant_value k storages scope unset s left c one knows is in
+    let made : applied_first operator c right s ≡ applied_value operator left right s =
+        ap (λ v. followed v (λ b. followed (value_of right s) (applied operator b))) (sym value) in
+    does_less k.arrays old new _ _ _ _
+    (computes unshifted more storages scope unset s place two (suffices_two k registers right more most) knows)
+    (λ m said. said)
+    (λ m end said after. subst (λ x. Pushes registers x m end × LeavesItems scope kept m end) made after)
+
+pub left_constant_known : (k : Knowledge) (operator : Operator) (left right : Expression) (c : ℕ) (value : Value) → constant_in k left ≡ Some c
+    → IsKnownOf k right (applied_first operator c right) value → IsKnownOfBoth k left right (applied_value operator left right) value
+left_constant_known k operator left right c value is known storages scope unset s place one two knows =
+    let same : value_of left s ≡ plain c = constant_value k storages scope unset s left c one knows is in
+    subst (λ v. Holds value (followed v (λ b. followed (value_of right s) (applied operator b))).word) (sym same)
+    (known storages scope unset s place two knows)

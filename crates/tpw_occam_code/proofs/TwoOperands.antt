@@ -12,7 +12,15 @@ use Rattle.tpw_occam_core.specs.declared.expression.Operator.{Operator}
 use Rattle.tpw_occam_core.specs.declared.expression.Expression.{Expression}
 use Rattle.tpw_occam_core.specs.declared.expression.Expression.TheVariants as expression
 use Rattle.tpw_occam_code.proofs.Standing.{suffices_two}
-use Rattle.tpw_occam_core.specs.Arithmetic.{answer, plain, applied}
+use Rattle.std.specs.Prelude.{pos, ◌==◌}
+use Rattle.std.proofs.Math.IntN.{+ℤ_comm, *ℤ_comm}
+use Rattle.std.proofs.lemmas.Nat.{and_comm, or_comm as bits_or_comm, xor_comm}
+use Rattle.std.proofs.Common.{nat_eq}
+use Rattle.std.proofs.lemmas.Bool.Decides.{nat_tests}
+use Rattle.tp_decode.specs.Words.{signed}
+use Rattle.tp_step.specs.Numbers.{truth}
+use Rattle.tpw_occam_core.specs.declared.expression.Operator.TheVariants as operators
+use Rattle.tpw_occam_core.specs.Arithmetic.{answer, plain, checked, wrapped, applied}
 use Rattle.tpw_occam_core.specs.Meaning.{Store, followed, value_of}
 use Rattle.tpw_occam_code.specs.declared.items.Item.{Item}
 use Rattle.tpw_occam_code.specs.declared.items.Item.TheVariants as item
@@ -21,9 +29,10 @@ use Rattle.tpw_occam_code.specs.declared.expressions.Value.{Value}
 use Rattle.tpw_occam_code.specs.Code.{Lines, followed_by, line_of, place_behind}
 use Rattle.tpw_occam_code.specs.Symbolic.{Machine, effect, performed, at_place, number, push, set_areg}
 use Rattle.tpw_occam_code.specs.Leading.{Does, IsBefore, Arrives, HasConstants, HasWord, Makes}
-use Rattle.tpw_occam_code.specs.Values.{Holds, HasNumber, HasOperands, Replaces, Pushes, PushesAlone, Answers, answered}
+use Rattle.tpw_occam_code.specs.Values.{Holds, HasCount, HasNumber, HasOperands, Replaces, Pushes, PushesAlone, Answers, answered}
 use Rattle.tpw_occam_code.specs.Agreement.{Knowledge, constant_in, Knows, Agrees, LeavesItems, Stays}
-use Rattle.tpw_occam_code.specs.Computing.{IsPlace, MayStand, Suffices, Computes, ComputesTo, ComputesBoth, ComputesTwo, PushesTwo, IsKnown, IsKnownOf, commutes, applied_value, is_simple, IsConstantBelow}
+use Rattle.tpw_occam_code.specs.Computing.{IsPlace, MayStand, Suffices, Computes, ComputesTo, ComputesBoth, ComputesTwo, PushesTwo, IsKnown, IsKnownOf, commutes, applied_value, is_simple, IsConstantBelow, IsNoShift, IsKnownOfBoth}
+use Rattle.tpw_occam_code.proofs.Answering.{count_of_no_shift}
 use Rattle.tpw_occam_code.proofs.Leading.{does_both, does_less, does_step}
 use Rattle.tpw_occam_code.proofs.Computing.{agrees_after, leaves_then, bytes_same}
 use Rattle.tpw_occam_code.proofs.Keeping.{Saves, does_save, does_recall}
@@ -357,3 +366,48 @@ recalled_holds value recalled word is holds = record {
   source = subst (λ (v : Value). Contains v.source word) (sym is) holds.source;
   known = subst (λ (v : Value). Contains v.known word) (sym is) (full_contains word holds.small);
 }
+
+-- ---- an operator
+
+nat_eq_comm : (b a : ℕ) → nat_eq b a ≡ nat_eq a b
+nat_eq_comm b a = grind (arith, nat_tests)
+
+pub applied_commutes : (operator : Operator) (b a : ℕ) → commutes operator ≡ true → applied operator b a ≡ applied operator a b
+applied_commutes operators.Add b a e = ap checked (+ℤ_comm (signed b) (signed a))
+applied_commutes operators.Multiply b a e = ap checked (*ℤ_comm (signed b) (signed a))
+applied_commutes operators.Plus b a e = ap wrapped (+ℤ_comm (pos b) (pos a))
+applied_commutes operators.Times b a e = ap wrapped (*ℤ_comm (signed b) (signed a))
+applied_commutes operators.BitAnd b a e = ap plain (and_comm b a)
+applied_commutes operators.BitOr b a e = ap plain (bits_or_comm b a)
+applied_commutes operators.BitXor b a e = ap plain (xor_comm b a)
+applied_commutes operators.Equal b a e = ap (λ t. plain (truth t)) (nat_eq_comm b a)
+applied_commutes operator b a e = cc
+
+-- two operands, and what an operator makes of them
+pub applied_computes : (k k1 : Knowledge) (old between new : Lines) (operator : Operator) (left right : Expression) (b a : Value) (may_change : Bool) (registers kept : ℕ)
+    → k1 ≡ k → may_change ≡ commutes operator
+    → ComputesTwo k old between left right (value_of left) (value_of right) may_change registers kept
+    → IsKnown k left b → IsKnown k right a
+    → ((vb va : ℕ) → Holds b vb → Holds a va → HasCount operator va → Makes between new (HasOperands vb va) (answered (applied operator vb va)))
+    → ((vb va : ℕ) → Holds b vb → Holds a va → commutes operator ≡ true → HasCount operator vb → Makes between new (HasOperands va vb) (answered (applied operator vb va)))
+    → IsNoShift operator → 2 ≤ registers
+    → ComputesBoth k old new left right (applied_value operator left right) registers kept
+applied_computes k k1 old between new operator left right b a may_change registers kept same may two left_known right_known makes swapped unshifted more storages scope unset s place one other least most knows =
+    let l = value_of left s in
+    let r = value_of right s in
+    let made = applied operator l.word r.word in
+    let hb = left_known storages scope unset s place one knows in
+    let ha = right_known storages scope unset s place other knows in
+    does_less k.arrays old new _ _ _ _
+    (does_work k scope unset s old between new registers kept l.word r.word (l.flag || r.flag) may_change made more
+    (two storages scope unset s place one other more most knows)
+    (makes l.word r.word hb ha (count_of_no_shift operator r.word unshifted))
+    (λ yes. swapped l.word r.word hb ha (sym may ∙ yes) (count_of_no_shift operator l.word unshifted)))
+    (λ m said. said)
+    (λ m end said after. subst (λ f. Pushes registers (answer made.word f) m end × LeavesItems scope kept m end) (or_assoc l.flag r.flag made.flag) after)
+
+pub applied_known : (k : Knowledge) (operator : Operator) (left right : Expression) (b a made : Value) → IsKnown k left b → IsKnown k right a
+    → ((vb va : ℕ) → Holds b vb → Holds a va → Holds made (applied operator vb va).word)
+    → IsKnownOfBoth k left right (applied_value operator left right) made
+applied_known k operator left right b a made left_known right_known holds storages scope unset s place one two knows =
+    holds (value_of left s).word (value_of right s).word (left_known storages scope unset s place one knows) (right_known storages scope unset s place two knows)

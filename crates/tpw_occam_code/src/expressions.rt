@@ -6,7 +6,9 @@
 ghost use Rattle.std.specs.Prelude.{◌≡◌, ◌≤◌, ℕ, IfOk, OnOk};
 ghost use Rattle.tpw_occam_core.specs.declared.expression.Expression.TheVariants as expression;
 ghost use Rattle.tpw_occam_code.specs.declared.emitter.Fact.{Fact};
+ghost use Rattle.tp_decode.specs.Words.{complement};
 ghost use Rattle.tpw_occam_code.specs.Agreement.{with_fact};
+ghost use Rattle.tpw_occam_code.specs.Values.{Holds};
 ghost use Rattle.tpw_occam_code.specs.Computing.{Binds, ComputesBinding, Computes, ComputesTo, IsKnown, IsKnownOf, inverse_of};
 
 use crate::code::{Code, Step};
@@ -28,7 +30,10 @@ pub(crate) struct Value {
 
 impl Value {
     /// What either may be.
-    fn or(self, other: Value) -> Value {
+    fn or(self, other: Value) -> Value
+        ensures first { (word : ℕ) → Holds self word → Holds result word }
+        ensures second { (word : ℕ) → Holds other word → Holds result word }
+    {
         Value {
             source: self.source.or(other.source),
             known: self.known.or(other.known),
@@ -36,7 +41,9 @@ impl Value {
     }
 
     /// Every bit turned.
-    fn complement(self) -> Value {
+    fn complement(self) -> Value
+        ensures { (word : ℕ) → Holds self word → Holds result (complement word) }
+    {
         Value {
             source: self.source.complement(),
             known: self.known.complement(),

@@ -1,11 +1,11 @@
 //! What an operator makes of registers.
 
-ghost use Rattle.std.specs.Prelude.{◌≡◌, ℕ, ◌<◌, ◌^◌, Some, false, IfOk, IfSome, IfNone, OnOk, IsTrue};
+ghost use Rattle.std.specs.Prelude.{◌≡◌, ℕ, ◌<◌, ◌^◌, Some, false, true, IfOk, IfSome, IfNone, OnOk, IsTrue};
 ghost use Rattle.tpw_occam_core.specs.Arithmetic.{applied};
 ghost use Rattle.tpw_occam_code.specs.Symbolic.{push, number, pair_answer};
 ghost use Rattle.tpw_occam_code.specs.Ranges.{TwinsAgree};
 ghost use Rattle.tpw_occam_code.specs.Leading.{Makes, HasConstants};
-ghost use Rattle.tpw_occam_code.specs.Computing.{IsNoShift, has_immediate};
+ghost use Rattle.tpw_occam_code.specs.Computing.{IsNoShift, has_immediate, commutes};
 ghost use Rattle.tpw_occam_code.specs.Values.{Answers, WorksOn, Holds, HasOperands, HasCount, answered, working, AreTwins};
 
 use crate::code::Code;
@@ -107,6 +107,8 @@ pub(crate) fn apply(
 ) -> Result<Value, CodeFault>
     ensures makes { OnOk result ((vb va : ℕ) → Holds b vb → Holds a va → HasCount operator va
         → Makes code.old code.new (HasOperands vb va) (answered (applied operator vb va))) }
+    ensures swapped { OnOk result ((vb va : ℕ) → Holds b vb → Holds a va → commutes operator ≡ true → HasCount operator vb
+        → Makes code.old code.new (HasOperands va vb) (answered (applied operator vb va))) }
     ensures holds { IfOk result (λ made. (vb va : ℕ) → Holds b vb → Holds a va
         → Holds made (applied operator vb va).word) }
 {

@@ -329,9 +329,27 @@ impl Emitter<'_> {
         ensures known { IfOk result (λ value. 0 < size → size ≤ 2 ^ 31
             → IsKnownOf self.old e.now (subscript_value e.now size) value) }
     {
-        if let Some(c) = self.constant_below(e, size) {
-            return number(code, room.line, c);
+        match self.constant_below(e, size) {
+            Some(c) => number(code, room.line, c),
+            None => self.reduced(code, e, size, room),
         }
+    }
+
+    /// Pushes a number that is no constant below a size, checked against it.
+    #[cycle(expression)]
+    fn reduced(
+        &mut self,
+        code: &mut Code,
+        e: &Expression,
+        size: u32,
+        room: Room,
+    ) -> Result<Value, CodeFault>
+        ensures knowledge { OnOk result (self.new ≡ self.old) }
+        ensures computes { OnOk result (0 < size → size ≤ 2 ^ 31 → 2 ≤ room.registers
+            → ComputesTo self.old code.old code.new e.now (subscript_value e.now size) room.registers room.kept) }
+        ensures known { IfOk result (λ value. 0 < size → size ≤ 2 ^ 31
+            → IsKnownOf self.old e.now (subscript_value e.now size) value) }
+    {
         if let Some(x) = self.byte_variable(e, size) {
             let value = push_byte(code, room.line, x)?;
             return settled(code, room.line, value, size);

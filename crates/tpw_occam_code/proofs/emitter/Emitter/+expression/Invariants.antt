@@ -6,7 +6,10 @@ abbrev pub decreases-expression : goal.decreases-expression
 decreases-expression l = 5 * size-Expression l.e.now
 
 abbrev pub decreases-subscript : goal.decreases-subscript
-decreases-subscript l = 5 * size-Expression l.e.now + 1
+decreases-subscript l = 5 * size-Expression l.e.now + 2
+
+abbrev pub decreases-reduced : goal.decreases-reduced
+decreases-reduced l = 5 * size-Expression l.e.now + 1
 
 abbrev pub decreases-bind : goal.decreases-bind
 decreases-bind l = 5 * size-Expression l.e.now + 1
