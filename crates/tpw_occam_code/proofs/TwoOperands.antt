@@ -12,15 +12,18 @@ use Rattle.tpw_occam_core.specs.declared.expression.Operator.{Operator}
 use Rattle.tpw_occam_core.specs.declared.expression.Expression.{Expression}
 use Rattle.tpw_occam_core.specs.declared.expression.Expression.TheVariants as expression
 use Rattle.tpw_occam_code.proofs.Standing.{suffices_two}
-use Rattle.std.specs.Prelude.{pos, ◌==◌}
+use Rattle.std.specs.Prelude.{pos, ◌==◌, ◌&&◌, ◌/◌}
+use Rattle.std.specs.Option.{option_map_or}
+use Rattle.std.proofs.lemmas.Bool.{cases_lt}
+use Rattle.tpw_occam_code.proofs.Indexing.{subscript_below, subscript_word_below}
 use Rattle.std.proofs.Math.IntN.{+ℤ_comm, *ℤ_comm}
 use Rattle.std.proofs.lemmas.Nat.{and_comm, or_comm as bits_or_comm, xor_comm}
 use Rattle.std.proofs.Common.{nat_eq}
 use Rattle.std.proofs.lemmas.Bool.Decides.{nat_tests}
-use Rattle.tp_decode.specs.Words.{signed}
+use Rattle.tp_decode.specs.Words.{signed, low_word}
 use Rattle.tp_step.specs.Numbers.{truth}
 use Rattle.tpw_occam_core.specs.declared.expression.Operator.TheVariants as operators
-use Rattle.tpw_occam_core.specs.Arithmetic.{answer, plain, checked, wrapped, applied}
+use Rattle.tpw_occam_core.specs.Arithmetic.{answer, plain, checked, wrapped, applied, subscript}
 use Rattle.tpw_occam_core.specs.Meaning.{Store, followed, value_of}
 use Rattle.tpw_occam_code.specs.declared.items.Item.{Item}
 use Rattle.tpw_occam_code.specs.declared.items.Item.TheVariants as item
@@ -31,11 +34,15 @@ use Rattle.tpw_occam_code.specs.Symbolic.{Machine, effect, performed, at_place, 
 use Rattle.tpw_occam_code.specs.Leading.{Does, IsBefore, Arrives, HasConstants, HasWord, Makes}
 use Rattle.tpw_occam_code.specs.Values.{Holds, HasCount, HasNumber, HasOperands, Replaces, Pushes, PushesAlone, Answers, answered}
 use Rattle.tpw_occam_code.specs.Agreement.{Knowledge, constant_in, Knows, Agrees, LeavesItems, Stays}
-use Rattle.tpw_occam_code.specs.Computing.{IsPlace, MayStand, Suffices, Computes, ComputesTo, ComputesBoth, ComputesTwo, PushesTwo, IsKnown, IsKnownOf, commutes, applied_value, is_simple, IsConstantBelow, IsNoShift, IsKnownOfBoth}
+use Rattle.tpw_occam_code.specs.Computing.{IsPlace, MayStand, Suffices, Computes, ComputesTo, ComputesBoth, ComputesTwo, PushesTwo, IsKnown, IsKnownOf, commutes, applied_value, is_simple, IsConstantBelow, IsNoShift, IsKnownOfBoth, IsSimplePair, applied_first, subscript_value, is_immediate, has_immediate}
 use Rattle.tpw_occam_code.proofs.Answering.{count_of_no_shift}
 use Rattle.tpw_occam_code.proofs.Leading.{does_both, does_less, does_step}
-use Rattle.tpw_occam_code.proofs.Computing.{agrees_after, leaves_then, bytes_same}
+use Rattle.tpw_occam_code.proofs.Computing.{agrees_after, leaves_then, bytes_same, alone_pushes}
+use Rattle.tpw_occam_code.proofs.Elements.{pushes_alone}
 use Rattle.tpw_occam_code.proofs.Keeping.{Saves, does_save, does_recall}
+
+false_true : ◌≡◌ {A = Bool} false true → ⊥
+false_true e = cc
 
 -- ---- one value above another
 
@@ -411,3 +418,157 @@ pub applied_known : (k : Knowledge) (operator : Operator) (left right : Expressi
     → IsKnownOfBoth k left right (applied_value operator left right) made
 applied_known k operator left right b a made left_known right_known holds storages scope unset s place one two knows =
     holds (value_of left s).word (value_of right s).word (left_known storages scope unset s place one knows) (right_known storages scope unset s place two knows)
+
+-- ---- a constant and an operand
+
+does_constant : (k : Knowledge) (scope : List Entry) (unset : ℕ → Bool) (s : Store) (old new : Lines) (c registers kept : ℕ) → 1 ≤ registers
+    → Makes old new HasConstants (push (number c))
+    → Does k.arrays old new (Agrees k scope unset s) (λ m end. Pushes registers (plain c) m end × LeavesItems scope kept m end)
+does_constant k scope unset s old new c registers kept least makes =
+    does_less k.arrays old new _ _ _ _ (makes k.arrays) (λ m said. said.constants)
+    (λ m end said after. alone_pushes registers kept scope (plain c) m end least (pushes_alone c (place_behind new) m end after))
+
+pub first_above_computes : (k : Knowledge) (old pushed between new : Lines) (operator : Operator) (right : Expression) (c : ℕ) (b a : Value) (registers kept : ℕ)
+    → Holds b c → Makes old pushed HasConstants (push (number c))
+    → Computes k pushed between right (registers - 1) kept → IsKnown k right a → (registers ≤ 3 → Suffices k (registers - 1) right)
+    → ((vb va : ℕ) → Holds b vb → Holds a va → HasCount operator va → Makes between new (HasOperands vb va) (answered (applied operator vb va)))
+    → IsNoShift operator → 2 ≤ registers
+    → ComputesTo k old new right (applied_first operator c right) registers kept
+first_above_computes k old pushed between new operator right c b a registers kept hb makes computes known enough works unshifted more storages scope unset s place stands suffices knows =
+    let r = value_of right s in
+    let ha = known storages scope unset s place stands knows in
+    does_work k scope unset s old between new registers kept c r.word (false || r.flag) false (applied operator c r.word) more
+    (does_above k scope unset s old pushed between registers kept (plain c) r more suffices.most
+    (does_constant k scope unset s old pushed c registers kept suffices.least makes)
+    (computes storages scope unset s place stands (enough suffices.most) knows))
+    (works c r.word hb ha (count_of_no_shift operator r.word unshifted)) (λ yes. absurd (false_true yes))
+
+pub first_below_computes : (k : Knowledge) (old between pushed reversed new : Lines) (source : ℕ) (operator : Operator) (right : Expression) (c : ℕ) (b a : Value) (registers kept : ℕ)
+    → Computes k old between right registers kept → IsKnown k right a
+    → Holds b c → Makes between pushed HasConstants (push (number c)) → reversed ≡ followed_by pushed (line_of source (Plain Rev) ∷ [])
+    → ((vb va : ℕ) → Holds b vb → Holds a va → HasCount operator va → Makes reversed new (HasOperands vb va) (answered (applied operator vb va)))
+    → IsNoShift operator → 2 ≤ registers
+    → ComputesTo k old new right (applied_first operator c right) registers kept
+first_below_computes k old between pushed reversed new source operator right c b a registers kept computes known hb makes is works unshifted more storages scope unset s place stands suffices knows =
+    let r = value_of right s in
+    let ha = known storages scope unset s place stands knows in
+    does_work k scope unset s old reversed new registers kept c r.word (false || r.flag) false (applied operator c r.word) more
+    (does_rev k scope unset s old pushed reversed source registers kept c r.word false r.flag is
+    (does_above k scope unset s old between pushed registers kept r (plain c) more suffices.most
+    (computes storages scope unset s place stands suffices knows)
+    (does_constant k scope unset s between pushed c (registers - 1) kept (omega (arith, more)) makes)))
+    (works c r.word hb ha (count_of_no_shift operator r.word unshifted)) (λ yes. absurd (false_true yes))
+
+pub first_known : (k : Knowledge) (operator : Operator) (right : Expression) (c : ℕ) (b a made : Value) → Holds b c → IsKnown k right a
+    → ((vb va : ℕ) → Holds b vb → Holds a va → Holds made (applied operator vb va).word)
+    → IsKnownOf k right (applied_first operator c right) made
+first_known k operator right c b a made hb known holds storages scope unset s place stands knows =
+    holds c (value_of right s).word hb (known storages scope unset s place stands knows)
+
+-- ---- operands that have changed places
+
+both_swapped : (operator : Operator) (l r : Answer) → commutes operator ≡ true
+    → followed r (λ b. followed l (applied operator b)) ≡ followed l (λ b. followed r (applied operator b))
+both_swapped operator l r commute =
+    ap (λ (x : Answer). answer x.word (r.flag || (l.flag || x.flag))) (applied_commutes operator r.word l.word commute)
+    ∙ ap (answer (applied operator l.word r.word).word)
+    (sym (or_assoc r.flag l.flag (applied operator l.word r.word).flag) ∙ ap (λ f. f || (applied operator l.word r.word).flag) (or_comm r.flag l.flag)
+    ∙ or_assoc l.flag r.flag (applied operator l.word r.word).flag)
+
+pub swapped_computes : (k : Knowledge) (old new : Lines) (operator : Operator) (left right : Expression) (registers kept : ℕ) → commutes operator ≡ true
+    → ComputesBoth k old new right left (applied_value operator right left) registers kept
+    → ComputesBoth k old new left right (applied_value operator left right) registers kept
+swapped_computes k old new operator left right registers kept commute both storages scope unset s place one two least most knows =
+    does_less k.arrays old new _ _ _ _ (both storages scope unset s place two one least most knows) (λ m said. said)
+    (λ m end said after. subst (λ x. Pushes registers x m end × LeavesItems scope kept m end) (both_swapped operator (value_of left s) (value_of right s) commute) after)
+
+pub swapped_known : (k : Knowledge) (operator : Operator) (left right : Expression) (value : Value) → commutes operator ≡ true
+    → IsKnownOfBoth k right left (applied_value operator right left) value → IsKnownOfBoth k left right (applied_value operator left right) value
+swapped_known k operator left right value commute known storages scope unset s place one two knows =
+    subst (λ (x : Answer). Holds value x.word) (both_swapped operator (value_of left s) (value_of right s) commute)
+    (known storages scope unset s place two one knows)
+
+-- ---- shifts
+
+abbrev pub IsShift : Operator → Type 0
+IsShift operator = (operator ≡ operators.ShiftLeft) ⊎ (operator ≡ operators.ShiftRight)
+
+shift_again : (operator : Operator) (b a : ℕ) → IsShift operator
+    → applied operator b (subscript 32 a).word ≡ answer (applied operator b a).word false
+shift_again operator b a (inl e) =
+    let below = subscript_word_below 32 a (omega arith) in
+    rw e (ap (λ (x : Answer). answer (low_word (pos (b * 2 ^ x.word))) x.flag) (subscript_below 32 (subscript 32 a).word below))
+shift_again operator b a (inr e) =
+    let below = subscript_word_below 32 a (omega arith) in
+    rw e (ap (λ (x : Answer). answer (b / 2 ^ x.word) x.flag) (subscript_below 32 (subscript 32 a).word below))
+
+shift_flag : (operator : Operator) (b a : ℕ) → IsShift operator → (applied operator b a).flag ≡ (subscript 32 a).flag
+shift_flag operator b a (inl e) = rw e refl
+shift_flag operator b a (inr e) = rw e refl
+
+shift_count : (operator : Operator) (a : ℕ) → IsShift operator → a < 32 → HasCount operator a
+shift_count operator a (inl e) h = rw e h
+shift_count operator a (inr e) h = rw e h
+
+-- no instruction with an operand shifts, and operands of shifts do not commute
+shift_immediate : (k : Knowledge) (operator : Operator) (e : Expression) → IsShift operator → is_immediate k operator e ≡ false
+shift_immediate k operator e (inl is) = rw is (by_constant (constant_in k e))
+  where
+    by_constant : (o : Option ℕ) → option_map_or (has_immediate operators.ShiftLeft) o false ≡ false
+    by_constant None = refl
+    by_constant (Some c) = refl
+shift_immediate k operator e (inr is) = rw is (by_constant (constant_in k e))
+  where
+    by_constant : (o : Option ℕ) → option_map_or (has_immediate operators.ShiftRight) o false ≡ false
+    by_constant None = refl
+    by_constant (Some c) = refl
+
+shift_commutes : (operator : Operator) → IsShift operator → commutes operator ≡ false
+shift_commutes operator (inl e) = rw e refl
+shift_commutes operator (inr e) = rw e refl
+
+shift_registers : (k : Knowledge) (operator : Operator) (left count : Expression) (registers : ℕ) → IsShift operator
+    → (registers ≤ 1 → IsSimplePair k operator left count) → 2 ≤ registers
+shift_registers k operator left count registers which enough = by_number (cases_lt 1 registers)
+  where
+    none : ((is_immediate k operator count && is_simple k left) || (commutes operator && is_immediate k operator left && is_simple k count)) ≡ false
+    none = rw (shift_immediate k operator count which) (rw (shift_commutes operator which) refl)
+    by_number : (1 < registers) ⊎ (registers ≤ 1) → 2 ≤ registers
+    by_number (inl more) = more
+    by_number (inr one) = absurd (false_true (sym none ∙ enough one))
+
+pub shift_computes : (k : Knowledge) (old between new : Lines) (operator : Operator) (left count : Expression) (b a : Value) (registers kept : ℕ)
+    → IsShift operator
+    → ComputesTwo k old between left count (value_of left) (subscript_value count 32) false registers kept
+    → IsKnown k left b → IsKnownOf k count (subscript_value count 32) a
+    → ((vb va : ℕ) → Holds b vb → Holds a va → HasCount operator va → Makes between new (HasOperands vb va) (answered (applied operator vb va)))
+    → (registers ≤ 1 → IsSimplePair k operator left count)
+    → ComputesBoth k old new left count (applied_value operator left count) registers kept
+shift_computes k old between new operator left count b a registers kept which two left_known count_known works enough storages scope unset s place one other least most knows =
+    let more = shift_registers k operator left count registers which enough in
+    let l = value_of left s in
+    let c = value_of count s in
+    let r = subscript_value count 32 s in
+    let hb = left_known storages scope unset s place one knows in
+    let ha = count_known storages scope unset s place other knows in
+    let made = applied operator l.word r.word in
+    let below : r.word < 32 = subscript_word_below 32 c.word (omega arith) in
+    let again : answer made.word ((l.flag || r.flag) || made.flag) ≡ applied_value operator left count s =
+        ap (λ (x : Answer). answer x.word ((l.flag || r.flag) || x.flag)) (shift_again operator l.word c.word which)
+        ∙ ap (answer (applied operator l.word c.word).word) (or-false (l.flag || r.flag)
+        ∙ ap (λ f. l.flag || (c.flag || f)) (sym (shift_flag operator l.word c.word which))) in
+    does_less k.arrays old new _ _ _ _
+    (does_work k scope unset s old between new registers kept l.word r.word (l.flag || r.flag) false made more
+    (two storages scope unset s place one other more most knows)
+    (works l.word r.word hb ha (shift_count operator r.word which below)) (λ yes. absurd (false_true yes)))
+    (λ m said. said)
+    (λ m end said after. subst (λ x. Pushes registers x m end × LeavesItems scope kept m end) again after)
+
+pub shift_known : (k : Knowledge) (operator : Operator) (left count : Expression) (b a made : Value) → IsShift operator
+    → IsKnown k left b → IsKnownOf k count (subscript_value count 32) a
+    → ((vb va : ℕ) → Holds b vb → Holds a va → Holds made (applied operator vb va).word)
+    → IsKnownOfBoth k left count (applied_value operator left count) made
+shift_known k operator left count b a made which left_known count_known holds storages scope unset s place one other knows =
+    subst (λ (x : Answer). Holds made x.word) (shift_again operator (value_of left s).word (value_of count s).word which)
+    (holds (value_of left s).word (subscript_value count 32 s).word (left_known storages scope unset s place one knows)
+    (count_known storages scope unset s place other knows))
