@@ -1,5 +1,5 @@
 -- Where an expression may stand its parts may.
-use Rattle.std.proofs.Common.{◌≡◌, ◌⊎◌, inl, inr, Box, Global, ◌≤◌, ◌<◌, ◌^◌, ℕ, List, Bool, false, true, ◌&&◌, ◌||◌, refl, ap, sym, ◌∙◌, arith}
+use Rattle.std.proofs.Common.{Result, Ok, Err, OnOk, ◌≡◌, ◌⊎◌, inl, inr, Box, Global, ◌≤◌, ◌<◌, ◌^◌, ℕ, List, Bool, false, true, ◌&&◌, ◌||◌, refl, ap, sym, ◌∙◌, arith}
 use Rattle.std.specs.Prelude.{IsTrue}
 use Rattle.std.proofs.lemmas.Bool.{ltb-true, leb-true, cases_lt}
 use Rattle.tpw_occam_core.specs.declared.worker.Storage.{Storage}
@@ -99,3 +99,8 @@ suffices_two k registers e two most = record { least = omega arith; most = most;
 pub suffices_part : (k : Knowledge) (registers : ℕ) (e f : Expression) → (is_simple k e ≡ true → is_simple k f ≡ true) → Suffices k registers e
     → Suffices k registers f
 suffices_part k registers e f part suffices = record { least = suffices.least; most = suffices.most; simple = λ one. part (suffices.simple one) }
+
+-- two facts of one outcome
+pub on_ok_both : {A E : Type 0} (P Q : Type 0) (r : Result A E) → OnOk r P → OnOk r Q → OnOk r (P × Q)
+on_ok_both P Q (Ok x) p q = (p, q)
+on_ok_both P Q (Err e) p q = tt

@@ -11,8 +11,8 @@ use Rattle.tpw_occam_core.specs.declared.scope.Entry.{Entry}
 use Rattle.tpw_occam_core.specs.declared.expression.Operator.{Operator}
 use Rattle.tpw_occam_core.specs.declared.expression.Expression.{Expression}
 use Rattle.tpw_occam_core.specs.declared.expression.Expression.TheVariants as expression
-use Rattle.tpw_occam_code.proofs.Standing.{suffices_two}
-use Rattle.std.specs.Prelude.{pos, ◌==◌, ◌&&◌, ◌/◌}
+use Rattle.tpw_occam_code.proofs.Standing.{suffices_two, and_first, and_second}
+use Rattle.std.specs.Prelude.{pos, ◌==◌, ◌&&◌, ◌/◌, is_some}
 use Rattle.std.specs.Option.{option_map_or}
 use Rattle.std.proofs.lemmas.Bool.{cases_lt}
 use Rattle.tpw_occam_code.proofs.Indexing.{subscript_below, subscript_word_below}
@@ -29,12 +29,13 @@ use Rattle.tpw_occam_code.specs.declared.items.Item.{Item}
 use Rattle.tpw_occam_code.specs.declared.items.Item.TheVariants as item
 use Rattle.tpw_occam_code.specs.declared.code.Step.TheVariants.{Plain, Load, Store as StoreTo}
 use Rattle.tpw_occam_code.specs.declared.expressions.Value.{Value}
+use Rattle.tpw_occam_code.specs.declared.emitter.Room.{Room}
 use Rattle.tpw_occam_code.specs.Code.{Lines, followed_by, line_of, place_behind}
 use Rattle.tpw_occam_code.specs.Symbolic.{Machine, effect, performed, at_place, number, push, set_areg}
 use Rattle.tpw_occam_code.specs.Leading.{Does, IsBefore, Arrives, HasConstants, HasWord, Makes}
 use Rattle.tpw_occam_code.specs.Values.{Holds, HasCount, HasNumber, HasOperands, Replaces, Pushes, PushesAlone, Answers, answered}
 use Rattle.tpw_occam_code.specs.Agreement.{Knowledge, constant_in, Knows, Agrees, LeavesItems, Stays}
-use Rattle.tpw_occam_code.specs.Computing.{IsPlace, MayStand, Suffices, Computes, ComputesTo, ComputesBoth, ComputesTwo, PushesTwo, IsKnown, IsKnownOf, commutes, applied_value, is_simple, IsConstantBelow, IsNoShift, IsKnownOfBoth, IsSimplePair, applied_first, subscript_value, is_immediate, has_immediate}
+use Rattle.tpw_occam_code.specs.Computing.{IsPlace, MayStand, Suffices, Computes, ComputesTo, ComputesBoth, ComputesTwo, PushesTwo, IsKnown, IsKnownOf, commutes, applied_value, is_simple, IsConstantBelow, IsNoShift, IsKnownOfBoth, IsSimplePair, applied_first, subscript_value, is_immediate, has_immediate, is_swapped, HasImmediate}
 use Rattle.tpw_occam_code.proofs.Answering.{count_of_no_shift}
 use Rattle.tpw_occam_code.proofs.Leading.{does_both, does_less, does_step}
 use Rattle.tpw_occam_code.proofs.Computing.{agrees_after, leaves_then, bytes_same, alone_pushes}
@@ -572,3 +573,88 @@ shift_known k operator left count b a made which left_known count_known holds st
     subst (λ (x : Answer). Holds made x.word) (shift_again operator (value_of left s).word (value_of count s).word which)
     (holds (value_of left s).word (subscript_value count 32 s).word (left_known storages scope unset s place one knows)
     (count_known storages scope unset s place other knows))
+
+-- ---- registers of operands
+
+pub swapped_commutes : (k : Knowledge) (operator : Operator) (left right : Expression) → is_swapped k operator left right ≡ true
+    → commutes operator ≡ true
+swapped_commutes k operator left right e = and_first _ _ (and_first _ _ (and_first _ _ e))
+
+either_of : (a b : Bool) → (a || b) ≡ true → (a ≡ true) ⊎ (b ≡ true)
+either_of true b e = inl refl
+either_of false b e = inr e
+
+not_true : (b : Bool) → not b ≡ true → b ≡ false
+not_true true e = absurd (false_true e)
+not_true false e = refl
+
+true_false : (b : Bool) → b ≡ true → b ≡ false → ⊥
+true_false true e f = false_true (sym f)
+true_false false e f = false_true e
+
+and_both : (a b : Bool) → a ≡ true → b ≡ true → (a && b) ≡ true
+and_both true b p q = q
+and_both false b p q = absurd (false_true p)
+
+-- where operands change places, it is the left one that is the operand of an instruction
+pub swapped_immediate : (k : Knowledge) (operator : Operator) (left right : Expression) → is_swapped k operator left right ≡ true
+    → IsSimplePair k operator left right → HasImmediate k operator right left
+swapped_immediate k operator left right swapped pair = by_which (either_of _ _ pair)
+  where
+    by_which : ((is_immediate k operator right && is_simple k left) ≡ true) ⊎ ((commutes operator && is_immediate k operator left && is_simple k right) ≡ true)
+        → HasImmediate k operator right left
+    by_which (inl direct) = absurd (true_false (is_immediate k operator right) (and_first _ _ direct) (not_true _ (and_second _ _ (and_first _ _ swapped))))
+    by_which (inr other) =
+        and_both (is_immediate k operator left) (is_simple k right)
+        (and_second (commutes operator) (is_immediate k operator left) (and_first _ _ other)) (and_second _ _ other)
+
+some_simple : (k : Knowledge) (e : Expression) → is_some (constant_in k e) ≡ true → is_simple k e ≡ true
+some_simple k (expression.Constant d) is = refl
+some_simple k (expression.Variable x) is = refl
+some_simple k e is = cc
+
+four_tests : (a b c d e : Bool) → a ≡ true → b ≡ true → c ≡ false → e ≡ true → (a && b && not c && (not d || e)) ≡ true
+four_tests true true false true true p q r s = refl
+four_tests true true false false true p q r s = refl
+four_tests a b c d e p q r s = cc
+
+pub fixed_immediate : (k : Knowledge) (operator : Operator) (left right : Expression) → is_swapped k operator left right ≡ false
+    → IsSimplePair k operator left right → HasImmediate k operator left right
+fixed_immediate k operator left right fixed pair = by_which (either_of _ _ pair)
+  where
+    immediate_some : (o : Option ℕ) → option_map_or (has_immediate operator) o false ≡ true → is_some o ≡ true
+    immediate_some None e = absurd (false_true e)
+    immediate_some (Some c) e = refl
+    by_right : (b : Bool) → is_immediate k operator right ≡ b → commutes operator ≡ true → is_immediate k operator left ≡ true
+        → HasImmediate k operator left right
+    by_right true e commute is = and_both (is_immediate k operator right) (is_simple k left) e
+        (some_simple k left (immediate_some (constant_in k left) is))
+    by_right false e commute is =
+        absurd (true_false (is_swapped k operator left right)
+        (four_tests (commutes operator) (is_some (constant_in k left)) (is_immediate k operator right) (is_some (constant_in k right))
+        (is_immediate k operator left) commute (immediate_some (constant_in k left) is) e is) fixed)
+    by_which : ((is_immediate k operator right && is_simple k left) ≡ true) ⊎ ((commutes operator && is_immediate k operator left && is_simple k right) ≡ true)
+        → HasImmediate k operator left right
+    by_which (inl direct) = direct
+    by_which (inr other) = by_right (is_immediate k operator right) refl (and_first (commutes operator) (is_immediate k operator left) (and_first _ _ other))
+        (and_second (commutes operator) (is_immediate k operator left) (and_first _ _ other))
+
+-- a count above another operand, and one evaluated while the other is kept
+pub count_above : (k k1 : Knowledge) (between new : Lines) (count : Expression) (room less : Room) (n : ℕ)
+    → k1 ≡ k → less ≡ record room { registers = room.registers - 1 } → 1 ≤ n → (n ≤ 1 → IsConstantBelow k count 32) → n < room.registers
+    → (0 < 32 → 32 ≤ 2 ^ 31 → (less.registers ≤ 1 → IsConstantBelow k1 count 32)
+    → ComputesTo k1 between new count (subscript_value count 32) less.registers less.kept)
+    → ComputesTo k1 between new count (subscript_value count 32) (room.registers - 1) room.kept
+count_above k k1 between new count room less n same is least constant fits computes =
+    subst (λ (r : Room). ComputesTo k1 between new count (subscript_value count 32) r.registers r.kept) is
+    (computes (omega arith) (omega arith)
+    (λ few. subst (λ k. IsConstantBelow k count 32) (sym same) (constant (omega (arith, few, fits, ap (λ (r : Room). r.registers) is)))))
+
+pub count_beside : (k1 : Knowledge) (between new : Lines) (count : Expression) (room more : Room)
+    → more ≡ record room { kept = room.kept + 1 } → 2 ≤ room.registers
+    → (0 < 32 → 32 ≤ 2 ^ 31 → (more.registers ≤ 1 → IsConstantBelow k1 count 32)
+    → ComputesTo k1 between new count (subscript_value count 32) more.registers more.kept)
+    → ComputesTo k1 between new count (subscript_value count 32) room.registers (room.kept + 1)
+count_beside k1 between new count room more is least computes =
+    subst (λ (r : Room). ComputesTo k1 between new count (subscript_value count 32) r.registers r.kept) is
+    (computes (omega arith) (omega arith) (λ few. absurd (omega (arith, few, least, ap (λ (r : Room). r.registers) is))))

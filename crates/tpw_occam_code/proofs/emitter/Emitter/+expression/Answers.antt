@@ -1,36 +1,53 @@
 use Rattle.std.proofs.Common.{◌≡◌, ◌≤◌, ◌<◌, ℕ, ◌+◌, ◌-◌, ◌*◌, ◌^◌, Bool, true, false, List, [], ◌∷◌, ◌++◌, Some, None, OnOk, IfOk, refl, ap, sym, subst, ◌∙◌, arith}
 use Rattle.std.specs.Bool.{IsTrue}
 use Rattle.std.proofs.lemmas.Result.{on_ok_weaker, IfOk-weaker}
+use Rattle.tpw_occam_code.proofs.Standing.{on_ok_both}
 use Rattle.tpw_occam_core.specs.Meaning.{value_of}
 use Rattle.tpw_occam_code.specs.Computing.{Computes, ComputesBoth, ComputesTo, ComputesTwo, IsKnown, IsKnownOfBoth, IsKnownOf, IsNoShift, HasImmediate, IsSimplePair, has_immediate, subscript_value, applied_value, applied_last, applied_first, inverse_of, IsFixed, IsConstantBelow}
 use Rattle.tpw_occam_code.specs.Code.{followed_by, line_of}
 use Rattle.tpw_occam_code.specs.declared.code.Step.TheVariants.{Load, Store as StoreTo}
-use Rattle.tpw_occam_code.proofs.Constructs.{constant_computes, checked_computes, checked_known, low_byte_computes, low_byte_known, complement_computes, complement_known, binary_computes, binary_known, element_computes, element_known, fixed_computes, constant_subscript_computes, constant_subscript_known, settled_computes, settled_known, byte_computes, byte_known, last_computes, last_known, not_computes}
-use Rattle.tpw_occam_code.proofs.TwoOperands.{suffices_above, in_order_computes, changed_computes, reversed_computes, kept_computes, kept_reversed_computes, suffices_count, may_change, recalled_holds}
+use Rattle.tpw_occam_code.proofs.Constructs.{constant_computes, checked_computes, checked_known, low_byte_computes, low_byte_known, complement_computes, complement_known, binary_computes, binary_known, element_computes, element_known, fixed_computes, constant_subscript_computes, constant_subscript_known, settled_computes, settled_known, byte_computes, byte_known, last_computes, last_known, not_computes, not_constant, right_constant_computes, right_constant_known, left_constant_computes, left_constant_known}
+use Rattle.tpw_occam_code.proofs.TwoOperands.{suffices_above, in_order_computes, changed_computes, reversed_computes, kept_computes, kept_reversed_computes, suffices_count, may_change, recalled_holds, applied_computes, applied_known, first_above_computes, first_below_computes, first_known, swapped_computes, swapped_known, shift_computes, shift_known, swapped_commutes, swapped_immediate, fixed_immediate, count_above, count_beside}
 use Rattle.tpw_occam_code.proofs.emitter.Emitter.+expression.Goals as goal
 
 -- src/operands.rt:45:13
-pub binary-returns-then-is_shift-clause-computes :
-    goal.binary-returns-then-is_shift-clause-computes
-binary-returns-then-is_shift-clause-computes t c = ?
+pub binary-returns-then-is_shift-clause-computes : goal.binary-returns-then-is_shift-clause-computes
+binary-returns-then-is_shift-clause-computes t c =
+    on_ok_weaker c.apply.result (λ works enough.
+    shift_computes c.args.self.now c.args.code.now c.shifted.new.code c.apply.new.code c.args.operator c.args.left.now c.args.right.now c.in_ok-b.b c.in_ok-b.a c.args.room.registers c.args.room.kept
+    (c.is_shift.ensures.yes c.if-is_shift.true) c.in_ok-b.ensures.computes c.in_ok-b.ensures.left c.in_ok-b.ensures.count works enough) c.apply.ensures.makes
 
 -- src/operands.rt:45:13
 pub binary-returns-then-is_shift-clause-known : goal.binary-returns-then-is_shift-clause-known
-binary-returns-then-is_shift-clause-known t c = ?
+binary-returns-then-is_shift-clause-known t c =
+    IfOk-weaker c.apply.result _ _ (λ made holds.
+    shift_known c.args.self.now c.args.operator c.args.left.now c.args.right.now c.in_ok-b.b c.in_ok-b.a made
+    (c.is_shift.ensures.yes c.if-is_shift.true) c.in_ok-b.ensures.left c.in_ok-b.ensures.count holds) c.apply.ensures.holds
 
 -- src/operands.rt:29:5
-pub binary-returns-then-is_swapped-clause-computes :
-    goal.binary-returns-then-is_swapped-clause-computes
-binary-returns-then-is_swapped-clause-computes t c = ?
+pub binary-returns-then-is_swapped-clause-computes : goal.binary-returns-then-is_swapped-clause-computes
+binary-returns-then-is_swapped-clause-computes t c =
+    on_ok_weaker c.in_order.result (λ computes enough.
+    let swapped = sym c.is_swapped.ensures ∙ c.if-is_swapped.true in
+    swapped_computes c.args.self.now c.args.code.now c.in_order.new.code c.args.operator c.args.left.now c.args.right.now c.args.room.registers c.args.room.kept
+    (swapped_commutes c.args.self.now c.args.operator c.args.left.now c.args.right.now swapped)
+    (computes (c.is_shift.ensures.not c.if-is_shift.false)
+    (λ one. swapped_immediate c.args.self.now c.args.operator c.args.left.now c.args.right.now swapped (enough one)))) c.in_order.ensures.computes
 
 -- src/operands.rt:29:5
 pub binary-returns-then-is_swapped-clause-known : goal.binary-returns-then-is_swapped-clause-known
-binary-returns-then-is_swapped-clause-known t c = ?
+binary-returns-then-is_swapped-clause-known t c =
+    IfOk-weaker c.in_order.result _ _ (λ value known.
+    swapped_known c.args.self.now c.args.operator c.args.left.now c.args.right.now value
+    (swapped_commutes c.args.self.now c.args.operator c.args.left.now c.args.right.now (sym c.is_swapped.ensures ∙ c.if-is_swapped.true)) known) c.in_order.ensures.known
 
 -- src/operands.rt:29:5
-pub binary-returns-else-is_swapped-clause-computes :
-    goal.binary-returns-else-is_swapped-clause-computes
-binary-returns-else-is_swapped-clause-computes t c = ?
+pub binary-returns-else-is_swapped-clause-computes : goal.binary-returns-else-is_swapped-clause-computes
+binary-returns-else-is_swapped-clause-computes t c =
+    on_ok_weaker c.in_order-else-is_swapped.result (λ computes enough.
+    computes (c.is_shift.ensures.not c.if-is_shift.false)
+    (λ one. fixed_immediate c.args.self.now c.args.operator c.args.left.now c.args.right.now (sym c.is_swapped.ensures ∙ c.if-is_swapped.false) (enough one)))
+    c.in_order-else-is_swapped.ensures.computes
 
 -- src/expressions.rt:162:13
 pub bind-returns-in-Some-clause-knows : goal.bind-returns-in-Some-clause-knows
@@ -45,13 +62,24 @@ pub bind-returns-clause-computes : goal.bind-returns-clause-computes
 bind-returns-clause-computes t c = ?
 
 -- src/operands.rt:117:13
-pub constant_first-returns-then-need-room-clause-computes :
-    goal.constant_first-returns-then-need-room-clause-computes
-constant_first-returns-then-need-room-clause-computes t c = ?
+pub constant_first-returns-then-need-room-clause-computes : goal.constant_first-returns-then-need-room-clause-computes
+constant_first-returns-then-need-room-clause-computes t c =
+    on_ok_weaker c.apply.result (λ works unshifted more.
+    first_above_computes c.args.self.now c.args.code.now c.number.new.code c.expression.new.code c.apply.new.code c.args.operator c.args.right.now c.args.c c.in_ok-b.b c.in_ok-a.a c.args.room.registers c.args.room.kept
+    c.in_ok-b.ensures.holds c.in_ok-b.ensures.makes
+    (subst (λ r. Computes c.args.self.now c.number.new.code c.expression.new.code c.args.right.now r.registers r.kept) c.above.ensures c.in_ok-a.ensures.computes)
+    c.in_ok-a.ensures.known
+    (suffices_above c.args.self.now c.args.room.registers c.need.result c.args.right.now c.need.ensures.least c.need.ensures.simple c.if-need-room.true)
+    works unshifted more) c.apply.ensures.makes
 
 -- src/operands.rt:100:5
 pub constant_first-returns-clause-computes : goal.constant_first-returns-clause-computes
-constant_first-returns-clause-computes t c = ?
+constant_first-returns-clause-computes t c =
+    on_ok_weaker c.apply-2.result (λ works unshifted more.
+    first_below_computes c.args.self.now c.args.code.now c.expression-2.new.code c.number-2.new.code c.instr.new.self c.apply-2.new.code c.args.room.line c.args.operator
+    c.args.right.now c.args.c c.in_ok-b-2.b c.in_ok-a-2.a c.args.room.registers c.args.room.kept
+    c.in_ok-a-2.ensures.computes c.in_ok-a-2.ensures.known c.in_ok-b-2.ensures.holds c.in_ok-b-2.ensures.makes c.in_ok-instr.ensures
+    works unshifted more) c.apply-2.ensures.makes
 
 -- src/expressions.rt:70:21
 pub expression-returns-in-Some-clause-computes : goal.expression-returns-in-Some-clause-computes
@@ -136,12 +164,11 @@ expression-returns-in_ok-instr-in-Complement-clause-computes t c =
     c.in_ok-instr-in-Complement.ensures)
 
 -- src/expressions.rt:49:5
-pub expression-returns-in_ok-instr-in-Complement-clause-known :
-    goal.expression-returns-in_ok-instr-in-Complement-clause-known
+pub expression-returns-in_ok-instr-in-Complement-clause-known : goal.expression-returns-in_ok-instr-in-Complement-clause-known
 expression-returns-in_ok-instr-in-Complement-clause-known t c =
     rw c.in-Complement.is (complement_known c.args.self.now _ c.in-Complement.e.value c.in_ok-value-in-Complement.value c.complement.result
     (subst (λ e. IsKnown c.args.self.now e c.in_ok-value-in-Complement.value) c.deref-in-Complement.ensures c.in_ok-value-in-Complement.ensures.known)
-    ? ?)
+    c.complement.ensures)
 
 -- src/expressions.rt:49:5
 pub expression-returns-in-Not-clause-computes : goal.expression-returns-in-Not-clause-computes
@@ -208,21 +235,27 @@ expression-returns-in_ok-value-in-Let-clause-known t c = ?
 
 -- src/operands.rt:71:13
 pub in_order-returns-in-Some-clause-computes : goal.in_order-returns-in-Some-clause-computes
-in_order-returns-in-Some-clause-computes t c = ?
+in_order-returns-in-Some-clause-computes t c =
+    on_ok_weaker c.with_constant.result (λ computes unshifted enough.
+    right_constant_computes c.args.self.now c.args.code.now c.with_constant.new.code c.args.operator c.args.left.now c.args.right.now c.in-Some.c c.args.room.registers c.args.room.kept
+    (sym c.constant_of.ensures ∙ c.in-Some.is) computes unshifted enough) c.with_constant.ensures.computes
 
 -- src/operands.rt:74:13
-pub in_order-returns-in-Some-constant_of-clause-computes :
-    goal.in_order-returns-in-Some-constant_of-clause-computes
-in_order-returns-in-Some-constant_of-clause-computes t c = ?
+pub in_order-returns-in-Some-constant_of-clause-computes : goal.in_order-returns-in-Some-constant_of-clause-computes
+in_order-returns-in-Some-constant_of-clause-computes t c =
+    ?
 
 -- src/operands.rt:74:13
-pub in_order-returns-in-Some-constant_of-clause-known :
-    goal.in_order-returns-in-Some-constant_of-clause-known
-in_order-returns-in-Some-constant_of-clause-known t c = ?
+pub in_order-returns-in-Some-constant_of-clause-known : goal.in_order-returns-in-Some-constant_of-clause-known
+in_order-returns-in-Some-constant_of-clause-known t c =
+    IfOk-weaker c.constant_first.result _ _ (λ value known.
+    left_constant_known c.args.self.now c.args.operator c.args.left.now c.args.right.now c.in-Some-constant_of.c value
+    (sym c.constant_of-2.ensures ∙ c.in-Some-constant_of.is) known) c.constant_first.ensures.known
 
 -- src/operands.rt:56:5
 pub in_order-returns-clause-computes : goal.in_order-returns-clause-computes
-in_order-returns-clause-computes t c = ?
+in_order-returns-clause-computes t c =
+    ?
 
 -- src/expressions.rt:189:17
 pub inverted-returns-in-Some-clause-computes : goal.inverted-returns-in-Some-clause-computes
@@ -307,22 +340,39 @@ operands-returns-clause-right t c =
     (c.in_ok-a-3.ensures.known storages scope unset s place stands knows)
 
 -- src/operands.rt:180:13
-pub shifted-returns-then-need_of_count-room-clause-computes :
-    goal.shifted-returns-then-need_of_count-room-clause-computes
+pub shifted-returns-then-need_of_count-room-clause-computes : goal.shifted-returns-then-need_of_count-room-clause-computes
 shifted-returns-then-need_of_count-room-clause-computes t c =
     in_order_computes c.args.self.now c.expression.new.self c.args.code.now c.expression.new.code c.subscript.new.code c.args.left.now c.args.count.now
     (value_of c.args.left.now) (subscript_value c.args.count.now 32) false c.args.room.registers c.args.room.kept c.in_ok-b.ensures.knowledge c.in_ok-b.ensures.computes
-    ?
+    (count_above c.args.self.now c.expression.new.self c.expression.new.code c.subscript.new.code c.args.count.now c.args.room c.above.result c.need_of_count.result
+    c.in_ok-b.ensures.knowledge c.above.ensures c.need_of_count.ensures.least c.need_of_count.ensures.constant c.if-need_of_count-room.true c.in_ok-a.ensures.computes)
     (suffices_count c.args.self.now c.args.room.registers c.need_of_count.result c.args.count.now c.need_of_count.ensures.least c.need_of_count.ensures.constant c.if-need_of_count-room.true)
 
 -- src/operands.rt:186:13
-pub shifted-returns-then-need-room-clause-computes :
-    goal.shifted-returns-then-need-room-clause-computes
-shifted-returns-then-need-room-clause-computes t c = ?
+pub shifted-returns-then-need-room-clause-computes : goal.shifted-returns-then-need-room-clause-computes
+shifted-returns-then-need-room-clause-computes t c =
+    λ storages scope unset s place one two least most knows.
+    reversed_computes c.args.self.now c.subscript-then-need-room.new.self c.args.code.now c.subscript-then-need-room.new.code c.expression-then-need-room.new.code c.instr.new.self
+    c.args.room.line c.args.left.now c.args.count.now
+    (value_of c.args.left.now) (subscript_value c.args.count.now 32) false c.args.room.registers c.args.room.kept c.in_ok-a-2.ensures.knowledge
+    (c.in_ok-a-2.ensures.computes (omega arith) (omega arith) (λ few. absurd (omega (arith, least, few))))
+    (subst (λ r. Computes c.subscript-then-need-room.new.self c.subscript-then-need-room.new.code c.expression-then-need-room.new.code c.args.left.now r.registers r.kept)
+    c.above-then-need-room.ensures c.in_ok-b-2.ensures.computes)
+    (suffices_above c.args.self.now c.args.room.registers c.need.result c.args.left.now c.need.ensures.least c.need.ensures.simple c.if-need-room.true)
+    c.in_ok-instr.ensures storages scope unset s place one two least most knows
 
 -- src/operands.rt:163:5
 pub shifted-returns-clause-computes : goal.shifted-returns-clause-computes
-shifted-returns-clause-computes t c = ?
+shifted-returns-clause-computes t c =
+    λ storages scope unset s place one two least most knows.
+    kept_reversed_computes c.args.self.now c.expression-2.new.self c.args.code.now c.expression-2.new.code c.emit.new.self c.subscript-2.new.code c.emit-2.new.self c.instr-2.new.self c.args.room.line
+    c.args.left.now c.args.count.now (value_of c.args.left.now) (subscript_value c.args.count.now 32) false c.args.room.registers c.args.room.kept c.in_ok-b-3.ensures.knowledge
+    c.in_ok-b-3.ensures.computes (λ storages scope unset s place stands knows. (c.in_ok-b-3.ensures.known storages scope unset s place stands knows).small)
+    (c.in_ok-emit.ensures ∙ ap (λ i. followed_by c.expression-2.new.code (line_of c.args.room.line (StoreTo i 0) ∷ [])) c.word.ensures)
+    (count_beside c.expression-2.new.self c.emit.new.self c.subscript-2.new.code c.args.count.now c.args.room c.in_ok-beside.field-0
+    c.in_ok-beside.ensures least c.in_ok-a-3.ensures.computes)
+    (c.in_ok-emit-2.ensures ∙ ap (λ i. followed_by c.subscript-2.new.code (line_of c.args.room.line (Load i 0) ∷ [])) c.word-2.ensures)
+    c.in_ok-instr-2.ensures storages scope unset s place one two least most knows
 
 -- src/operands.rt:163:5
 pub shifted-returns-clause-left : goal.shifted-returns-clause-left
@@ -344,44 +394,50 @@ subscript-returns-in-Some-clause-known t c =
     constant_subscript_known c.args.self.now c.args.e.now c.args.size c.in-Some.c value c.in-Some.ensures.some holds) c.number.ensures.holds
 
 -- src/subscripts.rt:337:13
-pub subscript-returns-in-Some-byte_variable-clause-computes :
-    goal.subscript-returns-in-Some-byte_variable-clause-computes
-subscript-returns-in-Some-byte_variable-clause-computes t c =
-    on_ok_weaker c.settled.result (λ makes positive small enough.
+pub reduced-returns-in-Some-clause-computes : goal.reduced-returns-in-Some-clause-computes
+reduced-returns-in-Some-clause-computes t c =
+    on_ok_weaker c.settled.result (λ makes positive small two.
     settled_computes c.args.self.now c.args.code.now c.push_byte.new.code c.settled.new.code c.args.e.now c.in_ok-value.value c.args.size c.args.room.registers c.args.room.kept
-    (byte_computes c.args.self.now c.args.code.now c.push_byte.new.code c.args.e.now c.in-Some-byte_variable.x c.args.room.registers c.args.room.kept c.in-Some-byte_variable.ensures c.in_ok-value.ensures.makes)
-    (byte_known c.args.self.now c.args.e.now c.in-Some-byte_variable.x c.in_ok-value.value c.in-Some-byte_variable.ensures c.in_ok-value.ensures.holds)
-    ? makes positive small enough) c.settled.ensures.makes
+    (byte_computes c.args.self.now c.args.code.now c.push_byte.new.code c.args.e.now c.in-Some.x c.args.room.registers c.args.room.kept c.in-Some.ensures c.in_ok-value.ensures.makes)
+    (byte_known c.args.self.now c.args.e.now c.in-Some.x c.in_ok-value.value c.in-Some.ensures c.in_ok-value.ensures.holds)
+    makes positive small two) c.settled.ensures.makes
 
 -- src/subscripts.rt:337:13
-pub subscript-returns-in-Some-byte_variable-clause-known :
-    goal.subscript-returns-in-Some-byte_variable-clause-known
-subscript-returns-in-Some-byte_variable-clause-known t c =
+pub reduced-returns-in-Some-clause-known : goal.reduced-returns-in-Some-clause-known
+reduced-returns-in-Some-clause-known t c =
     IfOk-weaker c.settled.result _ _ (λ made holds positive small.
     settled_known c.args.self.now c.args.e.now c.args.size c.in_ok-value.value made
-    (byte_known c.args.self.now c.args.e.now c.in-Some-byte_variable.x c.in_ok-value.value c.in-Some-byte_variable.ensures c.in_ok-value.ensures.holds)
+    (byte_known c.args.self.now c.args.e.now c.in-Some.x c.in_ok-value.value c.in-Some.ensures c.in_ok-value.ensures.holds)
     holds positive small) c.settled.ensures.holds
 
 -- src/subscripts.rt:318:5
-pub subscript-returns-clause-computes : goal.subscript-returns-clause-computes
-subscript-returns-clause-computes t c =
-    on_ok_weaker c.settled-2.result (λ makes positive small enough.
+pub reduced-returns-clause-computes : goal.reduced-returns-clause-computes
+reduced-returns-clause-computes t c =
+    on_ok_weaker c.settled-2.result (λ makes positive small two.
     settled_computes c.args.self.now c.args.code.now c.expression.new.code c.settled-2.new.code c.args.e.now c.in_ok-value-2.value c.args.size c.args.room.registers c.args.room.kept
-    c.in_ok-value-2.ensures.computes c.in_ok-value-2.ensures.known ? makes positive small enough) c.settled-2.ensures.makes
+    c.in_ok-value-2.ensures.computes c.in_ok-value-2.ensures.known makes positive small two) c.settled-2.ensures.makes
 
 -- src/subscripts.rt:318:5
-pub subscript-returns-clause-known : goal.subscript-returns-clause-known
-subscript-returns-clause-known t c =
+pub reduced-returns-clause-known : goal.reduced-returns-clause-known
+reduced-returns-clause-known t c =
     IfOk-weaker c.settled-2.result _ _ (λ made holds positive small.
     settled_known c.args.self.now c.args.e.now c.args.size c.in_ok-value-2.value made c.in_ok-value-2.ensures.known holds positive small) c.settled-2.ensures.holds
 
 -- src/operands.rt:81:5
 pub with_constant-returns-clause-computes : goal.with_constant-returns-clause-computes
 with_constant-returns-clause-computes t c =
-    ?
+    on_ok_weaker c.apply_constant.result (λ both unshifted enough.
+    last_computes c.args.self.now c.args.code.now c.expression.new.code c.apply_constant.new.code c.args.operator c.args.left.now c.in_ok-b.b c.args.c c.args.room.registers c.args.room.kept
+    c.in_ok-b.ensures.computes c.in_ok-b.ensures.known both.0 both.1 unshifted enough)
+    (on_ok_both _ _ c.apply_constant.result c.apply_constant.ensures.makes c.apply_constant.ensures.immediate)
 
 -- src/operands.rt:81:5
 pub with_constant-returns-clause-known : goal.with_constant-returns-clause-known
 with_constant-returns-clause-known t c =
     IfOk-weaker c.apply_constant.result _ _ (λ made holds.
     last_known c.args.self.now c.args.operator c.args.left.now c.in_ok-b.b made c.args.c c.in_ok-b.ensures.known holds) c.apply_constant.ensures.holds
+
+pub subscript-returns-in-None-clause-computes : goal.subscript-returns-in-None-clause-computes
+subscript-returns-in-None-clause-computes t c =
+    on_ok_weaker c.reduced.result (λ computes positive small enough.
+    computes positive small (not_constant c.args.self.now c.args.e.now c.args.size c.args.room.registers c.in-None.ensures.none enough)) c.reduced.ensures.computes
