@@ -1,5 +1,5 @@
 -- Where an expression may stand its parts may.
-use Rattle.std.proofs.Common.{Result, Ok, Err, OnOk, ◌≡◌, ◌⊎◌, inl, inr, Box, Global, ◌≤◌, ◌<◌, ◌^◌, ℕ, List, Bool, false, true, ◌&&◌, ◌||◌, refl, ap, sym, ◌∙◌, arith}
+use Rattle.std.proofs.Common.{Option, Some, None, Result, Ok, Err, OnOk, ◌≡◌, ◌⊎◌, inl, inr, Box, Global, ◌≤◌, ◌<◌, ◌^◌, ℕ, List, Bool, false, true, ◌&&◌, ◌||◌, refl, ap, sym, ◌∙◌, arith}
 use Rattle.std.specs.Prelude.{IsTrue}
 use Rattle.std.proofs.lemmas.Bool.{ltb-true, leb-true, cases_lt}
 use Rattle.tpw_occam_core.specs.declared.worker.Storage.{Storage}
@@ -104,3 +104,8 @@ suffices_part k registers e f part suffices = record { least = suffices.least; m
 pub on_ok_both : {A E : Type 0} (P Q : Type 0) (r : Result A E) → OnOk r P → OnOk r Q → OnOk r (P × Q)
 on_ok_both P Q (Ok x) p q = (p, q)
 on_ok_both P Q (Err e) p q = tt
+
+-- what is none of anything
+pub none_of : {A : Type 0} (o : Option A) → ((x : A) → o ≡ Some x → ⊥) → o ≡ None
+none_of None not_some = refl
+none_of (Some x) not_some = absurd (not_some x refl)

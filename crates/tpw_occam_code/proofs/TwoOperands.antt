@@ -363,10 +363,6 @@ pub suffices_count : (k : Knowledge) (registers n : ℕ) (count : Expression) �
 suffices_count k registers n count least constant less most =
     record { least = omega arith; most = omega arith; simple = λ one. let is = constant (omega (arith, one, less)) in constant_simple k count is.0 is.1 }
 
-pub may_change : (commute : Bool) → not commute ≡ false → commute ≡ true
-may_change true e = refl
-may_change false e = cc
-
 -- of what was kept in a word the verifier knows nothing
 pub recalled_holds : (value recalled : Value) (word : ℕ) → recalled ≡ record { source = value.source; known = full } → Holds value word → Holds recalled word
 recalled_holds value recalled word is holds = record {

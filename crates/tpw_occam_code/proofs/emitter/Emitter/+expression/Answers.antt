@@ -1,13 +1,13 @@
 use Rattle.std.proofs.Common.{◌≡◌, ◌≤◌, ◌<◌, ℕ, ◌+◌, ◌-◌, ◌*◌, ◌^◌, Bool, true, false, List, [], ◌∷◌, ◌++◌, Some, None, OnOk, IfOk, refl, ap, sym, subst, ◌∙◌, arith}
 use Rattle.std.specs.Bool.{IsTrue}
 use Rattle.std.proofs.lemmas.Result.{on_ok_weaker, IfOk-weaker}
-use Rattle.tpw_occam_code.proofs.Standing.{on_ok_both}
+use Rattle.tpw_occam_code.proofs.Standing.{on_ok_both, none_of}
 use Rattle.tpw_occam_core.specs.Meaning.{value_of}
 use Rattle.tpw_occam_code.specs.Computing.{Computes, ComputesBoth, ComputesTo, ComputesTwo, IsKnown, IsKnownOfBoth, IsKnownOf, IsNoShift, HasImmediate, IsSimplePair, has_immediate, subscript_value, applied_value, applied_last, applied_first, inverse_of, IsFixed, IsConstantBelow}
 use Rattle.tpw_occam_code.specs.Code.{followed_by, line_of}
 use Rattle.tpw_occam_code.specs.declared.code.Step.TheVariants.{Load, Store as StoreTo}
-use Rattle.tpw_occam_code.proofs.Constructs.{constant_computes, checked_computes, checked_known, low_byte_computes, low_byte_known, complement_computes, complement_known, binary_computes, binary_known, element_computes, element_known, fixed_computes, constant_subscript_computes, constant_subscript_known, settled_computes, settled_known, byte_computes, byte_known, last_computes, last_known, not_computes, not_constant, right_constant_computes, right_constant_known, left_constant_computes, left_constant_known}
-use Rattle.tpw_occam_code.proofs.TwoOperands.{suffices_above, in_order_computes, changed_computes, reversed_computes, kept_computes, kept_reversed_computes, suffices_count, may_change, recalled_holds, applied_computes, applied_known, first_above_computes, first_below_computes, first_known, swapped_computes, swapped_known, shift_computes, shift_known, swapped_commutes, swapped_immediate, fixed_immediate, count_above, count_beside}
+use Rattle.tpw_occam_code.proofs.Constructs.{constant_computes, checked_computes, checked_known, low_byte_computes, low_byte_known, complement_computes, complement_known, binary_computes, binary_known, element_computes, element_known, fixed_computes, constant_subscript_computes, constant_subscript_known, settled_computes, settled_known, byte_computes, byte_known, last_computes, last_known, not_computes, not_constant, right_constant_computes, right_constant_known, left_constant_computes, left_constant_known, no_immediate}
+use Rattle.tpw_occam_code.proofs.TwoOperands.{suffices_above, in_order_computes, changed_computes, reversed_computes, kept_computes, kept_reversed_computes, suffices_count, recalled_holds, applied_computes, applied_known, first_above_computes, first_below_computes, first_known, swapped_computes, swapped_known, shift_computes, shift_known, swapped_commutes, swapped_immediate, fixed_immediate, count_above, count_beside}
 use Rattle.tpw_occam_code.proofs.emitter.Emitter.+expression.Goals as goal
 
 -- src/operands.rt:45:13
@@ -243,7 +243,10 @@ in_order-returns-in-Some-clause-computes t c =
 -- src/operands.rt:74:13
 pub in_order-returns-in-Some-constant_of-clause-computes : goal.in_order-returns-in-Some-constant_of-clause-computes
 in_order-returns-in-Some-constant_of-clause-computes t c =
-    ?
+    on_ok_weaker c.constant_first.result (λ computes unshifted enough.
+    left_constant_computes c.args.self.now c.args.code.now c.constant_first.new.code c.args.operator c.args.left.now c.args.right.now c.in-Some-constant_of.c c.args.room.registers c.args.room.kept
+    (sym c.constant_of-2.ensures ∙ c.in-Some-constant_of.is) (sym c.constant_of.ensures ∙ none_of c.constant_of.result c.in_default.not-Some)
+    computes unshifted enough) c.constant_first.ensures.computes
 
 -- src/operands.rt:74:13
 pub in_order-returns-in-Some-constant_of-clause-known : goal.in_order-returns-in-Some-constant_of-clause-known
@@ -255,7 +258,12 @@ in_order-returns-in-Some-constant_of-clause-known t c =
 -- src/operands.rt:56:5
 pub in_order-returns-clause-computes : goal.in_order-returns-clause-computes
 in_order-returns-clause-computes t c =
-    ?
+    on_ok_weaker c.apply.result (λ works unshifted enough.
+    let more = no_immediate c.args.self.now c.args.operator c.args.left.now c.args.right.now c.args.room.registers
+        (sym c.constant_of.ensures ∙ none_of c.constant_of.result c.in_default.not-Some) enough in
+    applied_computes c.args.self.now c.operands.new.self c.args.code.now c.operands.new.code c.apply.new.code c.args.operator c.args.left.now c.args.right.now c.in_ok-b.b c.in_ok-b.a
+    c.commutes.result c.args.room.registers c.args.room.kept c.in_ok-b.ensures.knowledge c.commutes.ensures c.in_ok-b.ensures.computes c.in_ok-b.ensures.left c.in_ok-b.ensures.right
+    works.0 works.1 unshifted more) (on_ok_both _ _ c.apply.result c.apply.ensures.makes c.apply.ensures.swapped)
 
 -- src/expressions.rt:189:17
 pub inverted-returns-in-Some-clause-computes : goal.inverted-returns-in-Some-clause-computes
@@ -316,7 +324,7 @@ pub operands-returns-else-not-commute-clause-computes :
 operands-returns-else-not-commute-clause-computes t c =
     changed_computes c.args.self.now c.expression-then-need-room-2.new.self c.args.code.now c.expression-then-need-room-2.new.code c.expression-then-need-room-2-2.new.code
     c.args.left.now c.args.right.now
-    (value_of c.args.left.now) (value_of c.args.right.now) c.args.commute c.args.room.registers c.args.room.kept c.in_ok-a-2.ensures.knowledge (may_change c.args.commute c.if-not-commute.false)
+    (value_of c.args.left.now) (value_of c.args.right.now) c.args.commute c.args.room.registers c.args.room.kept c.in_ok-a-2.ensures.knowledge c.if-not-commute.false
     c.in_ok-a-2.ensures.computes
     (subst (λ r. Computes c.expression-then-need-room-2.new.self c.expression-then-need-room-2.new.code c.expression-then-need-room-2-2.new.code c.args.left.now r.registers r.kept)
     c.above-then-need-room-2.ensures c.in_ok-b-2.ensures.computes)

@@ -27,7 +27,7 @@ abbrev pub decreases-operands : goal.decreases-operands
 decreases-operands l = 5 * max (size-Expression l.left.now) (size-Expression l.right.now) + 2
 
 abbrev pub decreases-shifted : goal.decreases-shifted
-decreases-shifted l = 5 * max (size-Expression l.left.now) (size-Expression l.count.now) + 2
+decreases-shifted l = 5 * max (size-Expression l.left.now) (size-Expression l.count.now) + 3
 
 abbrev pub decreases-in_order : goal.decreases-in_order
 decreases-in_order l = 5 * max (size-Expression l.left.now) (size-Expression l.right.now) + 3
