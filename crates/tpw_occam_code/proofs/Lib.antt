@@ -11,3 +11,4 @@ pub mod Immediates
 pub mod Ranges
 pub mod Keeping
 pub mod TwoOperands
+pub mod Inverses

@@ -1,6 +1,6 @@
 -- What the code of an expression does.
 use Rattle.std.specs.Prelude.{◌≡◌, ℕ, ◌+◌, ◌-◌, ◌*◌, ◌%◌, ◌^◌, ◌<◌, ◌≤◌, Bool, true, false, not, ◌||◌, ◌&&◌, ◌==◌, nat_le}
-use Rattle.std.specs.Prelude.{if◌then◌else◌, List, [], ◌∷◌, ◌++◌, length, map, slice_index, Option, Some, None, is_some, IsTrue, pos, ◌⊎◌}
+use Rattle.std.specs.Prelude.{if◌then◌else◌, List, [], ◌∷◌, ◌++◌, length, map, slice_index, Option, Some, None, is_some, IsTrue, pos, ◌⊎◌, ◌≢◌}
 use Rattle.std.specs.Option.{option_and_then, option_map_or}
 use Rattle.std.specs.List.{list_any}
 use Rattle.tp_prefix.specs.Canonical.{canonical}
@@ -258,3 +258,18 @@ pub record IsFixed (k : Knowledge) (a : ℕ) (view : Kind) (e : Expression) (c :
   pub constant : constant_in k e ≡ Some c
   pub below : slice_index k.arrays a < 2 ^ 32 → c < elements_of view (slice_index k.arrays a)
   pub whole : view ≡ Byte → c % 4 ≡ 0
+
+-- one more and one less than the value of an expression that is one constant
+pub record IsSuccessor (k : Knowledge) (e : Expression) (next : ℕ) : Type 0 where
+  pub of : ℕ
+  pub constant : constant_in k e ≡ Some of
+  pub small : of < 2 ^ 32
+  pub less : of ≢ 2 ^ 31 - 1
+  pub is : next ≡ (of + 1) % 2 ^ 32
+
+pub record IsPredecessor (k : Knowledge) (e : Expression) (before : ℕ) : Type 0 where
+  pub of : ℕ
+  pub constant : constant_in k e ≡ Some of
+  pub small : of < 2 ^ 32
+  pub more : of ≢ 2 ^ 31
+  pub is : before ≡ (of + (2 ^ 32 - 1)) % 2 ^ 32

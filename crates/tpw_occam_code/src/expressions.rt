@@ -3,13 +3,15 @@
 //! The code of an expression pushes its value. It uses so many registers at most, that of the value among them: what
 //! the others hold stays. One register is enough only where the expression needs no more.
 
-ghost use Rattle.std.specs.Prelude.{◌≡◌, ◌≤◌, ℕ, IfOk, OnOk};
+ghost use Rattle.std.specs.Prelude.{◌≡◌, ◌≤◌, ℕ, ◌+◌, [], ◌∷◌, IfOk, OnOk, IfSome};
 ghost use Rattle.tpw_occam_core.specs.declared.expression.Expression.TheVariants as expression;
 ghost use Rattle.tpw_occam_code.specs.declared.emitter.Fact.{Fact};
 ghost use Rattle.tp_decode.specs.Words.{complement};
+ghost use Rattle.tpw_occam_code.specs.declared.code.Step.TheVariants.{CjTo};
+ghost use Rattle.tpw_occam_code.specs.Code.{joined, followed_by, line_of, place_behind};
 ghost use Rattle.tpw_occam_code.specs.Agreement.{with_fact};
 ghost use Rattle.tpw_occam_code.specs.Values.{Holds};
-ghost use Rattle.tpw_occam_code.specs.Computing.{Binds, ComputesBinding, Computes, ComputesTo, IsKnown, IsKnownOf, inverse_of};
+ghost use Rattle.tpw_occam_code.specs.Computing.{Binds, ComputesBinding, Computes, ComputesTo, IsKnown, IsKnownOf, IsSuccessor, IsPredecessor, inverse_of};
 
 use crate::code::{Code, Step};
 use crate::emitter::{Emitter, Room, constant, valued};
@@ -20,6 +22,11 @@ use crate::range::Range;
 use crate::subscripts::{checked, fixed_element, indexed_element, offset_element};
 use tp_decode::Instr;
 use tpw_occam_core::{Expression, Operator};
+
+/// The greatest and the least number.
+const MOST_POSITIVE: u32 = 0x7FFF_FFFF;
+
+const MOST_NEGATIVE: u32 = 0x8000_0000;
 
 /// What is known of a value that was pushed: the numbers that it may be, and those that the verifier knows of.
 #[derive(Clone, Copy)]
@@ -174,6 +181,26 @@ impl Emitter<'_> {
         Ok(())
     }
 
+    /// One more than the value of an expression that is one constant, if there is such a number.
+    fn successor(&self, e: &Expression) -> Option<u32>
+        ensures { IfSome result (λ next. IsSuccessor self.now e.now next) }
+    {
+        match self.constant_of(e) {
+            Some(c) if c != MOST_POSITIVE => Some(c.wrapping_add(1)),
+            _ => None,
+        }
+    }
+
+    /// One less than the value of an expression that is one constant, if there is such a number.
+    fn predecessor(&self, e: &Expression) -> Option<u32>
+        ensures { IfSome result (λ before. IsPredecessor self.now e.now before) }
+    {
+        match self.constant_of(e) {
+            Some(c) if c != MOST_NEGATIVE => Some(c.wrapping_sub(1)),
+            _ => None,
+        }
+    }
+
     /// Pushes whether an expression is FALSE. Of `x > c` that is `c + 1 > x`, and of `c > x` it is `x > c - 1`.
     #[cycle(expression)]
     fn inverted(&mut self, code: &mut Code, e: &Expression, room: Room) -> Result<Value, CodeFault>
@@ -187,11 +214,11 @@ impl Emitter<'_> {
             right,
         } = e
         {
-            if let Some(c) = self.constant_of(right).filter(|c| *c != 0x7FFF_FFFF) {
-                return self.constant_first(code, Operator::Greater, c.wrapping_add(1), left, room);
+            if let Some(next) = self.successor(right) {
+                return self.constant_first(code, Operator::Greater, next, left, room);
             }
-            if let Some(c) = self.constant_of(left).filter(|c| *c != 0x8000_0000) {
-                return self.with_constant(code, Operator::Greater, right, c.wrapping_sub(1), room);
+            if let Some(before) = self.predecessor(left) {
+                return self.with_constant(code, Operator::Greater, right, before, room);
             }
         }
         if let Expression::Not(e) = e {
@@ -250,7 +277,9 @@ impl Emitter<'_> {
 }
 
 /// Appends code that is passed over, by a `cj` before it, where Areg is 0.
-pub(crate) fn branch(code: &mut Code, line: u32, more: &Code) -> Result<(), CodeFault> {
+pub(crate) fn branch(code: &mut Code, line: u32, more: &Code) -> Result<(), CodeFault>
+    ensures { OnOk result (code.new ≡ joined (followed_by code.old (line_of line (CjTo (place_behind more.now)) ∷ [])) more.now) }
+{
     code.emit(line, Step::CjTo(more.here()))?;
     code.append(line, more)
 }
