@@ -53,7 +53,7 @@ does_nothing w code = record {
   };
 }
 
-step_is : (m : Machine) (line : CodeLine) → m.stopped ≡ false → slice_get m.code m.place ≡ Some line
+pub step_is : (m : Machine) (line : CodeLine) → m.stopped ≡ false → slice_get m.code m.place ≡ Some line
     → step m ≡ performed line.step (at_place (m.place + 1) m)
 unfolding step
 step_is m line running at = rw running (rw at refl)

@@ -12,3 +12,4 @@ pub mod Ranges
 pub mod Keeping
 pub mod TwoOperands
 pub mod Inverses
+pub mod Conditions

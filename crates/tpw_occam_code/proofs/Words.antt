@@ -71,3 +71,7 @@ applied_small Greater b a hb ha = chosen_small (int_lt (signed a) (signed b)) 1 
 -- the difference of two words is 0 where they are equal, and nowhere else
 pub difference_zero : (b a : ℕ) → b < 2 ^ 32 → a < 2 ^ 32 → int_eq (signed (low_word (pos b -ℤ pos a))) (pos 0) ≡ nat_eq b a
 difference_zero b a hb ha = grind (arith, ints, nat_tests)
+
+-- a word reads as 0 where it is 0
+pub zero_read : (a : ℕ) → a < 2 ^ 32 → int_eq (signed a) (pos 0) ≡ nat_eq a 0
+zero_read a h = grind (arith, ints, nat_tests)
