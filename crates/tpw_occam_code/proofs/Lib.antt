@@ -13,3 +13,4 @@ pub mod Keeping
 pub mod TwoOperands
 pub mod Inverses
 pub mod Conditions
+pub mod Naming

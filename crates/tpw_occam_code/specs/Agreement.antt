@@ -76,6 +76,7 @@ pub record Knows (k : Knowledge) (scope : List Entry) (unset : ℕ → Bool) (s 
   pub names : (x : ℕ) → IsTrue (list_any (is_name x) scope) → unset x ≡ false
       → FitsFact (fact_at k x) (slice_index s.values x)
   pub lengths : (a : ℕ) → IsTrue (list_any (is_array a) scope) → length (array_of s a) ≡ slice_index k.arrays a
+  pub count : length s.values ≡ length k.kinds
   pub bytes : (a i : ℕ) → slice_index (array_of s a) i < 256
 
 -- A machine agrees with a state in the names in scope that are assigned and have a word, and in the arrays in scope.

@@ -234,7 +234,7 @@ abbrev pub Binds : (before after : Knowledge) → ℕ → Expression → Type 0
 Binds before after x e =
     (storages : List Storage) (scope : List Entry) (unset : ℕ → Bool) (s : Store) → IsPlace before storages scope
     → MayStand before storages scope unset e → Knows before scope unset s
-    → IsTrue (is_new_name (length before.kinds) scope x) → x < length s.values
+    → IsTrue (is_new_name (length before.kinds) scope x)
     → Knows after (scope ++ entry.Value x ∷ []) unset (with_value x (value_of e s).word s)
 
 -- .. and its code gives the name's word that value, if it has a word, and leaves what is in use
@@ -248,7 +248,7 @@ abbrev pub ComputesBinding : (before after : Knowledge) → (old new : Lines) �
 ComputesBinding before after old new x e registers kept =
     (storages : List Storage) (scope : List Entry) (unset : ℕ → Bool) (s : Store) → IsPlace before storages scope
     → MayStand before storages scope unset e → Suffices before registers e → Knows before scope unset s
-    → IsTrue (is_new_name (length before.kinds) scope x) → x < length s.values
+    → IsTrue (is_new_name (length before.kinds) scope x)
     → Does before.arrays old new (Agrees before scope unset s)
     (λ m end. Binding registers kept scope (value_of e s).flag m end
     × Agrees after (scope ++ entry.Value x ∷ []) unset (with_value x (value_of e s).word s) end)

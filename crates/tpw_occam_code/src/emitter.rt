@@ -1,6 +1,6 @@
 //! What is known while code is made.
 
-ghost use Rattle.std.specs.Prelude.{◌≡◌, ◌<◌, ◌^◌, ◌+◌, ◌-◌, ℕ, List, Some, OnOk, IfOk, slice_index};
+ghost use Rattle.std.specs.Prelude.{◌≡◌, ◌<◌, ◌^◌, ◌+◌, ◌-◌, ℕ, List, Some, OnOk, IfOk, IfSome, slice_index};
 ghost use Rattle.tpw_occam_core.specs.Meaning.{kind_of};
 ghost use Rattle.tpw_occam_code.specs.Agreement.{fact_of_kind, valued_fact, constant_fact, counted_fact, fact_at, with_fact};
 ghost use Rattle.tpw_occam_code.specs.Agreement.{constant_in, elements_of};
@@ -199,7 +199,8 @@ impl<'a> Emitter<'a> {
 
     /// The value of an expression that is one constant.
     pub(crate) fn constant_of(&self, e: &Expression) -> Option<u32>
-        ensures { result ≡ constant_in self.now e.now }
+        ensures value { result ≡ constant_in self.now e.now }
+        ensures small { IfSome result (λ c. c < 2 ^ 32) }
     {
         match e {
             Expression::Constant(c) => Some(*c),

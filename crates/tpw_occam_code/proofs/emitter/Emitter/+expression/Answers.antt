@@ -238,14 +238,14 @@ pub in_order-returns-in-Some-clause-computes : goal.in_order-returns-in-Some-cla
 in_order-returns-in-Some-clause-computes t c =
     on_ok_weaker c.with_constant.result (λ computes unshifted enough.
     right_constant_computes c.args.self.now c.args.code.now c.with_constant.new.code c.args.operator c.args.left.now c.args.right.now c.in-Some.c c.args.room.registers c.args.room.kept
-    (sym c.constant_of.ensures ∙ c.in-Some.is) computes unshifted enough) c.with_constant.ensures.computes
+    (sym c.constant_of.ensures.value ∙ c.in-Some.is) computes unshifted enough) c.with_constant.ensures.computes
 
 -- src/operands.rt:74:13
 pub in_order-returns-in-Some-constant_of-clause-computes : goal.in_order-returns-in-Some-constant_of-clause-computes
 in_order-returns-in-Some-constant_of-clause-computes t c =
     on_ok_weaker c.constant_first.result (λ computes unshifted enough.
     left_constant_computes c.args.self.now c.args.code.now c.constant_first.new.code c.args.operator c.args.left.now c.args.right.now c.in-Some-constant_of.c c.args.room.registers c.args.room.kept
-    (sym c.constant_of-2.ensures ∙ c.in-Some-constant_of.is) (sym c.constant_of.ensures ∙ none_of c.constant_of.result c.in_default.not-Some)
+    (sym c.constant_of-2.ensures.value ∙ c.in-Some-constant_of.is) (sym c.constant_of.ensures.value ∙ none_of c.constant_of.result c.in_default.not-Some)
     computes unshifted enough) c.constant_first.ensures.computes
 
 -- src/operands.rt:74:13
@@ -253,14 +253,14 @@ pub in_order-returns-in-Some-constant_of-clause-known : goal.in_order-returns-in
 in_order-returns-in-Some-constant_of-clause-known t c =
     IfOk-weaker c.constant_first.result _ _ (λ value known.
     left_constant_known c.args.self.now c.args.operator c.args.left.now c.args.right.now c.in-Some-constant_of.c value
-    (sym c.constant_of-2.ensures ∙ c.in-Some-constant_of.is) known) c.constant_first.ensures.known
+    (sym c.constant_of-2.ensures.value ∙ c.in-Some-constant_of.is) known) c.constant_first.ensures.known
 
 -- src/operands.rt:56:5
 pub in_order-returns-clause-computes : goal.in_order-returns-clause-computes
 in_order-returns-clause-computes t c =
     on_ok_weaker c.apply.result (λ works unshifted enough.
     let more = no_immediate c.args.self.now c.args.operator c.args.left.now c.args.right.now c.args.room.registers
-        (sym c.constant_of.ensures ∙ none_of c.constant_of.result c.in_default.not-Some) enough in
+        (sym c.constant_of.ensures.value ∙ none_of c.constant_of.result c.in_default.not-Some) enough in
     applied_computes c.args.self.now c.operands.new.self c.args.code.now c.operands.new.code c.apply.new.code c.args.operator c.args.left.now c.args.right.now c.in_ok-b.b c.in_ok-b.a
     c.commutes.result c.args.room.registers c.args.room.kept c.in_ok-b.ensures.knowledge c.commutes.ensures c.in_ok-b.ensures.computes c.in_ok-b.ensures.left c.in_ok-b.ensures.right
     works.0 works.1 unshifted more) (on_ok_both _ _ c.apply.result c.apply.ensures.makes c.apply.ensures.swapped)

@@ -7,6 +7,7 @@ use Rattle.tpw_occam_code.proofs.Keeping.{does_recall}
 use Rattle.tpw_occam_code.proofs.TwoOperands.{does_rev}
 use Rattle.tpw_occam_code.proofs.Inverses.{greater_inverse}
 use Rattle.tpw_occam_code.proofs.Conditions.{same_known}
+use Rattle.tpw_occam_code.proofs.Naming.{restored}
 use Rattle.tpw_occam_code.proofs.emitter.Emitter.name.Goals as goal
 
 pub returns-in-Some-clause-computes : goal.returns-in-Some-clause-computes
