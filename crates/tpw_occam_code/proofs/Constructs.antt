@@ -450,3 +450,7 @@ left_constant_known k operator left right c value is known storages scope unset 
     let same : value_of left s ≡ plain c = constant_value k storages scope unset s left c one knows is in
     subst (λ v. Holds value (followed v (λ b. followed (value_of right s) (applied operator b))).word) (sym same)
     (known storages scope unset s place two knows)
+
+pub not_known : (k : Knowledge) (p : Place) (e : Expression) (value : Value) → IsKnownOf k e (inverse_of e) value → IsKnown k (Not' p e) value
+not_known k p e value known storages scope unset s place stands knows =
+    known storages scope unset s place (stand_not k storages scope unset p e stands) knows

@@ -6,7 +6,12 @@ use Rattle.tpw_occam_core.specs.Meaning.{value_of}
 use Rattle.tpw_occam_code.specs.Computing.{Computes, ComputesBoth, ComputesTo, ComputesTwo, IsKnown, IsKnownOfBoth, IsKnownOf, IsNoShift, HasImmediate, IsSimplePair, has_immediate, subscript_value, applied_value, applied_last, applied_first, inverse_of, IsFixed, IsConstantBelow}
 use Rattle.tpw_occam_code.specs.Code.{followed_by, line_of}
 use Rattle.tpw_occam_code.specs.declared.code.Step.TheVariants.{Load, Store as StoreTo}
-use Rattle.tpw_occam_code.proofs.Constructs.{constant_computes, checked_computes, checked_known, low_byte_computes, low_byte_known, complement_computes, complement_known, binary_computes, binary_known, element_computes, element_known, fixed_computes, constant_subscript_computes, constant_subscript_known, settled_computes, settled_known, byte_computes, byte_known, last_computes, last_known, not_computes, not_constant, right_constant_computes, right_constant_known, left_constant_computes, left_constant_known, no_immediate}
+use Rattle.tpw_occam_code.proofs.Constructs.{constant_computes, checked_computes, checked_known, low_byte_computes, low_byte_known, complement_computes, complement_known, binary_computes, binary_known, element_computes, element_known, fixed_computes, constant_subscript_computes, constant_subscript_known, settled_computes, settled_known, byte_computes, byte_known, last_computes, last_known, not_computes, not_known, not_constant, right_constant_computes, right_constant_known, left_constant_computes, left_constant_known, no_immediate}
+use Rattle.tpw_occam_core.specs.declared.expression.Operator.TheVariants.{Greater}
+use Rattle.tpw_occam_code.specs.Agreement.{with_fact, valued_fact, fact_at}
+use Rattle.tpw_occam_code.specs.Computing.{Binds, ComputesBinding, IsSuccessor, IsPredecessor}
+use Rattle.tpw_occam_code.proofs.Conditions.{inverse_computes, inverse_known, same_computes, same_known, twice_computes, successor_computes, successor_known, predecessor_computes, predecessor_known, and_computes, and_known, or_computes, or_known}
+use Rattle.tpw_occam_code.proofs.Naming.{constant_binds, constant_binding, value_binds, value_binding, let_computes, let_known, restored}
 use Rattle.tpw_occam_code.proofs.TwoOperands.{suffices_above, in_order_computes, changed_computes, reversed_computes, kept_computes, kept_reversed_computes, suffices_count, recalled_holds, applied_computes, applied_known, first_above_computes, first_below_computes, first_known, swapped_computes, swapped_known, shift_computes, shift_known, swapped_commutes, swapped_immediate, fixed_immediate, count_above, count_beside}
 use Rattle.tpw_occam_code.proofs.emitter.Emitter.+expression.Goals as goal
 
@@ -51,15 +56,22 @@ binary-returns-else-is_swapped-clause-computes t c =
 
 -- src/expressions.rt:162:13
 pub bind-returns-in-Some-clause-knows : goal.bind-returns-in-Some-clause-knows
-bind-returns-in-Some-clause-knows t c = ?
+bind-returns-in-Some-clause-knows t c =
+    subst (λ after. Binds c.args.self.now after c.args.x c.args.e.now) (sym (c.set_fact.ensures ∙ ap (λ f. with_fact c.args.x f c.args.self.now) c.constant.ensures))
+    (constant_binds c.args.self.now c.args.x c.in-Some.c c.args.e.now (sym c.constant_of.ensures.value ∙ c.in-Some.is) c.in-Some.ensures.small)
 
 -- src/expressions.rt:162:13
 pub bind-returns-in-Some-clause-computes : goal.bind-returns-in-Some-clause-computes
-bind-returns-in-Some-clause-computes t c = ?
+bind-returns-in-Some-clause-computes t c =
+    subst (λ after. ComputesBinding c.args.self.now after c.args.code.now c.args.code.now c.args.x c.args.e.now c.args.room.registers c.args.room.kept) (sym (c.set_fact.ensures ∙ ap (λ f. with_fact c.args.x f c.args.self.now) c.constant.ensures))
+    (constant_binding c.args.self.now c.args.code.now c.args.x c.in-Some.c c.args.e.now c.args.room.registers c.args.room.kept (sym c.constant_of.ensures.value ∙ c.in-Some.is))
 
 -- src/expressions.rt:146:5
 pub bind-returns-clause-computes : goal.bind-returns-clause-computes
-bind-returns-clause-computes t c = ?
+bind-returns-clause-computes t c =
+    subst (λ after. ComputesBinding c.args.self.now after c.args.code.now c.emit.new.self c.args.x c.args.e.now c.args.room.registers c.args.room.kept) (sym (c.set_fact-2.ensures ∙ ap (λ f. with_fact c.args.x f c.expression.new.self) c.valued.ensures
+    ∙ ap (with_fact c.args.x (valued_fact c.in_ok-value.value.source)) c.in_ok-value.ensures.knowledge))
+    (value_binding c.args.self.now c.args.code.now c.expression.new.code c.emit.new.self c.args.room.line c.args.x c.args.e.now c.in_ok-value.value c.args.room.registers c.args.room.kept c.in_ok-value.ensures.computes c.in_ok-emit.ensures)
 
 -- src/operands.rt:117:13
 pub constant_first-returns-then-need-room-clause-computes : goal.constant_first-returns-then-need-room-clause-computes
@@ -199,39 +211,63 @@ expression-returns-in_ok-value-in-LowByte-clause-known t c =
     c.checked-in-LowByte.ensures.holds
 
 -- src/expressions.rt:49:5
-pub expression-returns-in_ok-branch-in-And-clause-computes :
-    goal.expression-returns-in_ok-branch-in-And-clause-computes
-expression-returns-in_ok-branch-in-And-clause-computes t c = ?
+pub expression-returns-in_ok-branch-in-And-clause-computes : goal.expression-returns-in_ok-branch-in-And-clause-computes
+expression-returns-in_ok-branch-in-And-clause-computes t c =
+    rw c.in-And.is (and_computes c.args.self.now c.expression-in-And.new.self c.args.code.now c.expression-in-And.new.code c.expression-in-And-2.new.code c.branch-code.new.code
+    c.args.room.line _ c.in-And.left.value _ c.in-And.right.value c.args.room.registers c.args.room.kept c.in_ok-expression-in-And.ensures.knowledge
+    (subst (λ e. Computes c.args.self.now c.args.code.now c.expression-in-And.new.code e c.args.room.registers c.args.room.kept) c.deref-in-And.ensures c.in_ok-expression-in-And.ensures.computes)
+    (subst (λ l. Computes c.expression-in-And.new.self l c.expression-in-And-2.new.code c.in-And.right.value c.args.room.registers c.args.room.kept) c.in_ok-more-in-And.ensures
+    (subst (λ e. Computes c.expression-in-And.new.self c.in_ok-more-in-And.more c.expression-in-And-2.new.code e c.args.room.registers c.args.room.kept) c.deref-in-And-2.ensures
+    c.in_ok-value-in-And.ensures.computes))
+    c.in_ok-branch-in-And.ensures)
 
 -- src/expressions.rt:49:5
-pub expression-returns-in_ok-branch-in-And-clause-known :
-    goal.expression-returns-in_ok-branch-in-And-clause-known
-expression-returns-in_ok-branch-in-And-clause-known t c = ?
+pub expression-returns-in_ok-branch-in-And-clause-known : goal.expression-returns-in_ok-branch-in-And-clause-known
+expression-returns-in_ok-branch-in-And-clause-known t c =
+    rw c.in-And.is (and_known c.args.self.now c.expression-in-And.new.self _ c.in-And.left.value _ c.in-And.right.value c.in_ok-value-in-And.value c.or.result
+    c.in_ok-expression-in-And.ensures.knowledge
+    (subst (λ e. IsKnown c.expression-in-And.new.self e c.in_ok-value-in-And.value) c.deref-in-And-2.ensures c.in_ok-value-in-And.ensures.known)
+    c.or.ensures.first (c.or.ensures.second 0 (c.truth.ensures 0 (omega arith))))
 
 -- src/expressions.rt:49:5
-pub expression-returns-in_ok-instr-in-Or-clause-computes :
-    goal.expression-returns-in_ok-instr-in-Or-clause-computes
-expression-returns-in_ok-instr-in-Or-clause-computes t c = ?
+pub expression-returns-in_ok-instr-in-Or-clause-computes : goal.expression-returns-in_ok-instr-in-Or-clause-computes
+expression-returns-in_ok-instr-in-Or-clause-computes t c =
+    rw c.in-Or.is (or_computes c.args.self.now c.inverted-in-Or.new.self c.args.code.now c.inverted-in-Or.new.code c.inverted-in-Or-2.new.code c.branch-code-in-Or.new.code c.instr-in-Or.new.self
+    c.args.room.line _ c.in-Or.left.value _ c.in-Or.right.value c.args.room.registers c.args.room.kept c.in_ok-inverted-in-Or.ensures.knowledge
+    (subst (λ e. ComputesTo c.args.self.now c.args.code.now c.inverted-in-Or.new.code e (inverse_of e) c.args.room.registers c.args.room.kept) c.deref-in-Or.ensures c.in_ok-inverted-in-Or.ensures.computes)
+    (subst (λ l. ComputesTo c.inverted-in-Or.new.self l c.inverted-in-Or-2.new.code c.in-Or.right.value (inverse_of c.in-Or.right.value) c.args.room.registers c.args.room.kept) c.in_ok-more-in-Or.ensures
+    (subst (λ e. ComputesTo c.inverted-in-Or.new.self c.in_ok-more-in-Or.more c.inverted-in-Or-2.new.code e (inverse_of e) c.args.room.registers c.args.room.kept) c.deref-in-Or-2.ensures
+    c.in_ok-inverted-in-Or-2.ensures.computes))
+    c.in_ok-branch-in-Or.ensures c.in_ok-instr-in-Or.ensures)
 
 -- src/expressions.rt:49:5
-pub expression-returns-in_ok-instr-in-Or-clause-known :
-    goal.expression-returns-in_ok-instr-in-Or-clause-known
-expression-returns-in_ok-instr-in-Or-clause-known t c = ?
+pub expression-returns-in_ok-instr-in-Or-clause-known : goal.expression-returns-in_ok-instr-in-Or-clause-known
+expression-returns-in_ok-instr-in-Or-clause-known t c =
+    rw c.in-Or.is (or_known c.args.self.now _ c.in-Or.left.value _ c.in-Or.right.value c.truth-in-Or.result c.truth-in-Or.ensures)
 
 -- src/expressions.rt:49:5
-pub expression-returns-in_ok-value-in-Let-clause-knowledge :
-    goal.expression-returns-in_ok-value-in-Let-clause-knowledge
-expression-returns-in_ok-value-in-Let-clause-knowledge t c = ?
+pub expression-returns-in_ok-value-in-Let-clause-knowledge : goal.expression-returns-in_ok-value-in-Let-clause-knowledge
+expression-returns-in_ok-value-in-Let-clause-knowledge t c =
+    c.set_fact.ensures ∙ ap (λ f. with_fact c.in-Let.name f c.expression-in-Let.new.self) c.fact-before.ensures
+    ∙ ap (with_fact c.in-Let.name (fact_at c.args.self.now c.in-Let.name)) c.in_ok-value-in-Let.ensures.knowledge
+    ∙ restored c.args.self.now c.bind.new.self c.in-Let.name c.in_ok-bind-in-Let.ensures.facts.0 c.in_ok-bind-in-Let.ensures.facts.1
 
 -- src/expressions.rt:49:5
-pub expression-returns-in_ok-value-in-Let-clause-computes :
-    goal.expression-returns-in_ok-value-in-Let-clause-computes
-expression-returns-in_ok-value-in-Let-clause-computes t c = ?
+pub expression-returns-in_ok-value-in-Let-clause-computes : goal.expression-returns-in_ok-value-in-Let-clause-computes
+expression-returns-in_ok-value-in-Let-clause-computes t c =
+    rw c.in-Let.is (let_computes c.args.self.now c.bind.new.self c.args.code.now c.bind.new.code c.expression-in-Let.new.code c.in-Let.name _ c.in-Let.value.value _ c.in-Let.within.value
+    c.in_ok-bind-in-Let.ensures.facts.0 c.args.room.registers c.args.room.kept c.in_ok-bind-in-Let.ensures.facts.1
+    (subst (λ e. Binds c.args.self.now c.bind.new.self c.in-Let.name e) c.deref-in-Let.ensures c.in_ok-bind-in-Let.ensures.knows)
+    (subst (λ e. ComputesBinding c.args.self.now c.bind.new.self c.args.code.now c.bind.new.code c.in-Let.name e c.args.room.registers c.args.room.kept) c.deref-in-Let.ensures c.in_ok-bind-in-Let.ensures.computes)
+    (subst (λ e. Computes c.bind.new.self c.bind.new.code c.expression-in-Let.new.code e c.args.room.registers c.args.room.kept) c.deref-in-Let-2.ensures c.in_ok-value-in-Let.ensures.computes))
 
 -- src/expressions.rt:49:5
-pub expression-returns-in_ok-value-in-Let-clause-known :
-    goal.expression-returns-in_ok-value-in-Let-clause-known
-expression-returns-in_ok-value-in-Let-clause-known t c = ?
+pub expression-returns-in_ok-value-in-Let-clause-known : goal.expression-returns-in_ok-value-in-Let-clause-known
+expression-returns-in_ok-value-in-Let-clause-known t c =
+    rw c.in-Let.is (let_known c.args.self.now c.bind.new.self c.in-Let.name _ c.in-Let.value.value _ c.in-Let.within.value
+    c.in_ok-bind-in-Let.ensures.facts.0 c.in_ok-value-in-Let.value c.in_ok-bind-in-Let.ensures.facts.1
+    (subst (λ e. Binds c.args.self.now c.bind.new.self c.in-Let.name e) c.deref-in-Let.ensures c.in_ok-bind-in-Let.ensures.knows)
+    (subst (λ e. IsKnown c.bind.new.self e c.in_ok-value-in-Let.value) c.deref-in-Let-2.ensures c.in_ok-value-in-Let.ensures.known))
 
 -- src/operands.rt:71:13
 pub in_order-returns-in-Some-clause-computes : goal.in_order-returns-in-Some-clause-computes
@@ -267,34 +303,56 @@ in_order-returns-clause-computes t c =
 
 -- src/expressions.rt:189:17
 pub inverted-returns-in-Some-clause-computes : goal.inverted-returns-in-Some-clause-computes
-inverted-returns-in-Some-clause-computes t c = ?
+inverted-returns-in-Some-clause-computes t c =
+    on_ok_weaker c.constant_first.result (λ computes.
+    rw c.in-Binary-Greater-default-default.is (rw c.in-Binary-Greater-default-default.operator-is (successor_computes c.args.self.now c.args.code.now c.constant_first.new.code _ c.in-Binary-Greater-default-default.left.value _ c.in-Binary-Greater-default-default.right.value c.in-Some.next c.args.room.registers c.args.room.kept
+    (subst (λ e. IsSuccessor c.args.self.now e c.in-Some.next) c.deref.ensures c.in-Some.ensures)
+    (subst (λ e. IsNoShift Greater → 2 ≤ c.args.room.registers → ComputesTo c.args.self.now c.args.code.now c.constant_first.new.code e (applied_first Greater c.in-Some.next e) c.args.room.registers c.args.room.kept)
+    c.deref-in-Some.ensures computes)))) c.constant_first.ensures.computes
 
 -- src/expressions.rt:189:17
 pub inverted-returns-in-Some-clause-known : goal.inverted-returns-in-Some-clause-known
-inverted-returns-in-Some-clause-known t c = ?
+inverted-returns-in-Some-clause-known t c =
+    IfOk-weaker c.constant_first.result _ _ (λ value known.
+    rw c.in-Binary-Greater-default-default.is (rw c.in-Binary-Greater-default-default.operator-is (successor_known c.args.self.now _ c.in-Binary-Greater-default-default.left.value _ c.in-Binary-Greater-default-default.right.value c.in-Some.next value
+    (subst (λ e. IsSuccessor c.args.self.now e c.in-Some.next) c.deref.ensures c.in-Some.ensures)
+    (subst (λ e. IsKnownOf c.args.self.now e (applied_first Greater c.in-Some.next e) value) c.deref-in-Some.ensures known)))) c.constant_first.ensures.known
 
 -- src/expressions.rt:192:17
-pub inverted-returns-in-Some-filter-clause-computes :
-    goal.inverted-returns-in-Some-filter-clause-computes
-inverted-returns-in-Some-filter-clause-computes t c = ?
+pub inverted-returns-in-Some-predecessor-clause-computes : goal.inverted-returns-in-Some-predecessor-clause-computes
+inverted-returns-in-Some-predecessor-clause-computes t c =
+    ?
 
 -- src/expressions.rt:192:17
-pub inverted-returns-in-Some-filter-clause-known :
-    goal.inverted-returns-in-Some-filter-clause-known
-inverted-returns-in-Some-filter-clause-known t c = ?
+pub inverted-returns-in-Some-predecessor-clause-known : goal.inverted-returns-in-Some-predecessor-clause-known
+inverted-returns-in-Some-predecessor-clause-known t c =
+    ?
 
 -- src/expressions.rt:198:17
-pub inverted-returns-then-is_within-clause-computes :
-    goal.inverted-returns-then-is_within-clause-computes
-inverted-returns-then-is_within-clause-computes t c = ?
+pub inverted-returns-then-is_within-clause-computes : goal.inverted-returns-then-is_within-clause-computes
+inverted-returns-then-is_within-clause-computes t c =
+    rw c.in-Not.is (same_computes c.args.self.now c.args.code.now c.expression.new.code _ c.in-Not.e.value c.in_ok-value.value c.args.room.registers c.args.room.kept
+    (subst (λ e. Computes c.args.self.now c.args.code.now c.expression.new.code e c.args.room.registers c.args.room.kept) c.deref-in-Not.ensures c.in_ok-value.ensures.computes)
+    (subst (λ e. IsKnown c.args.self.now e c.in_ok-value.value) c.deref-in-Not.ensures c.in_ok-value.ensures.known)
+    (λ word holds. c.below.ensures.within (omega arith) (omega arith) word holds.small (c.is_within.ensures.contains c.if-is_within.true word holds.source)))
 
 -- src/expressions.rt:202:13
 pub inverted-returns-in-Not-clause-computes : goal.inverted-returns-in-Not-clause-computes
-inverted-returns-in-Not-clause-computes t c = ?
+inverted-returns-in-Not-clause-computes t c =
+    rw c.in-Not.is (twice_computes c.args.self.now c.args.code.now c.expression.new.code c.instr.new.self c.instr-in-Not.new.self c.args.room.line _ c.in-Not.e.value c.in_ok-value.value c.args.room.registers c.args.room.kept
+    (subst (λ e. Computes c.args.self.now c.args.code.now c.expression.new.code e c.args.room.registers c.args.room.kept) c.deref-in-Not.ensures c.in_ok-value.ensures.computes)
+    (subst (λ e. IsKnown c.args.self.now e c.in_ok-value.value) c.deref-in-Not.ensures c.in_ok-value.ensures.known)
+    c.in_ok-instr.ensures c.in_ok-instr-2.ensures)
 
 -- src/expressions.rt:171:5
 pub inverted-returns : goal.inverted-returns
-inverted-returns t c = ?
+inverted-returns t c =
+    record {
+      knowledge = c.in_ok-expression.ensures.knowledge;
+      computes = inverse_computes c.args.self.now c.args.code.now c.expression-2.new.code c.instr-2.new.self c.args.room.line c.args.e.now c.in_ok-expression.field-0 c.args.room.registers c.args.room.kept
+          c.in_ok-expression.ensures.computes c.in_ok-expression.ensures.known c.in_ok-instr-3.ensures;
+      known = inverse_known c.args.self.now c.args.e.now c.truth-2.result c.truth-2.ensures;
+    }
 
 -- src/operands.rt:144:13
 pub operands-returns-then-need-room-clause-computes :
@@ -449,3 +507,81 @@ pub subscript-returns-in-None-clause-computes : goal.subscript-returns-in-None-c
 subscript-returns-in-None-clause-computes t c =
     on_ok_weaker c.reduced.result (λ computes positive small enough.
     computes positive small (not_constant c.args.self.now c.args.e.now c.args.size c.args.room.registers c.in-None.ensures.none enough)) c.reduced.ensures.computes
+
+pub operands-returns-then-need-room-clause-right : goal.operands-returns-then-need-room-clause-right
+operands-returns-then-need-room-clause-right t c =
+    subst (λ k. IsKnown k c.args.right.now c.in_ok-a.a) c.in_ok-b.ensures.knowledge c.in_ok-a.ensures.known
+
+pub operands-returns-in_ok-instr-clause-left : goal.operands-returns-in_ok-instr-clause-left
+operands-returns-in_ok-instr-clause-left t c =
+    subst (λ k. IsKnown k c.args.left.now c.in_ok-b-2.b) c.in_ok-a-2.ensures.knowledge c.in_ok-b-2.ensures.known
+
+pub operands-returns-else-not-commute-clause-left : goal.operands-returns-else-not-commute-clause-left
+operands-returns-else-not-commute-clause-left t c =
+    subst (λ k. IsKnown k c.args.left.now c.in_ok-b-2.b) c.in_ok-a-2.ensures.knowledge c.in_ok-b-2.ensures.known
+
+pub operands-returns-clause-left : goal.operands-returns-clause-left
+operands-returns-clause-left t c =
+    subst (λ k. IsKnown k c.args.left.now c.in_ok-b-3.b) c.in_ok-a-3.ensures.knowledge c.in_ok-b-3.ensures.known
+
+pub shifted-returns-then-need_of_count-room-clause-count : goal.shifted-returns-then-need_of_count-room-clause-count
+shifted-returns-then-need_of_count-room-clause-count t c =
+    subst (λ k. IsKnownOf k c.args.count.now (subscript_value c.args.count.now 32) c.in_ok-a.a) c.in_ok-b.ensures.knowledge (c.in_ok-a.ensures.known (omega arith) (omega arith))
+
+pub shifted-returns-then-need-room-clause-count : goal.shifted-returns-then-need-room-clause-count
+shifted-returns-then-need-room-clause-count t c =
+    c.in_ok-a-2.ensures.known (omega arith) (omega arith)
+
+pub shifted-returns-then-need-room-clause-left : goal.shifted-returns-then-need-room-clause-left
+shifted-returns-then-need-room-clause-left t c =
+    subst (λ k. IsKnown k c.args.left.now c.in_ok-b-2.b) c.in_ok-a-2.ensures.knowledge c.in_ok-b-2.ensures.known
+
+pub shifted-returns-clause-count : goal.shifted-returns-clause-count
+shifted-returns-clause-count t c =
+    subst (λ k. IsKnownOf k c.args.count.now (subscript_value c.args.count.now 32) c.in_ok-a-3.a) c.in_ok-b-3.ensures.knowledge (c.in_ok-a-3.ensures.known (omega arith) (omega arith))
+
+pub constant_first-returns-then-need-room-clause-known : goal.constant_first-returns-then-need-room-clause-known
+constant_first-returns-then-need-room-clause-known t c =
+    IfOk-weaker c.apply.result _ _ (λ made holds.
+    first_known c.args.self.now c.args.operator c.args.right.now c.args.c c.in_ok-b.b c.in_ok-a.a made c.in_ok-b.ensures.holds c.in_ok-a.ensures.known holds) c.apply.ensures.holds
+
+pub constant_first-returns-clause-known : goal.constant_first-returns-clause-known
+constant_first-returns-clause-known t c =
+    IfOk-weaker c.apply-2.result _ _ (λ made holds.
+    first_known c.args.self.now c.args.operator c.args.right.now c.args.c c.in_ok-b-2.b c.in_ok-a-2.a made c.in_ok-b-2.ensures.holds c.in_ok-a-2.ensures.known holds) c.apply-2.ensures.holds
+
+pub in_order-returns-clause-known : goal.in_order-returns-clause-known
+in_order-returns-clause-known t c =
+    IfOk-weaker c.apply.result _ _ (λ made holds.
+    applied_known c.args.self.now c.args.operator c.args.left.now c.args.right.now c.in_ok-b.b c.in_ok-b.a made c.in_ok-b.ensures.left c.in_ok-b.ensures.right holds) c.apply.ensures.holds
+
+pub in_order-returns-in-Some-clause-known : goal.in_order-returns-in-Some-clause-known
+in_order-returns-in-Some-clause-known t c =
+    IfOk-weaker c.with_constant.result _ _ (λ value known.
+    right_constant_known c.args.self.now c.args.operator c.args.left.now c.args.right.now c.in-Some.c value (sym c.constant_of.ensures.value ∙ c.in-Some.is) known) c.with_constant.ensures.known
+
+pub expression-returns-in-Binary-clause-known : goal.expression-returns-in-Binary-clause-known
+expression-returns-in-Binary-clause-known t c =
+    IfOk-weaker c.binary.result _ _ (λ value known.
+    rw c.in-Binary.is (binary_known c.args.self.now c.in-Binary.operator _ c.in-Binary.left.value _ c.in-Binary.right.value value
+    (subst (λ f. IsKnownOfBoth c.args.self.now c.in-Binary.left.value f (applied_value c.in-Binary.operator c.in-Binary.left.value f) value) c.deref-in-Binary-2.ensures
+    (subst (λ e. IsKnownOfBoth c.args.self.now e c.deref-in-Binary-2.result.now (applied_value c.in-Binary.operator e c.deref-in-Binary-2.result.now) value)
+    c.deref-in-Binary.ensures known)))) c.binary.ensures.known
+
+pub expression-returns-in-Not-clause-known : goal.expression-returns-in-Not-clause-known
+expression-returns-in-Not-clause-known t c =
+    IfOk-weaker c.inverted.result _ _ (λ value known.
+    rw c.in-Not.is (not_known c.args.self.now _ c.in-Not.e.value value
+    (subst (λ e. IsKnownOf c.args.self.now e (inverse_of e) value) c.deref-in-Not.ensures known))) c.inverted.ensures.known
+
+pub bind-returns-clause-knows : goal.bind-returns-clause-knows
+bind-returns-clause-knows t c =
+    subst (λ after. Binds c.args.self.now after c.args.x c.args.e.now) (sym (c.set_fact-2.ensures ∙ ap (λ f. with_fact c.args.x f c.expression.new.self) c.valued.ensures
+    ∙ ap (with_fact c.args.x (valued_fact c.in_ok-value.value.source)) c.in_ok-value.ensures.knowledge))
+    (value_binds c.args.self.now c.args.x c.args.e.now c.in_ok-value.value c.in_ok-value.ensures.known)
+
+pub inverted-returns-then-is_within-clause-known : goal.inverted-returns-then-is_within-clause-known
+inverted-returns-then-is_within-clause-known t c =
+    rw c.in-Not.is (same_known c.args.self.now _ c.in-Not.e.value c.in_ok-value.value
+    (subst (λ e. IsKnown c.args.self.now e c.in_ok-value.value) c.deref-in-Not.ensures c.in_ok-value.ensures.known)
+    (λ word holds. c.below.ensures.within (omega arith) (omega arith) word holds.small (c.is_within.ensures.contains c.if-is_within.true word holds.source)))
