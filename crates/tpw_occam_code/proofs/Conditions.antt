@@ -12,6 +12,7 @@ use Rattle.tp_step.specs.Numbers.{truth}
 use Rattle.tpw_occam_core.specs.declared.arithmetic.Answer.{Answer}
 use Rattle.tpw_occam_core.specs.declared.worker.Storage.{Storage}
 use Rattle.tpw_occam_core.specs.declared.scope.Entry.{Entry}
+use Rattle.tpw_occam_core.specs.declared.expression.Operator.{Operator}
 use Rattle.tpw_occam_core.specs.declared.expression.Operator.TheVariants.{Greater}
 use Rattle.tpw_occam_core.specs.declared.expression.Expression.{Expression}
 use Rattle.tpw_occam_core.specs.declared.expression.Expression.TheVariants.{Constant, Variable, Element', Checked', Binary', Complement', Not', LowByte', And', Or', Let'}
@@ -444,3 +445,18 @@ either_small (suc n) r = omega arith
 pub or_known : (k : Knowledge) (p : Place) (left : Expression) (q : Place) (right : Expression) (made : Value) → ((word : ℕ) → word < 2 → Holds made word)
     → IsKnown k (Or' p left q right) made
 or_known k p left q right made holds storages scope unset s place stands knows = holds _ (either_small (value_of left s).word (value_of right s))
+
+-- the operator of a pattern is the one that it names
+pub computes_greater : (k : Knowledge) (old new : Lines) (operator : Operator) (p : Place) (left : Expression) (q : Place) (right : Expression) (registers kept : ℕ)
+    → operator ≡ Greater
+    → ComputesTo k old new (Binary' Greater p left q right) (inverse_of (Binary' Greater p left q right)) registers kept
+    → ComputesTo k old new (Binary' operator p left q right) (inverse_of (Binary' operator p left q right)) registers kept
+computes_greater k old new operator p left q right registers kept is computes =
+    subst (λ o. ComputesTo k old new (Binary' o p left q right) (inverse_of (Binary' o p left q right)) registers kept) (sym is) computes
+
+pub known_greater : (k : Knowledge) (operator : Operator) (p : Place) (left : Expression) (q : Place) (right : Expression) (value : Value)
+    → operator ≡ Greater
+    → IsKnownOf k (Binary' Greater p left q right) (inverse_of (Binary' Greater p left q right)) value
+    → IsKnownOf k (Binary' operator p left q right) (inverse_of (Binary' operator p left q right)) value
+known_greater k operator p left q right value is known =
+    subst (λ o. IsKnownOf k (Binary' o p left q right) (inverse_of (Binary' o p left q right)) value) (sym is) known

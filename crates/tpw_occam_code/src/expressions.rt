@@ -209,16 +209,18 @@ impl Emitter<'_> {
         ensures known { IfOk result (λ value. IsKnownOf self.old e.now (inverse_of e.now) value) }
     {
         if let Expression::Binary {
-            operator: Operator::Greater,
+            operator,
             left,
             right,
         } = e
         {
-            if let Some(next) = self.successor(right) {
-                return self.constant_first(code, Operator::Greater, next, left, room);
-            }
-            if let Some(before) = self.predecessor(left) {
-                return self.with_constant(code, Operator::Greater, right, before, room);
+            if let Operator::Greater = *operator {
+                if let Some(next) = self.successor(right) {
+                    return self.constant_first(code, Operator::Greater, next, left, room);
+                }
+                if let Some(before) = self.predecessor(left) {
+                    return self.with_constant(code, Operator::Greater, right, before, room);
+                }
             }
         }
         if let Expression::Not(e) = e {

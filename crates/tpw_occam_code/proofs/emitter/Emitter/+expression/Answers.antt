@@ -10,7 +10,7 @@ use Rattle.tpw_occam_code.proofs.Constructs.{constant_computes, checked_computes
 use Rattle.tpw_occam_core.specs.declared.expression.Operator.TheVariants.{Greater}
 use Rattle.tpw_occam_code.specs.Agreement.{with_fact, valued_fact, fact_at}
 use Rattle.tpw_occam_code.specs.Computing.{Binds, ComputesBinding, IsSuccessor, IsPredecessor}
-use Rattle.tpw_occam_code.proofs.Conditions.{inverse_computes, inverse_known, same_computes, same_known, twice_computes, successor_computes, successor_known, predecessor_computes, predecessor_known, and_computes, and_known, or_computes, or_known}
+use Rattle.tpw_occam_code.proofs.Conditions.{inverse_computes, inverse_known, same_computes, same_known, twice_computes, successor_computes, successor_known, predecessor_computes, predecessor_known, and_computes, and_known, or_computes, or_known, computes_greater, known_greater}
 use Rattle.tpw_occam_code.proofs.Naming.{constant_binds, constant_binding, value_binds, value_binding, let_computes, let_known, restored}
 use Rattle.tpw_occam_code.proofs.TwoOperands.{suffices_above, in_order_computes, changed_computes, reversed_computes, kept_computes, kept_reversed_computes, suffices_count, recalled_holds, applied_computes, applied_known, first_above_computes, first_below_computes, first_known, swapped_computes, swapped_known, shift_computes, shift_known, swapped_commutes, swapped_immediate, fixed_immediate, count_above, count_beside}
 use Rattle.tpw_occam_code.proofs.emitter.Emitter.+expression.Goals as goal
@@ -305,7 +305,7 @@ in_order-returns-clause-computes t c =
 pub inverted-returns-in-Some-clause-computes : goal.inverted-returns-in-Some-clause-computes
 inverted-returns-in-Some-clause-computes t c =
     on_ok_weaker c.constant_first.result (λ computes.
-    rw c.in-Binary-Greater-default-default.is (rw c.in-Binary-Greater-default-default.operator-is (successor_computes c.args.self.now c.args.code.now c.constant_first.new.code _ c.in-Binary-Greater-default-default.left.value _ c.in-Binary-Greater-default-default.right.value c.in-Some.next c.args.room.registers c.args.room.kept
+    rw c.in-Binary.is (computes_greater c.args.self.now c.args.code.now c.constant_first.new.code c.in-Binary.operator _ c.in-Binary.left.value _ c.in-Binary.right.value c.args.room.registers c.args.room.kept c.in-Greater.is (successor_computes c.args.self.now c.args.code.now c.constant_first.new.code _ c.in-Binary.left.value _ c.in-Binary.right.value c.in-Some.next c.args.room.registers c.args.room.kept
     (subst (λ e. IsSuccessor c.args.self.now e c.in-Some.next) c.deref.ensures c.in-Some.ensures)
     (subst (λ e. IsNoShift Greater → 2 ≤ c.args.room.registers → ComputesTo c.args.self.now c.args.code.now c.constant_first.new.code e (applied_first Greater c.in-Some.next e) c.args.room.registers c.args.room.kept)
     c.deref-in-Some.ensures computes)))) c.constant_first.ensures.computes
@@ -314,19 +314,27 @@ inverted-returns-in-Some-clause-computes t c =
 pub inverted-returns-in-Some-clause-known : goal.inverted-returns-in-Some-clause-known
 inverted-returns-in-Some-clause-known t c =
     IfOk-weaker c.constant_first.result _ _ (λ value known.
-    rw c.in-Binary-Greater-default-default.is (rw c.in-Binary-Greater-default-default.operator-is (successor_known c.args.self.now _ c.in-Binary-Greater-default-default.left.value _ c.in-Binary-Greater-default-default.right.value c.in-Some.next value
+    rw c.in-Binary.is (known_greater c.args.self.now c.in-Binary.operator _ c.in-Binary.left.value _ c.in-Binary.right.value value c.in-Greater.is (successor_known c.args.self.now _ c.in-Binary.left.value _ c.in-Binary.right.value c.in-Some.next value
     (subst (λ e. IsSuccessor c.args.self.now e c.in-Some.next) c.deref.ensures c.in-Some.ensures)
     (subst (λ e. IsKnownOf c.args.self.now e (applied_first Greater c.in-Some.next e) value) c.deref-in-Some.ensures known)))) c.constant_first.ensures.known
 
 -- src/expressions.rt:192:17
 pub inverted-returns-in-Some-predecessor-clause-computes : goal.inverted-returns-in-Some-predecessor-clause-computes
 inverted-returns-in-Some-predecessor-clause-computes t c =
-    ?
+    on_ok_weaker c.with_constant.result (λ computes.
+    rw c.in-Binary.is (computes_greater c.args.self.now c.args.code.now c.with_constant.new.code c.in-Binary.operator _ c.in-Binary.left.value _ c.in-Binary.right.value c.args.room.registers c.args.room.kept c.in-Greater.is (predecessor_computes c.args.self.now c.args.code.now c.with_constant.new.code _ c.in-Binary.left.value _ c.in-Binary.right.value c.in-Some-predecessor.before c.args.room.registers c.args.room.kept
+    (subst (λ e. IsPredecessor c.args.self.now e c.in-Some-predecessor.before) c.deref-in-Greater.ensures c.in-Some-predecessor.ensures)
+    (subst (λ e. IsNoShift Greater → (c.args.room.registers ≤ 1 → IsTrue (has_immediate Greater c.in-Some-predecessor.before))
+    → ComputesTo c.args.self.now c.args.code.now c.with_constant.new.code e (applied_last Greater e c.in-Some-predecessor.before) c.args.room.registers c.args.room.kept)
+    c.deref-in-Some-predecessor.ensures computes)))) c.with_constant.ensures.computes
 
 -- src/expressions.rt:192:17
 pub inverted-returns-in-Some-predecessor-clause-known : goal.inverted-returns-in-Some-predecessor-clause-known
 inverted-returns-in-Some-predecessor-clause-known t c =
-    ?
+    IfOk-weaker c.with_constant.result _ _ (λ value known.
+    rw c.in-Binary.is (known_greater c.args.self.now c.in-Binary.operator _ c.in-Binary.left.value _ c.in-Binary.right.value value c.in-Greater.is (predecessor_known c.args.self.now _ c.in-Binary.left.value _ c.in-Binary.right.value c.in-Some-predecessor.before value
+    (subst (λ e. IsPredecessor c.args.self.now e c.in-Some-predecessor.before) c.deref-in-Greater.ensures c.in-Some-predecessor.ensures)
+    (subst (λ e. IsKnownOf c.args.self.now e (applied_last Greater e c.in-Some-predecessor.before) value) c.deref-in-Some-predecessor.ensures known)))) c.with_constant.ensures.known
 
 -- src/expressions.rt:198:17
 pub inverted-returns-then-is_within-clause-computes : goal.inverted-returns-then-is_within-clause-computes
