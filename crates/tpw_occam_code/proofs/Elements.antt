@@ -1,6 +1,8 @@
 -- Elements of arrays in machines.
 use Rattle.std.proofs.Common.{◌≡◌, ◌+◌, ◌*◌, ◌/◌, ◌%◌, ◌≤◌, ◌<◌, [], ◌∷◌, ℕ, List, length, Option, Some, None, Bool, false, true, refl, ap, sym, subst, ◌∙◌, arith, w32}
 use Rattle.std.specs.Prelude.{slice_index, pos, ◌||◌}
+use Rattle.std.specs.Prelude.{ℤ, ◌^◌}
+use Rattle.std.proofs.lemmas.Nat.{from_le_bytes-to_le_bytes_4}
 use Rattle.std.specs.Int.{from_le_bytes}
 use Rattle.std.proofs.Math.Bool.{or-false}
 use Rattle.std.proofs.lemmas.Bool.{le-leb}
@@ -17,7 +19,7 @@ use Rattle.tpw_occam_code.specs.Code.{Lines, followed_by, line_of, place_behind}
 use Rattle.tpw_occam_code.specs.Blocks.{bytes_at, word_at}
 use Rattle.tpw_occam_code.specs.Symbolic.{Machine, effect, performed, at_place, number, address, push, set_areg, replace_pair, has_bytes}
 use Rattle.tpw_occam_code.specs.Leading.{Does, HasArray, HasWord, word_bytes}
-use Rattle.tpw_occam_code.specs.Values.{HasNumber, Replaces, PushesAlone, HasAddress, IsAtElement, scaled}
+use Rattle.tpw_occam_code.specs.Values.{HasNumber, Replaces, Pushes, PushesAlone, PushesOver, PushesAddress, HasAddress, IsAtElement, scaled}
 use Rattle.tpw_occam_code.proofs.Leading.{does_step, does_served, does_both, does_less}
 
 four : {a a' b b' c c' d d' : ℕ} → a ≡ a' → b ≡ b' → c ≡ c' → d ≡ d'
@@ -254,3 +256,70 @@ does_push_variable arrays old between new source x word one two h =
     ))
     (λ m middle end said after after2.
     pushes_alone word (place_behind new) m end (after2 ∙ ap (λ e. at_place (place_behind new) (set_areg (number word) e)) after.0))
+
+-- ---- elements at an offset from a variable
+
+-- the word at an item's front
+word_held : (m : Machine) (i : Item) (v : ℕ) → v < 2 ^ 32 → HasWord i v m → word_at m.blocks i 0 ≡ v
+unfolding word_at
+word_held m i v h is = ap (from_le_bytes w32) is ∙ from_le_bytes-to_le_bytes_4 v h
+
+pub does_base : (arrays : List ℕ) (old between new : Lines) (source x a v : ℕ) → v < 2 ^ 32
+    → between ≡ followed_by old (line_of source (Load (Variable x) 0) ∷ [])
+    → Does arrays between new (HasNumber v) (HasAddress arrays a (4 * v))
+    → Does arrays old new (HasWord (Variable x) v) (PushesAddress arrays a (4 * v))
+unfolding performed
+does_base arrays old between new source x a v small is indexes =
+    does_both arrays old between new _ _ _ _ _
+    (does_step arrays old between source (Load (Variable x) 0) (HasWord (Variable x) v) (push (number v)) is
+    (λ m has served. rw (le-leb 4 _ served) (ap (λ w. Some (push (number w) (at_place (m.place + 1) m))) (word_held m (Variable x) v small has)))
+    (λ m. refl) (λ m. refl) (λ m. refl))
+    indexes
+    (λ m middle said at. ap (λ e. e.areg) at)
+    (λ m middle end said at after. record {
+      areg = after.areg;
+      breg = after.breg ∙ ap (λ e. e.breg) at;
+      error = after.error ∙ ap (λ e. e.error) at;
+      blocks = after.blocks ∙ ap (λ e. e.blocks) at;
+      to_come = after.to_come ∙ ap (λ e. e.to_come) at;
+      sent = after.sent ∙ ap (λ e. e.sent) at;
+      traced = after.traced ∙ ap (λ e. e.traced) at;
+      room = after.room;
+    })
+
+load_offset : (m : Machine) (a : ℕ) (bytes : List ℕ) (v c : ℕ) (n : ℤ) → n ≡ pos c → v + c < size Word bytes → m.areg ≡ address (Array a) (4 * v)
+    → HasArray a bytes m → length bytes ≤ m.sizes (Array a)
+    → effect (Ldnl n) m ≡ Some (set_areg (number (element Word bytes (v + c))) m)
+unfolding effect
+load_offset m a bytes v c n is h at has room =
+    let fits : 4 * v + 4 * c + 4 ≤ m.sizes (Array a) = omega (arith, room, h) in
+    rw is (rw at (rw (le-leb _ _ fits) (ap (λ w. Some (set_areg (number w) m)) (word_read m a bytes (v + c) _ (omega arith) h has))))
+
+pub does_offset_element : (arrays : List ℕ) (old between new : Lines) (source x a : ℕ) (bytes : List ℕ) (v c : ℕ) (n : ℤ) → n ≡ pos c
+    → length bytes ≡ slice_index arrays a → v + c < size Word bytes
+    → Does arrays old between (HasWord (Variable x) v) (PushesAddress arrays a (4 * v))
+    → new ≡ followed_by between (line_of source (Plain (Ldnl n)) ∷ [])
+    → Does arrays old new (λ m. HasWord (Variable x) v m × HasArray a bytes m) (PushesOver 2 (plain (element Word bytes (v + c))))
+unfolding performed
+does_offset_element arrays old between new source x a bytes v c n is long h first last =
+    does_both arrays old between new _ _ _ _ _
+    (does_less arrays old between _ _ (λ m. HasWord (Variable x) v m × HasArray a bytes m) _ first (λ m said. said.0) (λ m end said after. after))
+    (does_step arrays between new source (Plain (Ldnl n))
+    (λ m. (m.areg ≡ address (Array a) (4 * v)) × HasArray a bytes m × (length bytes ≤ m.sizes (Array a)))
+    (set_areg (number (element Word bytes (v + c)))) last
+    (λ m said served. load_offset (at_place (m.place + 1) m) a bytes v c n is h said.0 said.1 said.2)
+    (λ m. refl) (λ m. refl) (λ m. refl))
+    (λ m middle said after. (after.areg, (λ i less. ap (λ b. b (Array a) i) after.blocks ∙ said.1 i less),
+        whole_words (length bytes) (slice_index arrays a) (middle.sizes (Array a)) long after.room))
+    (λ m middle end said after at. record {
+      pushed = record {
+        areg = ap (λ e. e.areg) at;
+        breg = λ less. ap (λ e. e.breg) at ∙ after.breg;
+        creg = λ less. absurd (omega (arith, less));
+        error = ap (λ e. e.error) at ∙ after.error ∙ sym (or-false m.error);
+      };
+      blocks = ap (λ e. e.blocks) at ∙ after.blocks;
+      to_come = ap (λ e. e.to_come) at ∙ after.to_come;
+      sent = ap (λ e. e.sent) at ∙ after.sent;
+      traced = ap (λ e. e.traced) at ∙ after.traced;
+    })

@@ -1,6 +1,7 @@
 -- What the code of an expression does.
 use Rattle.std.specs.Prelude.{◌≡◌, ℕ, ◌+◌, ◌-◌, ◌*◌, ◌%◌, ◌^◌, ◌<◌, ◌≤◌, Bool, true, false, not, ◌||◌, ◌&&◌, ◌==◌, nat_le}
-use Rattle.std.specs.Prelude.{if◌then◌else◌, List, [], ◌∷◌, ◌++◌, length, map, slice_index, Option, Some, None, is_some, IsTrue, pos, ◌⊎◌, ◌≢◌}
+use Rattle.std.specs.Prelude.{if◌then◌else◌, List, [], ◌∷◌, ◌++◌, length, map, slice_index, Option, Some, None, is_some, IsTrue, pos, ◌⊎◌, ◌≢◌, Box}
+use Rattle.std.specs.Global.{Global}
 use Rattle.std.specs.Option.{option_and_then, option_map_or}
 use Rattle.std.specs.List.{list_any}
 use Rattle.tp_prefix.specs.Canonical.{canonical}
@@ -18,11 +19,11 @@ use Rattle.tpw_occam_core.specs.declared.expression.Expression.TheVariants.{Or',
 use Rattle.tp_step.specs.Numbers.{truth}
 use Rattle.tpw_occam_core.specs.Arithmetic.{answer, plain, subscript, applied}
 use Rattle.tpw_occam_core.specs.Meaning.{Store, value_of, followed, with_value}
-use Rattle.tpw_occam_code.specs.Ranges.{from_to, ContainsAllOf}
+use Rattle.tpw_occam_code.specs.Ranges.{from_to, Contains, ContainsAllOf}
 use Rattle.tpw_occam_core.specs.declared.scope.Entry.TheVariants as entry
 use Rattle.tpw_occam_core.specs.Sound.{is_sound_expression, is_new_name, is_array, bytes_of}
 use Rattle.tpw_occam_core.specs.declared.kind.Kind.{Kind}
-use Rattle.tpw_occam_core.specs.declared.kind.Kind.TheVariants.{Byte}
+use Rattle.tpw_occam_core.specs.declared.kind.Kind.TheVariants.{Word, Byte}
 use Rattle.tpw_occam_code.specs.declared.expressions.Value.{Value}
 use Rattle.tpw_occam_code.specs.declared.emitter.Room.{Room}
 use Rattle.tpw_occam_code.specs.Code.{Lines}
@@ -273,3 +274,23 @@ pub record IsPredecessor (k : Knowledge) (e : Expression) (before : ℕ) : Type 
   pub small : of < 2 ^ 32
   pub more : of ≢ 2 ^ 31
   pub is : before ≡ (of + (2 ^ 32 - 1)) % 2 ^ 32
+
+-- operands of a sum that is a word's subscript: a variable that has a word, and a constant, together below the array's
+-- size
+pub record IsOffsetOf (k : Knowledge) (a : ℕ) (view : Kind) (left right : Expression) (x c : ℕ) : Type 0 where
+  pub variable : left ≡ Variable x
+  pub constant : constant_in k right ≡ Some c
+  pub words : view ≡ Word
+  pub word : (fact_at k x).constant ≡ None
+  pub below : slice_index k.arrays a ≤ 2048 → (v : ℕ) → v < 2 ^ 32 → Contains (fact_at k x).known v
+      → v + c < elements_of view (slice_index k.arrays a)
+
+pub record IsOffset (k : Knowledge) (a : ℕ) (view : Kind) (e : Expression) (x c : ℕ) : Type 0 where
+  pub operator : Operator
+  pub which : (operator ≡ Add) ⊎ (operator ≡ Plus)
+  pub p : Box (Unit {0}) Global
+  pub left : Expression
+  pub q : Box (Unit {0}) Global
+  pub right : Expression
+  pub is : e ≡ Binary' operator p left q right
+  pub offset : IsOffsetOf k a view left right x c

@@ -109,3 +109,22 @@ pub record IsAtElement (kind : Kind) (a : ℕ) (bytes : List ℕ) (i : ℕ) (m :
 -- an instruction makes this of a number in Areg, and leaves the other registers
 abbrev pub WorksOn : Instr → ℕ → Answer → Type 0
 WorksOn instr a made = (m : Machine) → HasNumber a m → effect instr m ≡ Some (answered_one made m)
+
+-- The address of a byte of an array is pushed, which has room for all of its words.
+pub record PushesAddress (arrays : List ℕ) (a at : ℕ) (m end : Machine) : Type 0 where
+  pub areg : end.areg ≡ address (Array a) at
+  pub breg : end.breg ≡ m.areg
+  pub error : end.error ≡ m.error
+  pub blocks : end.blocks ≡ m.blocks
+  pub to_come : end.to_come ≡ m.to_come
+  pub sent : end.sent ≡ m.sent
+  pub traced : end.traced ≡ m.traced
+  pub room : word_bytes (slice_index arrays a) ≤ end.sizes (Array a)
+
+-- A value is pushed with so many registers, and nothing else is changed.
+pub record PushesOver (registers : ℕ) (made : Answer) (m end : Machine) : Type 0 where
+  pub pushed : Pushes registers made m end
+  pub blocks : end.blocks ≡ m.blocks
+  pub to_come : end.to_come ≡ m.to_come
+  pub sent : end.sent ≡ m.sent
+  pub traced : end.traced ≡ m.traced

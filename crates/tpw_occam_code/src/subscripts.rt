@@ -3,16 +3,17 @@
 //! A check is left out where the text shows that it holds. A mask is left out where the verifier knows the range of
 //! the register.
 
-ghost use Rattle.std.specs.Prelude.{◌≡◌, ◌<◌, ◌≤◌, ◌^◌, ◌%◌, ℕ, List, length, slice_index, pos, Some, None, IsTrue, OnOk, IfOk, IfSome, IfNone, bit_and, nat_le};
+ghost use Rattle.std.specs.Prelude.{◌≡◌, ◌⊎◌, ◌<◌, ◌≤◌, ◌+◌, ◌*◌, ◌^◌, ◌%◌, ℕ, List, length, slice_index, pos, Some, None, IsTrue, OnOk, IfOk, IfSome, IfNone, bit_and, nat_le};
 ghost use Rattle.tpw_occam_core.specs.Arithmetic.{answer, plain, subscript};
 ghost use Rattle.tpw_occam_code.specs.Ranges.{from_to, Contains, ContainsAllOf};
 ghost use Rattle.tpw_occam_core.specs.Arrays.{size, element};
-ghost use Rattle.tpw_occam_core.specs.declared.kind.Kind.TheVariants.{Byte};
+ghost use Rattle.tpw_occam_core.specs.declared.kind.Kind.TheVariants.{Word, Byte};
+ghost use Rattle.tpw_occam_core.specs.declared.expression.Operator.TheVariants.{Add, Plus};
 ghost use Rattle.tpw_occam_code.specs.Leading.{Does, HasArray, HasWord};
 ghost use Rattle.tpw_occam_code.specs.declared.items.Item.TheVariants.{Variable};
 ghost use Rattle.tpw_occam_code.specs.Agreement.{fact_at, constant_in};
-ghost use Rattle.tpw_occam_code.specs.Computing.{ComputesTo, IsKnownOf, IsConstantBelow, IsByteVariable, IsFixed, subscript_value};
-ghost use Rattle.tpw_occam_code.specs.Values.{Answers, Holds, HasNumber, HasAddress, Replaces, PushesAlone, IsAtElement, scaled};
+ghost use Rattle.tpw_occam_code.specs.Computing.{ComputesTo, IsKnownOf, IsConstantBelow, IsByteVariable, IsFixed, IsOffset, IsOffsetOf, subscript_value};
+ghost use Rattle.tpw_occam_code.specs.Values.{Answers, Holds, HasNumber, HasAddress, Replaces, PushesAlone, IsAtElement, PushesAddress, PushesOver, scaled};
 
 use crate::code::{Code, Step};
 use crate::emitter::{Emitter, Room};
@@ -185,13 +186,23 @@ pub(crate) struct Offset {
     pub(crate) constant: u32,
 }
 
+/// Whether an operator is a sum.
+fn is_sum(operator: Operator) -> bool
+    ensures { IsTrue result → (operator ≡ Add) ⊎ (operator ≡ Plus) }
+{
+    operator == Operator::Add || operator == Operator::Plus
+}
+
 /// Pushes the address of the word of an array that an offset is counted from.
 pub(crate) fn base(
     code: &mut Code,
     line: u32,
     array: usize,
     offset: Offset,
-) -> Result<(), CodeFault> {
+) -> Result<(), CodeFault>
+    ensures { OnOk result ((arrays : List ℕ) (v : ℕ) → v < 2 ^ 32 → Does arrays code.old code.new
+        (HasWord (Variable offset.variable) v) (PushesAddress arrays array (4 * v))) }
+{
     code.emit(line, Step::Load(Item::Variable(offset.variable), 0))?;
     indexed(code, line, array, Kind::Word)
 }
@@ -202,7 +213,14 @@ pub(crate) fn offset_element(
     line: u32,
     array: usize,
     offset: Offset,
-) -> Result<Value, CodeFault> {
+) -> Result<Value, CodeFault>
+    ensures makes { OnOk result ((arrays bytes : List ℕ) (v : ℕ) → v < 2 ^ 32 → length bytes ≡ slice_index arrays array
+        → v + offset.constant < size Word bytes → length bytes ≤ 2048 → Does arrays code.old code.new
+        (λ m. HasWord (Variable offset.variable) v m × HasArray array bytes m)
+        (PushesOver 2 (plain (element Word bytes (v + offset.constant))))) }
+    ensures holds { IfOk result (λ value. (bytes : List ℕ) (i : ℕ) → ((at : ℕ) → slice_index bytes at < 256)
+        → Holds value (element Word bytes i)) }
+{
     base(code, line, array, offset)?;
     code.instr(line, Instr::Ldnl(offset.constant.cast_signed()))?;
     Ok(element_value(Kind::Word))
@@ -376,22 +394,39 @@ impl Emitter<'_> {
         array: usize,
         kind: Kind,
         e: &Expression,
-    ) -> Option<Offset> {
-        let Expression::Binary {
-            operator: Operator::Add | Operator::Plus,
-            left,
-            right,
-        } = e
-        else {
-            return None;
-        };
-        let Expression::Variable(x) = &**left else {
+    ) -> Option<Offset>
+        ensures { IfSome result (λ offset. IsOffset self.now array kind e.now offset.variable offset.constant) }
+    {
+        match e {
+            Expression::Binary {
+                operator,
+                left,
+                right,
+            } if is_sum(*operator) => self.offset_of(array, kind, left, right),
+            _ => None,
+        }
+    }
+
+    /// The sum of two operands as such a subscript.
+    fn offset_of(
+        &self,
+        array: usize,
+        kind: Kind,
+        left: &Expression,
+        right: &Expression,
+    ) -> Option<Offset>
+        ensures { IfSome result (λ offset. IsOffsetOf self.now array kind left.now right.now offset.variable offset.constant) }
+    {
+        let Expression::Variable(x) = left else {
             return None;
         };
         let constant = self.constant_of(right)?;
-        let below = Range::below(self.elements(array, kind).checked_sub(constant)?);
+        let size = self.elements(array, kind);
+        if kind != Kind::Word || constant >= size {
+            return None;
+        }
         let fact = self.fact(*x);
-        if kind != Kind::Word || fact.constant.is_some() || !fact.known.is_within(below) {
+        if fact.constant.is_some() || !fact.known.is_within(Range::below(size - constant)) {
             return None;
         }
         Some(Offset {
