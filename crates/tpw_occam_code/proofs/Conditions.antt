@@ -63,9 +63,12 @@ pub inverse_computes : (k : Knowledge) (old between new : Lines) (source : ℕ) 
     → ComputesTo k old new e (inverse_of e) registers kept
 inverse_computes k old between new source e value registers kept computes known is =
     computes_then k old between new e e (value_of e) (λ a. plain (truth (a == 0))) registers 1 kept computes
-    (λ storages scope unset s place stands suffices knows.
-        (stands, suffices, goes_by k scope unset s between new registers 1 (value_of e s) (plain (truth ((value_of e s).word == 0))) suffices.least
-        (answers_zero between new source (value_of e s).word (known storages scope unset s place stands knows).small is)))
+    (λ storages scope unset s place stands suffices knows. (
+      stands,
+      suffices,
+      goes_by k scope unset s between new registers 1 (value_of e s) (plain (truth ((value_of e s).word == 0))) suffices.least
+          (answers_zero between new source (value_of e s).word (known storages scope unset s place stands knows).small is),
+    ))
 
 pub inverse_known : (k : Knowledge) (e : Expression) (made : Value) → ((word : ℕ) → word < 2 → Holds made word) → IsKnownOf k e (inverse_of e) made
 inverse_known k e made holds storages scope unset s place stands knows = holds (truth ((value_of e s).word == 0)) (truth_small _)
@@ -85,8 +88,8 @@ same_computes k old new p e value registers kept computes known small storages s
     let part = stand_not k storages scope unset p e stands in
     let v = value_of e s in
     let made : v ≡ inverse_of (Not' p e) s =
-        ap (λ w. answer w v.flag) (sym (not_not_word v.word (small v.word (known storages scope unset s place part knows))))
-        ∙ ap (answer (truth (truth (v.word == 0) == 0))) (sym (or-false v.flag) ∙ sym (ap (λ f. f || false) (or-false v.flag))) in
+    ap (λ w. answer w v.flag) (sym (not_not_word v.word (small v.word (known storages scope unset s place part knows))))
+    ∙ ap (answer (truth (truth (v.word == 0) == 0))) (sym (or-false v.flag) ∙ sym (ap (λ f. f || false) (or-false v.flag))) in
     does_less k.arrays old new _ _ _ _
     (computes storages scope unset s place part (suffices_part k registers (Not' p e) e (λ simple. simple) suffices) knows)
     (λ m said. said) (λ m end said after. subst (λ x. Pushes registers x m end × LeavesItems scope kept m end) made after)
@@ -107,10 +110,12 @@ twice_computes k old between middle new source p e value registers kept computes
     computes_then k old middle new (Not' p e) e (inverse_of e) (λ a. plain (truth (a == 0))) registers 1 kept
     (inverse_computes k old between middle source e value registers kept computes known one)
     (λ storages scope unset s place stands suffices knows.
-        let small = truth_small ((value_of e s).word == 0) in
-        (stand_not k storages scope unset p e stands, suffices_part k registers (Not' p e) e (λ simple. simple) suffices,
-        goes_by k scope unset s middle new registers 1 (inverse_of e s) (plain (truth ((inverse_of e s).word == 0))) suffices.least
-        (answers_zero middle new source (inverse_of e s).word (omega (arith, small)) two)))
+    let small = truth_small ((value_of e s).word == 0) in (
+      stand_not k storages scope unset p e stands,
+      suffices_part k registers (Not' p e) e (λ simple. simple) suffices,
+      goes_by k scope unset s middle new registers 1 (inverse_of e s) (plain (truth ((inverse_of e s).word == 0))) suffices.least
+          (answers_zero middle new source (inverse_of e s).word (omega (arith, small)) two),
+    ))
 
 -- ---- NOT of a comparison
 
@@ -127,6 +132,7 @@ greater_registers k p left q right registers suffices = by_number (cases_lt 1 re
   where
     none : is_simple k (Binary' Greater p left q right) ≡ false
     none = rw (greater_immediate k right) refl
+
     by_number : (1 < registers) ⊎ (registers ≤ 1) → 2 ≤ registers
     by_number (inl more) = more
     by_number (inr one) = absurd (false_true (sym none ∙ suffices.simple one))
@@ -155,8 +161,8 @@ successor_computes k old new p left q right next registers kept is computes stor
     let value : value_of right s ≡ plain is.of = constant_value k storages scope unset s right is.of parts.1 knows is.constant in
     let l = value_of left s in
     let made : applied_first Greater next left s ≡ inverse_of (Binary' Greater p left q right) s =
-        next_inverse l (plain is.of) next (greater_inverse l.word is.of next is.small is.less is.is) refl
-        ∙ ap (λ r. followed (followed l (λ b. followed r (applied Greater b))) (λ a. plain (truth (a == 0)))) (sym value) in
+    next_inverse l (plain is.of) next (greater_inverse l.word is.of next is.small is.less is.is) refl
+    ∙ ap (λ r. followed (followed l (λ b. followed r (applied Greater b))) (λ a. plain (truth (a == 0)))) (sym value) in
     does_less k.arrays old new _ _ _ _
     (computes tt more storages scope unset s place parts.0 (suffices_two k registers left more suffices.most) knows)
     (λ m said. said) (λ m end said after. subst (λ x. Pushes registers x m end × LeavesItems scope kept m end) made after)
@@ -169,8 +175,8 @@ successor_known k p left q right next value is known storages scope unset s plac
     let same : value_of right s ≡ plain is.of = constant_value k storages scope unset s right is.of parts.1 knows is.constant in
     let l = value_of left s in
     let made : applied_first Greater next left s ≡ inverse_of (Binary' Greater p left q right) s =
-        next_inverse l (plain is.of) next (greater_inverse l.word is.of next is.small is.less is.is) refl
-        ∙ ap (λ r. followed (followed l (λ b. followed r (applied Greater b))) (λ a. plain (truth (a == 0)))) (sym same) in
+    next_inverse l (plain is.of) next (greater_inverse l.word is.of next is.small is.less is.is) refl
+    ∙ ap (λ r. followed (followed l (λ b. followed r (applied Greater b))) (λ a. plain (truth (a == 0)))) (sym same) in
     subst (λ (x : Answer). Holds value x.word) made (known storages scope unset s place parts.0 knows)
 
 pub predecessor_computes : (k : Knowledge) (old new : Lines) (p : Place) (left : Expression) (q : Place) (right : Expression) (before registers kept : ℕ)
@@ -183,8 +189,8 @@ predecessor_computes k old new p left q right before registers kept is computes 
     let value : value_of left s ≡ plain is.of = constant_value k storages scope unset s left is.of parts.0 knows is.constant in
     let r = value_of right s in
     let made : applied_last Greater right before s ≡ inverse_of (Binary' Greater p left q right) s =
-        before_inverse (plain is.of) r before (less_inverse r.word is.of before is.small is.more is.is) refl
-        ∙ ap (λ l. followed (followed l (λ b. followed r (applied Greater b))) (λ a. plain (truth (a == 0)))) (sym value) in
+    before_inverse (plain is.of) r before (less_inverse r.word is.of before is.small is.more is.is) refl
+    ∙ ap (λ l. followed (followed l (λ b. followed r (applied Greater b))) (λ a. plain (truth (a == 0)))) (sym value) in
     does_less k.arrays old new _ _ _ _
     (computes tt (λ one. absurd (omega (arith, more, one))) storages scope unset s place parts.1 (suffices_two k registers right more suffices.most) knows)
     (λ m said. said) (λ m end said after. subst (λ x. Pushes registers x m end × LeavesItems scope kept m end) made after)
@@ -197,8 +203,8 @@ predecessor_known k p left q right before value is known storages scope unset s 
     let same : value_of left s ≡ plain is.of = constant_value k storages scope unset s left is.of parts.0 knows is.constant in
     let r = value_of right s in
     let made : applied_last Greater right before s ≡ inverse_of (Binary' Greater p left q right) s =
-        before_inverse (plain is.of) r before (less_inverse r.word is.of before is.small is.more is.is) refl
-        ∙ ap (λ l. followed (followed l (λ b. followed r (applied Greater b))) (λ a. plain (truth (a == 0)))) (sym same) in
+    before_inverse (plain is.of) r before (less_inverse r.word is.of before is.small is.more is.is) refl
+    ∙ ap (λ l. followed (followed l (λ b. followed r (applied Greater b))) (λ a. plain (truth (a == 0)))) (sym same) in
     subst (λ (x : Answer). Holds value x.word) made (known storages scope unset s place parts.1 knows)
 
 -- ---- code that is passed over where Areg is 0
@@ -263,23 +269,31 @@ does_branch arrays old between more new source Before After Before2 After2 After
       ∙ ap (λ ls. ls ++ (line ∷ more.lines)) first.lines ∙ append_assoc old.lines first.more (line ∷ more.lines);
   arrives = λ m before said.
       let has_between : HasLines between m = has_first between new (line ∷ more.lines) m (ap (λ l. l.base) is)
-          (ap (λ l. l.lines) is ∙ append_assoc between.lines (line ∷ []) more.lines) before.lines in
+      (ap (λ l. l.lines) is ∙ append_assoc between.lines (line ∷ []) more.lines) before.lines in
       let a = first.arrives m (record { place = before.place; lines = has_between; served = before.served; running = before.running }) said in
       let b = branches m a.end said a.after in by_word m before a b b.word refl;
 }
   where
     line : CodeLine
     line = line_of source (CjTo (place_behind more))
+
     behind : place_behind more ≡ place_behind new
     behind =
-        omega (arith, second.base, ap (λ l. l.base) is, ap (λ l. length l.lines) is, length-append (between.lines ++ line ∷ []) more.lines,
-        length-append between.lines (line ∷ []))
+        omega (
+          arith,
+          second.base,
+          ap (λ l. l.base) is,
+          ap (λ l. length l.lines) is,
+          length-append (between.lines ++ line ∷ []) more.lines,
+          length-append between.lines (line ∷ []),
+        )
+
     by_word : (m : Machine) → IsBefore arrays old new m → (a : Arrives between m After) → (b : Branches Before2 After2 After3 (place_behind new) m a.end)
         → (n : ℕ) → b.word ≡ n → Arrives new m After3
     by_word m before a b zero w =
         let areg : a.end.areg ≡ number 0 = b.areg ∙ ap number w in
         let at : slice_get a.end.code a.end.place ≡ Some line =
-            ap (λ c. slice_get c a.end.place) a.same_code ∙ ap (slice_get m.code) a.place ∙ jump_stands between more new line m is before.lines in
+        ap (λ c. slice_get c a.end.place) a.same_code ∙ ap (slice_get m.code) a.place ∙ jump_stands between more new line m is before.lines in
         record {
           end = at_place (place_behind new) a.end;
           way = leads_then a.way (onward a.end (at_place (place_behind new) a.end) (at_place (place_behind new) a.end)
@@ -293,14 +307,14 @@ does_branch arrays old between more new source Before After Before2 After2 After
     by_word m before a b (suc n) w =
         let areg : a.end.areg ≡ number (suc n) = b.areg ∙ ap number w in
         let at : slice_get a.end.code a.end.place ≡ Some line =
-            ap (λ c. slice_get c a.end.place) a.same_code ∙ ap (slice_get m.code) a.place ∙ jump_stands between more new line m is before.lines in
+        ap (λ c. slice_get c a.end.place) a.same_code ∙ ap (slice_get m.code) a.place ∙ jump_stands between more new line m is before.lines in
         let p = a.end.place + 1 in
         let c = second.arrives (at_place p (pop a.end)) (record {
-            place = omega (arith, a.place);
-            lines = λ i h. ap (λ c. slice_get c (more.base + i)) a.same_code ∙ has_behind between more new line m is second.base before.lines i h;
-            served = λ i other h. rw a.same_sizes (before.served i other (ap (λ c. slice_get c i) (sym a.same_code) ∙ h));
-            running = a.running;
-          }) (b.before n w p) in
+          place = omega (arith, a.place);
+          lines = λ i h. ap (λ c. slice_get c (more.base + i)) a.same_code ∙ has_behind between more new line m is second.base before.lines i h;
+          served = λ i other h. rw a.same_sizes (before.served i other (ap (λ c. slice_get c i) (sym a.same_code) ∙ h));
+          running = a.running;
+        }) (b.before n w p) in
         record {
           end = c.end;
           way = leads_then a.way (onward a.end (at_place p (pop a.end)) c.end
@@ -333,25 +347,31 @@ does_both_values k scope unset s old between more new source registers kept f g 
     (λ m middle agrees after. record {
       word = f.word;
       areg = after.0.areg;
-      zero = λ none. (record {
+      zero = λ none. (
+        record {
           areg = after.0.areg ∙ ap number none ∙ ap (λ n. number (both n g).word) (sym none);
           breg = after.0.breg;
           creg = after.0.creg;
           error = after.0.error ∙ ap (λ x. m.error || x) (sym (or-false f.flag)) ∙ ap (λ n. m.error || (f.flag || (both n g).flag)) (sym none);
-        }, record { blocks = after.1.blocks; to_come = after.1.to_come; sent = after.1.sent; traced = after.1.traced });
+        },
+        record { blocks = after.1.blocks; to_come = after.1.to_come; sent = after.1.sent; traced = after.1.traced },
+      );
       before = λ n some p. popped_agrees k scope unset p s middle (agrees_after k scope unset kept s m middle agrees after.1);
-      after = λ n some p end after2. (record {
+      after = λ n some p end after2. (
+        record {
           areg = after2.0.areg ∙ ap (λ w. number (both w g).word) (sym some);
           breg = λ h. after2.0.breg h ∙ after.0.breg h;
           creg = λ h. after2.0.creg h ∙ after.0.creg h;
           error = after2.0.error ∙ ap (λ e. e || g.flag) after.0.error ∙ or_assoc m.error f.flag g.flag
               ∙ ap (λ w. m.error || (f.flag || (both w g).flag)) (sym some);
-        }, record {
+        },
+        record {
           blocks = λ i at stays. after2.1.blocks i at stays ∙ after.1.blocks i at stays;
           to_come = after2.1.to_come ∙ after.1.to_come;
           sent = after2.1.sent ∙ after.1.sent;
           traced = after2.1.traced ∙ after.1.traced;
-        });
+        },
+      );
     })
 
 -- the code of both, as the code of an expression whose parts they are
@@ -428,13 +448,16 @@ or_computes k k1 old between more middle new source p left q right registers kep
     let r = inverse_of right s in
     let small : (f s).word < 2 ^ 32 = both_small (inverse_of left s).word r (let h = truth_small ((value_of right s).word == 0) in omega (arith, h)) in
     let whole = computes_then k old middle new (Or' p left q right) (Or' p left q right) f (λ a. plain (truth (a == 0))) registers 1 kept
-        (both_computes k k1 old between more middle source (Or' p left q right) left right (inverse_of left) (inverse_of right) registers kept same
-        (λ storages scope unset stands. stand_or k storages scope unset p left q right stands)
-        (λ simple. and_first _ _ simple) (λ simple. and_second (is_simple k left) _ simple) first second is)
-        (λ storages scope unset s place stands suffices knows.
-            let small : (f s).word < 2 ^ 32 = both_small (inverse_of left s).word (inverse_of right s) (let h = truth_small ((value_of right s).word == 0) in omega (arith, h)) in
-            (stands, suffices, goes_by k scope unset s middle new registers 1 (f s) (plain (truth ((f s).word == 0))) suffices.least
-            (answers_zero middle new source (f s).word small last))) in
+    (both_computes k k1 old between more middle source (Or' p left q right) left right (inverse_of left) (inverse_of right) registers kept same
+    (λ storages scope unset stands. stand_or k storages scope unset p left q right stands)
+    (λ simple. and_first _ _ simple) (λ simple. and_second (is_simple k left) _ simple) first second is)
+    (λ storages scope unset s place stands suffices knows.
+    let small : (f s).word < 2 ^ 32 = both_small (inverse_of left s).word (inverse_of right s) (let h = truth_small ((value_of right s).word == 0) in omega (arith, h)) in (
+      stands,
+      suffices,
+      goes_by k scope unset s middle new registers 1 (f s) (plain (truth ((f s).word == 0))) suffices.least
+          (answers_zero middle new source (f s).word small last),
+    )) in
     does_less k.arrays old new _ _ _ _ (whole storages scope unset s place stands suffices knows) (λ m said. said)
     (λ m end said after. subst (λ x. Pushes registers x m end × LeavesItems scope kept m end) (or_value (value_of left s) (value_of right s)) after)
 

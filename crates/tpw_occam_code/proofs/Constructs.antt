@@ -17,7 +17,13 @@ use Rattle.tpw_occam_core.specs.declared.kind.Kind.TheVariants as kind
 use Rattle.tpw_occam_core.specs.declared.expression.Operator.{Operator}
 use Rattle.tpw_occam_core.specs.declared.expression.Expression.{Expression}
 use Rattle.tpw_occam_core.specs.declared.expression.Expression.TheVariants.{Constant, Variable, Element', Checked', Binary', Complement', Not', LowByte', And', Or', Let'}
-use Rattle.tpw_occam_core.specs.Arithmetic.{answer, plain, applied, subscript, low_byte}
+use Rattle.std.proofs.lemmas.Int.{ints, to_z_pos}
+use Rattle.std.proofs.lemmas.Bool.Decides.{nat_tests}
+use Rattle.std.specs.Prelude.{◌+ℤ◌}
+use Rattle.tp_decode.specs.Words.{signed}
+use Rattle.tp_step.specs.Numbers.{overflows}
+use Rattle.tpw_occam_core.specs.declared.expression.Operator.TheVariants as operators
+use Rattle.tpw_occam_core.specs.Arithmetic.{answer, plain, checked, wrapped, applied, subscript, low_byte}
 use Rattle.tpw_occam_core.specs.Arrays.{size, element}
 use Rattle.tpw_occam_core.specs.Meaning.{Store, followed, value_of, array_of, element_at}
 use Rattle.tpw_occam_core.specs.Sound.{is_name, is_array, is_seen, bytes_of, storage_of}
@@ -28,9 +34,9 @@ use Rattle.tpw_occam_code.specs.Symbolic.{Machine, effect, performed, at_place, 
 use Rattle.tpw_occam_code.specs.declared.items.Item.TheVariants as item
 use Rattle.tpw_occam_code.specs.Ranges.{Contains, ContainsAllOf, from_to}
 use Rattle.tpw_occam_code.specs.Leading.{Does, HasConstants, HasArray, HasWord, Makes}
-use Rattle.tpw_occam_code.specs.Values.{Holds, HasNumber, Replaces, Pushes, PushesAlone, Answers}
+use Rattle.tpw_occam_code.specs.Values.{Holds, HasNumber, Replaces, Pushes, PushesAlone, PushesOver, Answers}
 use Rattle.tpw_occam_code.specs.Agreement.{Knowledge, elements_of, constant_in, fact_at, Knows, Agrees, LeavesItems}
-use Rattle.tpw_occam_code.specs.Computing.{IsPlace, MayStand, Suffices, Computes, ComputesTo, ComputesBoth, IsKnown, IsKnownOf, IsKnownOfBoth, is_simple, inverse_of, subscript_value, applied_value, applied_last, applied_first, IsConstantBelow, IsByteVariable, IsSimplePair, HasImmediate, IsNoShift, IsFixed, has_immediate, is_immediate}
+use Rattle.tpw_occam_code.specs.Computing.{IsPlace, MayStand, Suffices, Computes, ComputesTo, ComputesBoth, IsKnown, IsKnownOf, IsKnownOfBoth, is_simple, inverse_of, subscript_value, applied_value, applied_last, applied_first, IsConstantBelow, IsByteVariable, IsSimplePair, HasImmediate, IsNoShift, IsFixed, IsOffset, has_immediate, is_immediate}
 use Rattle.tpw_occam_code.proofs.Leading.{does_both, does_less, does_step}
 use Rattle.std.proofs.lemmas.Option.{same_Some}
 use Rattle.tpw_occam_code.proofs.Indexing.{subscript_below, subscript_word_below, byte_small}
@@ -294,7 +300,7 @@ pub constant_subscript_computes : (k : Knowledge) (old new : Lines) (e : Express
 constant_subscript_computes k old new e size c registers kept is makes storages scope unset s place stands suffices knows =
     let value : value_of e s ≡ plain c = constant_value k storages scope unset s e c stands knows is.0 in
     let made : plain c ≡ subscript_value e size s =
-        sym (subscript_below size c is.1) ∙ ap (λ v. answer (subscript size v.word).word (v.flag || (subscript size v.word).flag)) (sym value) in
+    sym (subscript_below size c is.1) ∙ ap (λ v. answer (subscript size v.word).word (v.flag || (subscript size v.word).flag)) (sym value) in
     does_less k.arrays old new _ _ _ _ (makes k.arrays) (λ m said. said.constants)
     (λ m end said after. subst (λ x. Pushes registers x m end × LeavesItems scope kept m end) made
     (alone_pushes registers kept scope (plain c) m end suffices.least (pushes_alone c (place_behind new) m end after)))
@@ -304,7 +310,7 @@ pub constant_subscript_known : (k : Knowledge) (e : Expression) (size c : ℕ) (
 constant_subscript_known k e size c value is holds storages scope unset s place stands knows =
     let same : value_of e s ≡ plain c = constant_value k storages scope unset s e c stands knows is.0 in
     let made : plain c ≡ subscript_value e size s =
-        sym (subscript_below size c is.1) ∙ ap (λ v. answer (subscript size v.word).word (v.flag || (subscript size v.word).flag)) (sym same) in
+    sym (subscript_below size c is.1) ∙ ap (λ v. answer (subscript size v.word).word (v.flag || (subscript size v.word).flag)) (sym same) in
     subst (λ a. Holds value a.word) made holds
 
 -- an expression that is no constant below the size needs two registers for a check
@@ -323,10 +329,12 @@ pub settled_computes : (k : Knowledge) (old between new : Lines) (e : Expression
     → ComputesTo k old new e (subscript_value e size) registers kept
 settled_computes k old between new e value size registers kept computes known makes positive small two =
     computes_then k old between new e e (value_of e) (subscript size) registers 2 kept computes
-    (λ storages scope unset s place stands suffices knows.
-        (stands, suffices,
-        goes_by k scope unset s between new registers 2 (value_of e s) (subscript size (value_of e s).word) two
-        (makes (value_of e s).word (known storages scope unset s place stands knows) positive small)))
+    (λ storages scope unset s place stands suffices knows. (
+      stands,
+      suffices,
+      goes_by k scope unset s between new registers 2 (value_of e s) (subscript size (value_of e s).word) two
+          (makes (value_of e s).word (known storages scope unset s place stands knows) positive small),
+    ))
 
 pub settled_known : (k : Knowledge) (e : Expression) (size : ℕ) (value made : Value) → IsKnown k e value
     → ((i : ℕ) → Holds value i → 0 < size → size ≤ 2 ^ 31 → Holds made (subscript size i).word)
@@ -369,13 +377,19 @@ last_computes k old between new operator left value c registers kept computes kn
   where
     by_number : (1 < registers) ⊎ (registers ≤ 1) → ComputesTo k old new left (applied_last operator left c) registers kept
     by_number (inl two) = computes_then k old between new left left (value_of left) (λ b. applied operator b c) registers 2 kept computes
-        (λ storages scope unset s place stands suffices knows. (stands, suffices,
-        goes_by k scope unset s between new registers 2 (value_of left s) (applied operator (value_of left s).word c) two
-        (makes (value_of left s).word (known storages scope unset s place stands knows) unshifted)))
+        (λ storages scope unset s place stands suffices knows. (
+          stands,
+          suffices,
+          goes_by k scope unset s between new registers 2 (value_of left s) (applied operator (value_of left s).word c) two
+              (makes (value_of left s).word (known storages scope unset s place stands knows) unshifted),
+        ))
     by_number (inr one) = computes_then k old between new left left (value_of left) (λ b. applied operator b c) registers 1 kept computes
-        (λ storages scope unset s place stands suffices knows. (stands, suffices,
-        goes_by k scope unset s between new registers 1 (value_of left s) (applied operator (value_of left s).word c) suffices.least
-        (immediate (value_of left s).word (known storages scope unset s place stands knows) (enough one))))
+        (λ storages scope unset s place stands suffices knows. (
+          stands,
+          suffices,
+          goes_by k scope unset s between new registers 1 (value_of left s) (applied operator (value_of left s).word c) suffices.least
+              (immediate (value_of left s).word (known storages scope unset s place stands knows) (enough one)),
+        ))
 
 pub last_known : (k : Knowledge) (operator : Operator) (left : Expression) (value made : Value) (c : ℕ) → IsKnown k left value
     → ((vb : ℕ) → Holds value vb → Holds made (applied operator vb c).word) → IsKnownOf k left (applied_last operator left c) made
@@ -404,7 +418,7 @@ pub right_constant_computes : (k : Knowledge) (old new : Lines) (operator : Oper
 right_constant_computes k old new operator left right c registers kept is computes unshifted enough storages scope unset s place one two least most knows =
     let value : value_of right s ≡ plain c = constant_value k storages scope unset s right c two knows is in
     let made : applied_last operator left c s ≡ applied_value operator left right s =
-        ap (λ v. followed (value_of left s) (λ b. followed v (applied operator b))) (sym value) in
+    ap (λ v. followed (value_of left s) (λ b. followed v (applied operator b))) (sym value) in
     does_less k.arrays old new _ _ _ _
     (computes unshifted (λ h. immediate_of_constant k operator right c is (and_first _ _ (enough h))) storages scope unset s place one
     (record { least = least; most = most; simple = λ h. and_second _ _ (enough h) }) knows)
@@ -425,6 +439,7 @@ no_immediate k operator left right registers none enough = by_number (cases_lt 1
   where
     false_true : ◌≡◌ {A = Bool} false true → ⊥
     false_true e = cc
+
     by_number : (1 < registers) ⊎ (registers ≤ 1) → 2 ≤ registers
     by_number (inl more) = more
     by_number (inr one) = absurd (false_true (sym (ap (λ o. option_map_or (has_immediate operator) o false) none) ∙ and_first _ _ (enough one)))
@@ -438,7 +453,7 @@ left_constant_computes k old new operator left right c registers kept is none co
     let more = no_immediate k operator left right registers none enough in
     let value : value_of left s ≡ plain c = constant_value k storages scope unset s left c one knows is in
     let made : applied_first operator c right s ≡ applied_value operator left right s =
-        ap (λ v. followed v (λ b. followed (value_of right s) (applied operator b))) (sym value) in
+    ap (λ v. followed v (λ b. followed (value_of right s) (applied operator b))) (sym value) in
     does_less k.arrays old new _ _ _ _
     (computes unshifted more storages scope unset s place two (suffices_two k registers right more most) knows)
     (λ m said. said)
@@ -454,3 +469,100 @@ left_constant_known k operator left right c value is known storages scope unset 
 pub not_known : (k : Knowledge) (p : Place) (e : Expression) (value : Value) → IsKnownOf k e (inverse_of e) value → IsKnown k (Not' p e) value
 not_known k p e value known storages scope unset s place stands knows =
     known storages scope unset s place (stand_not k storages scope unset p e stands) knows
+
+-- ---- an element at an offset from a variable
+
+no_overflow : (n : ℕ) → n < 2 ^ 31 → overflows (pos n) ≡ false
+no_overflow n h = grind (arith, ints, nat_tests)
+
+sum_plain : (operator : Operator) (v c : ℕ) → (operator ≡ operators.Add) ⊎ (operator ≡ operators.Plus) → v + c < 2 ^ 31
+    → applied operator v c ≡ plain (v + c)
+sum_plain operator v c (inl is) h =
+    let low : (v + c) % 2 ^ 32 ≡ v + c = omega (arith, h) in
+    let whole : signed v +ℤ signed c ≡ pos (v + c) = ap (λ z. z +ℤ signed c) (to_z_pos w32 v (omega (arith, h)))
+    ∙ ap (λ z. pos v +ℤ z) (to_z_pos w32 c (omega (arith, h))) ∙ omega (arith, ints) in
+    rw is (ap checked whole ∙ ap (answer ((v + c) % 2 ^ 32)) (no_overflow (v + c) h) ∙ ap plain low)
+sum_plain operator v c (inr is) h =
+    let low : (v + c) % 2 ^ 32 ≡ v + c = omega (arith, h) in
+    let whole : pos v +ℤ pos c ≡ pos (v + c) = omega (arith, ints) in
+    rw is (ap wrapped whole ∙ ap plain low)
+
+-- what is known where an element has an offset from a variable
+record OffsetFacts (k : Knowledge) (scope : List Entry) (unset : ℕ → Bool) (s : Store) (a : ℕ) (e : Expression) (x c : ℕ) : Type 0 where
+  there : IsTrue (list_any (is_name x) scope)
+  set : unset x ≡ false
+  small : slice_index s.values x < 2 ^ 32
+  below : slice_index s.values x + c < size kind.Word (array_of s a)
+  value : value_of e s ≡ plain (slice_index s.values x + c)
+
+offset_facts : (k : Knowledge) (storages : List Storage) (scope : List Entry) (unset : ℕ → Bool) (s : Store) (a : ℕ) (view : Kind) (e : Expression) (x c : ℕ)
+    → IsOffset k a view e x c → slice_index k.arrays a ≤ 2048 → length (array_of s a) ≡ slice_index k.arrays a
+    → MayStand k storages scope unset e → Knows k scope unset s → OffsetFacts k scope unset s a e x c
+offset_facts k storages scope unset s a view e x c is most long stands knows =
+    let stands : MayStand k storages scope unset (Binary' is.operator is.p is.left is.q is.right) = subst (MayStand k storages scope unset) is.is stands in
+    let parts = stand_binary k storages scope unset is.operator is.p is.left is.q is.right stands in
+    let left : MayStand k storages scope unset (Variable x) = subst (MayStand k storages scope unset) is.offset.variable parts.0 in
+    let there = in_scope k storages scope unset x left in
+    let set = set_name k storages scope unset x left in
+    let fits = knows.names x there set in
+    let v = slice_index s.values x in
+    let below : v + c < elements_of view (slice_index k.arrays a) = is.offset.below most v fits.small fits.known in
+    let within : v + c < size kind.Word (array_of s a) =
+    subst (λ n. v + c < n) (ap (λ w. elements_of w (slice_index k.arrays a)) is.offset.words ∙ size_is kind.Word (array_of s a) _ long) below in
+    let right : value_of is.right s ≡ plain c = constant_value k storages scope unset s is.right c parts.1 knows is.offset.constant in
+    let small : v + c < 2 ^ 31 = omega (arith, within, long, most) in
+    record {
+      there = there;
+      set = set;
+      small = fits.small;
+      below = within;
+      value = ap (λ e. value_of e s) is.is
+          ∙ ap (λ l. applied_value is.operator l is.right s) is.offset.variable
+          ∙ ap (λ r. followed (plain v) (λ b. followed r (applied is.operator b))) right
+          ∙ sum_plain is.operator v c is.which small;
+    }
+
+over_pushes : (registers kept : ℕ) (scope : List Entry) (made : Answer) (m end : Machine) → 2 ≤ registers → PushesOver 2 made m end
+    → Pushes registers made m end × LeavesItems scope kept m end
+over_pushes registers kept scope made m end two over = (
+  record {
+    areg = over.pushed.areg;
+    breg = λ h. over.pushed.breg (omega arith);
+    creg = λ h. absurd (omega (arith, two, h));
+    error = over.pushed.error;
+  },
+  record {
+    blocks = λ i at stays. ap (λ b. b i at) over.blocks;
+    to_come = over.to_come;
+    sent = over.sent;
+    traced = over.traced;
+  },
+)
+
+pub offset_computes : (k : Knowledge) (old new : Lines) (a : ℕ) (view : Kind) (p : Place) (e : Expression) (x c registers kept : ℕ)
+    → IsOffset k a view e x c
+    → ((arrays bytes : List ℕ) (v : ℕ) → v < 2 ^ 32 → length bytes ≡ slice_index arrays a → v + c < size kind.Word bytes → length bytes ≤ 2048
+    → Does arrays old new (λ m. HasWord (item.Variable x) v m × HasArray a bytes m) (PushesOver 2 (plain (element kind.Word bytes (v + c)))))
+    → Computes k old new (Element' a view p e) registers kept
+offset_computes k old new a view p e x c registers kept is makes storages scope unset s place stands suffices knows =
+    let parts = stand_element k storages scope unset a view p e stands in
+    let there = seen_array storages scope a view parts.0 in
+    let most = place.most a there in
+    let bytes = array_of s a in
+    let long = knows.lengths a there in
+    let facts = offset_facts k storages scope unset s a view e x c is most long parts.1 knows in
+    let v = slice_index s.values x in
+    let two = two_registers k registers (Element' a view p e) refl suffices in
+    let made : plain (element kind.Word bytes (v + c)) ≡ value_of (Element' a view p e) s =
+    ap (λ t. answer (element kind.Word bytes t.word) t.flag) (sym (subscript_below (size kind.Word bytes) (v + c) facts.below))
+    ∙ ap (λ t. answer (element kind.Word bytes (subscript (size kind.Word bytes) t.word).word) (t.flag || (subscript (size kind.Word bytes) t.word).flag)) (sym facts.value)
+    ∙ ap (λ w. followed (value_of e s) (element_at w bytes)) (sym is.offset.words) in
+    does_less k.arrays old new _ _ _ _ (makes k.arrays bytes v facts.small long facts.below (subst (λ n. n ≤ 2048) (sym long) most))
+    (λ m agrees. (agrees.words x facts.there facts.set is.offset.word, agrees.arrays a there))
+    (λ m end said after. subst (λ t. Pushes registers t m end × LeavesItems scope kept m end) made (over_pushes registers kept scope _ m end two after))
+
+pub offset_known : (k : Knowledge) (a : ℕ) (view : Kind) (p : Place) (e : Expression) (x c : ℕ) (value : Value) → IsOffset k a view e x c
+    → ((bytes : List ℕ) (i : ℕ) → ((at : ℕ) → slice_index bytes at < 256) → Holds value (element kind.Word bytes i))
+    → IsKnown k (Element' a view p e) value
+offset_known k a view p e x c value is holds storages scope unset s place stands knows =
+    subst (λ w. Holds value (followed (value_of e s) (element_at w (array_of s a))).word) (sym is.offset.words) (holds (array_of s a) _ (knows.bytes a))

@@ -309,8 +309,11 @@ does_offset_element arrays old between new source x a bytes v c n is long h firs
     (set_areg (number (element Word bytes (v + c)))) last
     (λ m said served. load_offset (at_place (m.place + 1) m) a bytes v c n is h said.0 said.1 said.2)
     (λ m. refl) (λ m. refl) (λ m. refl))
-    (λ m middle said after. (after.areg, (λ i less. ap (λ b. b (Array a) i) after.blocks ∙ said.1 i less),
-        whole_words (length bytes) (slice_index arrays a) (middle.sizes (Array a)) long after.room))
+    (λ m middle said after. (
+      after.areg,
+      (λ i less. ap (λ b. b (Array a) i) after.blocks ∙ said.1 i less),
+      whole_words (length bytes) (slice_index arrays a) (middle.sizes (Array a)) long after.room,
+    ))
     (λ m middle end said after at. record {
       pushed = record {
         areg = ap (λ e. e.areg) at;

@@ -23,6 +23,7 @@ signed_next c h less = by_sign (cases_lt c (2 ^ 31))
     by_top high (inr top) =
         let last : c ≡ 2 ^ 32 - 1 = omega arith in
         rw last (omega (arith, ints))
+
     by_sign : (c < 2 ^ 31) ⊎ (2 ^ 31 ≤ c) → signed ((c + 1) % 2 ^ 32) ≡ signed c +ℤ pos 1
     by_sign (inl low) =
         let same : (c + 1) % 2 ^ 32 ≡ c + 1 = omega arith in
@@ -40,6 +41,7 @@ signed_before c h more = by_zero (cases_lt 0 c)
     by_sign some (inr high) =
         let same : (c + (2 ^ 32 - 1)) % 2 ^ 32 ≡ c - 1 = omega arith in
         ap signed same ∙ signed_high (c - 1) (omega (arith, more)) ∙ omega (arith, ints) ∙ ap (λ z. z -ℤ pos 1) (sym (signed_high c high))
+
     by_zero : (0 < c) ⊎ (c ≤ 0) → signed ((c + (2 ^ 32 - 1)) % 2 ^ 32) ≡ signed c -ℤ pos 1
     by_zero (inl some) = by_sign some (cases_lt c (2 ^ 31))
     by_zero (inr none) = let is : c ≡ 0 = omega arith in rw is (omega (arith, ints))

@@ -73,6 +73,7 @@ new_name count scope x y new there = by_test (nat_eq x y) refl
     not_in : (b : Bool) → not b ≡ true → b ≡ true → ⊥
     not_in true e f = false_true e
     not_in false e f = false_true f
+
     by_test : (b : Bool) → nat_eq x y ≡ b → nat_eq x y ≡ false
     by_test false e = e
     by_test true e = absurd (not_in (list_any (is_name x) scope) (and_second (nat_lt x count) _ new)
@@ -175,14 +176,16 @@ constant_binding k code x c e registers kept is storages scope unset s place sta
     let value : value_of e s ≡ plain c = constant_value k storages scope unset s e c stands knows is in
     does_less k.arrays code code _ _ _ _ (does_nothing k.arrays code) (λ m said. tt)
     (λ m end agrees is.
-        let leaves : LeavesItems scope kept m end = record { blocks = λ i at stays. ap (λ z. z.blocks i at) is; to_come = ap (λ z. z.to_come) is; sent = ap (λ z. z.sent) is; traced = ap (λ z. z.traced) is } in
-        (record {
-          areg = λ h. ap (λ z. z.areg) is;
-          breg = λ h. ap (λ z. z.breg) is;
-          error = ap (λ z. z.error) is ∙ sym (or-false m.error) ∙ ap (λ (v : Answer). m.error || v.flag) (sym value);
-          leaves = leaves;
-        }, agrees_name k scope unset kept s x (value_of e s).word (constant_fact c) m end agrees leaves new place.facts knows.count
-        (λ none. absurd (some_none none))))
+    let leaves : LeavesItems scope kept m end = record { blocks = λ i at stays. ap (λ z. z.blocks i at) is; to_come = ap (λ z. z.to_come) is; sent = ap (λ z. z.sent) is; traced = ap (λ z. z.traced) is } in (
+      record {
+        areg = λ h. ap (λ z. z.areg) is;
+        breg = λ h. ap (λ z. z.breg) is;
+        error = ap (λ z. z.error) is ∙ sym (or-false m.error) ∙ ap (λ (v : Answer). m.error || v.flag) (sym value);
+        leaves = leaves;
+      },
+      agrees_name k scope unset kept s x (value_of e s).word (constant_fact c) m end agrees leaves new place.facts knows.count
+          (λ none. absurd (some_none none)),
+    ))
 
 -- ---- a word
 
@@ -220,21 +223,23 @@ value_binding k old between new_code source x e value registers kept computes is
     (λ m areg served. rw areg (rw (le-leb 4 _ served) refl)) (λ m. refl) (λ m. refl) (λ m. refl))
     (λ m middle agrees after. after.0.areg)
     (λ m middle end agrees after at.
-        let leaves : LeavesItems scope kept m end = record {
-              blocks = λ i place stays. ap (λ z. z.blocks i place) at
-                  ∙ word_elsewhere (item.Variable x) i place v.word middle.blocks (variable_differs (length k.kinds) scope kept x new i stays)
-                  ∙ after.1.blocks i place stays;
-              to_come = ap (λ z. z.to_come) at ∙ after.1.to_come;
-              sent = ap (λ z. z.sent) at ∙ after.1.sent;
-              traced = ap (λ z. z.traced) at ∙ after.1.traced;
-            } in
-        (record {
-          areg = λ h. ap (λ z. z.areg) at ∙ after.0.breg h;
-          breg = λ h. ap (λ z. z.breg) at ∙ after.0.creg h;
-          error = ap (λ z. z.error) at ∙ after.0.error;
-          leaves = leaves;
-        }, agrees_name k scope unset kept s x v.word (valued_fact value.source) m end agrees leaves new place.facts knows.count
-        (λ none. ap (λ z. bytes_at z.blocks (item.Variable x) 0 4) at ∙ word_written (item.Variable x) v.word middle.blocks)))
+    let leaves : LeavesItems scope kept m end = record {
+      blocks = λ i place stays. ap (λ z. z.blocks i place) at
+          ∙ word_elsewhere (item.Variable x) i place v.word middle.blocks (variable_differs (length k.kinds) scope kept x new i stays)
+          ∙ after.1.blocks i place stays;
+      to_come = ap (λ z. z.to_come) at ∙ after.1.to_come;
+      sent = ap (λ z. z.sent) at ∙ after.1.sent;
+      traced = ap (λ z. z.traced) at ∙ after.1.traced;
+    } in (
+      record {
+        areg = λ h. ap (λ z. z.areg) at ∙ after.0.breg h;
+        breg = λ h. ap (λ z. z.breg) at ∙ after.0.creg h;
+        error = ap (λ z. z.error) at ∙ after.0.error;
+        leaves = leaves;
+      },
+      agrees_name k scope unset kept s x v.word (valued_fact value.source) m end agrees leaves new place.facts knows.count
+          (λ none. ap (λ z. bytes_at z.blocks (item.Variable x) 0 4) at ∙ word_written (item.Variable x) v.word middle.blocks),
+    ))
 
 -- ---- an expression within which a name has a value
 
@@ -290,20 +295,23 @@ let_computes k after old between new_code x p e q f fact registers kept is binds
     let inner = with_value x v.word s in
     let same_arrays : after.arrays ≡ k.arrays = ap (λ (a : Knowledge). a.arrays) is in
     let second = within storages (scope ++ entry.Value x ∷ []) unset inner
-        (place_within k after storages scope x fact is place)
-        (stand_within k after storages scope unset x p e q f (ap (λ (a : Knowledge). a.kinds) is) stands)
-        (suffices_two after registers f two suffices.most) (binds storages scope unset s place outer knows new) in
+    (place_within k after storages scope x fact is place)
+    (stand_within k after storages scope unset x p e q f (ap (λ (a : Knowledge). a.kinds) is) stands)
+    (suffices_two after registers f two suffices.most) (binds storages scope unset s place outer knows new) in
     does_both k.arrays old between new_code _ _ _ _ _
     (binding storages scope unset s place outer (suffices_two k registers e two suffices.most) knows new)
     (subst (λ arrays. Does arrays between new_code (Agrees after (scope ++ entry.Value x ∷ []) unset inner)
     (λ m end. Pushes registers (value_of f inner) m end × LeavesItems (scope ++ entry.Value x ∷ []) kept m end)) same_arrays second)
     (λ m middle agrees bound. bound.1)
-    (λ m middle end agrees bound pushed. (record {
-      areg = pushed.0.areg;
-      breg = λ h. pushed.0.breg h ∙ bound.0.areg h;
-      creg = λ h. pushed.0.creg h ∙ bound.0.breg h;
-      error = pushed.0.error ∙ ap (λ z. z || (value_of f inner).flag) bound.0.error ∙ or_assoc m.error v.flag (value_of f inner).flag;
-    }, leaves_then scope kept m middle end bound.0.leaves (leaves_within scope x kept middle end pushed.1)))
+    (λ m middle end agrees bound pushed. (
+      record {
+        areg = pushed.0.areg;
+        breg = λ h. pushed.0.breg h ∙ bound.0.areg h;
+        creg = λ h. pushed.0.creg h ∙ bound.0.breg h;
+        error = pushed.0.error ∙ ap (λ z. z || (value_of f inner).flag) bound.0.error ∙ or_assoc m.error v.flag (value_of f inner).flag;
+      },
+      leaves_then scope kept m middle end bound.0.leaves (leaves_within scope x kept middle end pushed.1),
+    ))
 
 pub let_known : (k after : Knowledge) (x : ℕ) (p : Place) (e : Expression) (q : Place) (f : Expression) (fact : Fact) (value : Value)
     → after ≡ with_fact x fact k → Binds k after x e → IsKnown after f value → IsKnown k (Let' x p e q f) value

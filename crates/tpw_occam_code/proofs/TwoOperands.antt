@@ -52,12 +52,14 @@ above : (registers kept : ℕ) (scope : List Entry) (one two : Answer) (m middle
     → 2 ≤ registers → registers ≤ 3 → Pushes registers one m middle × LeavesItems scope kept m middle
     → Pushes (registers - 1) two middle end × LeavesItems scope kept middle end
     → PushesTwo registers one.word two.word (one.flag || two.flag) false m end × LeavesItems scope kept m end
-above registers kept scope one two m middle end least most a b =
-    (record {
-      operands = inl (b.0.breg (omega arith) ∙ a.0.areg, b.0.areg);
-      creg = λ h. b.0.creg (omega arith) ∙ a.0.breg h;
-      error = b.0.error ∙ ap (λ e. e || two.flag) a.0.error ∙ or_assoc m.error one.flag two.flag;
-    }, leaves_then scope kept m middle end a.1 b.1)
+above registers kept scope one two m middle end least most a b = (
+  record {
+    operands = inl (b.0.breg (omega arith) ∙ a.0.areg, b.0.areg);
+    creg = λ h. b.0.creg (omega arith) ∙ a.0.breg h;
+    error = b.0.error ∙ ap (λ e. e || two.flag) a.0.error ∙ or_assoc m.error one.flag two.flag;
+  },
+  leaves_then scope kept m middle end a.1 b.1,
+)
 
 pub does_above : (k : Knowledge) (scope : List Entry) (unset : ℕ → Bool) (s : Store) (old between new : Lines) (registers kept : ℕ) (one two : Answer)
     → 2 ≤ registers → registers ≤ 3
@@ -81,6 +83,7 @@ two_changed registers b a f g may_change m end may two = record {
   where
     false_true : ◌≡◌ {A = Bool} false true → ⊥
     false_true e = cc
+
     by_order : HasOperands a b end ⊎ ((false ≡ true) × HasOperands b a end) → HasOperands b a end ⊎ ((may_change ≡ true) × HasOperands a b end)
     by_order (inl in_order) = inr (may, in_order)
     by_order (inr swapped) = absurd (false_true swapped.0)
@@ -96,6 +99,7 @@ two_fixed registers b a flag may_change m end two = record {
   where
     false_true : ◌≡◌ {A = Bool} false true → ⊥
     false_true e = cc
+
     by_order : HasOperands b a end ⊎ ((false ≡ true) × HasOperands a b end) → HasOperands b a end ⊎ ((may_change ≡ true) × HasOperands a b end)
     by_order (inl in_order) = inl in_order
     by_order (inr swapped) = absurd (false_true swapped.0)
@@ -113,19 +117,23 @@ does_rev k scope unset s old between new source registers kept b a f g is first 
     (does_step k.arrays between new source (Plain Rev) (λ m. Unit {0}) (λ m. record m { areg = m.breg; breg = m.areg }) is
     (λ m said served. refl) (λ m. refl) (λ m. refl) (λ m. refl))
     (λ m middle said after. tt)
-    (λ m middle end said after after2. (record {
-      operands = by_order m middle end after2 after.0.operands;
-      creg = λ h. ap (λ x. x.creg) after2 ∙ after.0.creg h;
-      error = ap (λ x. x.error) after2 ∙ after.0.error ∙ ap (λ e. m.error || e) (or_comm g f);
-    }, record {
-      blocks = λ i at stays. ap (λ x. x.blocks i at) after2 ∙ after.1.blocks i at stays;
-      to_come = ap (λ x. x.to_come) after2 ∙ after.1.to_come;
-      sent = ap (λ x. x.sent) after2 ∙ after.1.sent;
-      traced = ap (λ x. x.traced) after2 ∙ after.1.traced;
-    }))
+    (λ m middle end said after after2. (
+      record {
+        operands = by_order m middle end after2 after.0.operands;
+        creg = λ h. ap (λ x. x.creg) after2 ∙ after.0.creg h;
+        error = ap (λ x. x.error) after2 ∙ after.0.error ∙ ap (λ e. m.error || e) (or_comm g f);
+      },
+      record {
+        blocks = λ i at stays. ap (λ x. x.blocks i at) after2 ∙ after.1.blocks i at stays;
+        to_come = ap (λ x. x.to_come) after2 ∙ after.1.to_come;
+        sent = ap (λ x. x.sent) after2 ∙ after.1.sent;
+        traced = ap (λ x. x.traced) after2 ∙ after.1.traced;
+      },
+    ))
   where
     false_true : ◌≡◌ {A = Bool} false true → ⊥
     false_true e = cc
+
     by_order : (m middle end : Machine) → end ≡ at_place (place_behind new) (record middle { areg = middle.breg; breg = middle.areg })
         → HasOperands a b middle ⊎ ((false ≡ true) × HasOperands b a middle) → HasOperands b a end ⊎ ((false ≡ true) × HasOperands a b end)
     by_order m middle end at (inl in_order) = inl (ap (λ x. x.breg) at ∙ in_order.1, ap (λ x. x.areg) at ∙ in_order.0)
@@ -202,16 +210,19 @@ does_recalled k scope unset s old saved between new source registers kept b a sm
     }))
     (does_recall k.arrays between new source (item.Temporary kept) a.word small is)
     (λ m middle agrees after. after.held)
-    (λ m middle end agrees after after2. (record {
-      operands = inl (after2.pushed.breg (omega arith) ∙ after.areg, after2.pushed.areg);
-      creg = λ h. after2.pushed.creg (omega arith) ∙ after.breg h;
-      error = after2.pushed.error ∙ or-false middle.error ∙ after.error ∙ ap (λ e. m.error || e) (or_comm a.flag b.flag);
-    }, record {
-      blocks = λ i at stays. ap (λ x. x i at) after2.blocks ∙ after.leaves.blocks i at stays;
-      to_come = after2.to_come ∙ after.leaves.to_come;
-      sent = after2.sent ∙ after.leaves.sent;
-      traced = after2.traced ∙ after.leaves.traced;
-    }))
+    (λ m middle end agrees after after2. (
+      record {
+        operands = inl (after2.pushed.breg (omega arith) ∙ after.areg, after2.pushed.areg);
+        creg = λ h. after2.pushed.creg (omega arith) ∙ after.breg h;
+        error = after2.pushed.error ∙ or-false middle.error ∙ after.error ∙ ap (λ e. m.error || e) (or_comm a.flag b.flag);
+      },
+      record {
+        blocks = λ i at stays. ap (λ x. x i at) after2.blocks ∙ after.leaves.blocks i at stays;
+        to_come = after2.to_come ∙ after.leaves.to_come;
+        sent = after2.sent ∙ after.leaves.sent;
+        traced = after2.traced ∙ after.leaves.traced;
+      },
+    ))
 
 -- ---- what works on two operands
 
@@ -247,17 +258,20 @@ does_work k scope unset s old between new registers kept b a flag may_change mad
     does_both k.arrays old between new _ _ _ _ _ first
     (either_way k between new b a may_change made works changed)
     (λ m middle agrees after. after.0.operands)
-    (λ m middle end agrees after at. (record {
-      areg = ap (λ x. x.areg) at;
-      breg = λ h. ap (λ x. x.breg) at ∙ after.0.creg h;
-      creg = λ h. absurd (omega (arith, least, h));
-      error = ap (λ x. x.error) at ∙ ap (λ e. e || made.flag) after.0.error ∙ or_assoc m.error flag made.flag;
-    }, record {
-      blocks = λ i place stays. ap (λ x. x.blocks i place) at ∙ after.1.blocks i place stays;
-      to_come = ap (λ x. x.to_come) at ∙ after.1.to_come;
-      sent = ap (λ x. x.sent) at ∙ after.1.sent;
-      traced = ap (λ x. x.traced) at ∙ after.1.traced;
-    }))
+    (λ m middle end agrees after at. (
+      record {
+        areg = ap (λ x. x.areg) at;
+        breg = λ h. ap (λ x. x.breg) at ∙ after.0.creg h;
+        creg = λ h. absurd (omega (arith, least, h));
+        error = ap (λ x. x.error) at ∙ ap (λ e. e || made.flag) after.0.error ∙ or_assoc m.error flag made.flag;
+      },
+      record {
+        blocks = λ i place stays. ap (λ x. x.blocks i place) at ∙ after.1.blocks i place stays;
+        to_come = ap (λ x. x.to_come) at ∙ after.1.to_come;
+        sent = ap (λ x. x.sent) at ∙ after.1.sent;
+        traced = ap (λ x. x.traced) at ∙ after.1.traced;
+      },
+    ))
 
 -- ---- the ways of two operands
 
@@ -530,6 +544,7 @@ shift_registers k operator left count registers which enough = by_number (cases_
   where
     none : ((is_immediate k operator count && is_simple k left) || (commutes operator && is_immediate k operator left && is_simple k count)) ≡ false
     none = rw (shift_immediate k operator count which) (rw (shift_commutes operator which) refl)
+
     by_number : (1 < registers) ⊎ (registers ≤ 1) → 2 ≤ registers
     by_number (inl more) = more
     by_number (inr one) = absurd (false_true (sym none ∙ enough one))
@@ -551,9 +566,9 @@ shift_computes k old between new operator left count b a registers kept which tw
     let made = applied operator l.word r.word in
     let below : r.word < 32 = subscript_word_below 32 c.word (omega arith) in
     let again : answer made.word ((l.flag || r.flag) || made.flag) ≡ applied_value operator left count s =
-        ap (λ (x : Answer). answer x.word ((l.flag || r.flag) || x.flag)) (shift_again operator l.word c.word which)
-        ∙ ap (answer (applied operator l.word c.word).word) (or-false (l.flag || r.flag)
-        ∙ ap (λ f. l.flag || (c.flag || f)) (sym (shift_flag operator l.word c.word which))) in
+    ap (λ (x : Answer). answer x.word ((l.flag || r.flag) || x.flag)) (shift_again operator l.word c.word which)
+    ∙ ap (answer (applied operator l.word c.word).word) (or-false (l.flag || r.flag)
+    ∙ ap (λ f. l.flag || (c.flag || f)) (sym (shift_flag operator l.word c.word which))) in
     does_less k.arrays old new _ _ _ _
     (does_work k scope unset s old between new registers kept l.word r.word (l.flag || r.flag) false made more
     (two storages scope unset s place one other more most knows)
@@ -621,6 +636,7 @@ fixed_immediate k operator left right fixed pair = by_which (either_of _ _ pair)
     immediate_some : (o : Option ℕ) → option_map_or (has_immediate operator) o false ≡ true → is_some o ≡ true
     immediate_some None e = absurd (false_true e)
     immediate_some (Some c) e = refl
+
     by_right : (b : Bool) → is_immediate k operator right ≡ b → commutes operator ≡ true → is_immediate k operator left ≡ true
         → HasImmediate k operator left right
     by_right true e commute is = and_both (is_immediate k operator right) (is_simple k left) e
@@ -629,6 +645,7 @@ fixed_immediate k operator left right fixed pair = by_which (either_of _ _ pair)
         absurd (true_false (is_swapped k operator left right)
         (four_tests (commutes operator) (is_some (constant_in k left)) (is_immediate k operator right) (is_some (constant_in k right))
         (is_immediate k operator left) commute (immediate_some (constant_in k left) is) e is) fixed)
+
     by_which : ((is_immediate k operator right && is_simple k left) ≡ true) ⊎ ((commutes operator && is_immediate k operator left && is_simple k right) ≡ true)
         → HasImmediate k operator left right
     by_which (inl direct) = direct

@@ -3,10 +3,10 @@ use Rattle.std.specs.Bool.{IsTrue}
 use Rattle.std.proofs.lemmas.Result.{on_ok_weaker, IfOk-weaker}
 use Rattle.tpw_occam_code.proofs.Standing.{on_ok_both, none_of}
 use Rattle.tpw_occam_core.specs.Meaning.{value_of}
-use Rattle.tpw_occam_code.specs.Computing.{Computes, ComputesBoth, ComputesTo, ComputesTwo, IsKnown, IsKnownOfBoth, IsKnownOf, IsNoShift, HasImmediate, IsSimplePair, has_immediate, subscript_value, applied_value, applied_last, applied_first, inverse_of, IsFixed, IsConstantBelow}
+use Rattle.tpw_occam_code.specs.Computing.{Computes, ComputesBoth, ComputesTo, ComputesTwo, IsKnown, IsKnownOfBoth, IsKnownOf, IsNoShift, HasImmediate, IsSimplePair, has_immediate, subscript_value, applied_value, applied_last, applied_first, inverse_of, IsFixed, IsOffset, IsConstantBelow}
 use Rattle.tpw_occam_code.specs.Code.{followed_by, line_of}
 use Rattle.tpw_occam_code.specs.declared.code.Step.TheVariants.{Load, Store as StoreTo}
-use Rattle.tpw_occam_code.proofs.Constructs.{constant_computes, checked_computes, checked_known, low_byte_computes, low_byte_known, complement_computes, complement_known, binary_computes, binary_known, element_computes, element_known, fixed_computes, constant_subscript_computes, constant_subscript_known, settled_computes, settled_known, byte_computes, byte_known, last_computes, last_known, not_computes, not_known, not_constant, right_constant_computes, right_constant_known, left_constant_computes, left_constant_known, no_immediate}
+use Rattle.tpw_occam_code.proofs.Constructs.{constant_computes, checked_computes, checked_known, low_byte_computes, low_byte_known, complement_computes, complement_known, binary_computes, binary_known, element_computes, element_known, fixed_computes, constant_subscript_computes, constant_subscript_known, settled_computes, settled_known, byte_computes, byte_known, last_computes, last_known, not_computes, not_known, offset_computes, offset_known, not_constant, right_constant_computes, right_constant_known, left_constant_computes, left_constant_known, no_immediate}
 use Rattle.tpw_occam_core.specs.declared.expression.Operator.TheVariants.{Greater}
 use Rattle.tpw_occam_code.specs.Agreement.{with_fact, valued_fact, fact_at}
 use Rattle.tpw_occam_code.specs.Computing.{Binds, ComputesBinding, IsSuccessor, IsPredecessor}
@@ -102,14 +102,21 @@ expression-returns-in-Some-clause-computes t c =
     c.fixed_element.ensures.makes
 
 -- src/expressions.rt:73:21
-pub expression-returns-in-Some-offset_subscript-clause-computes :
-    goal.expression-returns-in-Some-offset_subscript-clause-computes
-expression-returns-in-Some-offset_subscript-clause-computes t c = ?
+pub expression-returns-in-Some-offset_subscript-clause-computes : goal.expression-returns-in-Some-offset_subscript-clause-computes
+expression-returns-in-Some-offset_subscript-clause-computes t c =
+    on_ok_weaker c.offset_element.result (λ makes.
+    rw c.in-Element.is (offset_computes c.args.self.now c.args.code.now c.offset_element.new.code c.in-Element.array c.in-Element.kind _ c.in-Element.subscript.value
+    c.in-Some-offset_subscript.offset.variable c.in-Some-offset_subscript.offset.constant c.args.room.registers c.args.room.kept
+    (subst (λ e. IsOffset c.args.self.now c.in-Element.array c.in-Element.kind e c.in-Some-offset_subscript.offset.variable c.in-Some-offset_subscript.offset.constant) c.deref-in-Element.ensures c.in-Some-offset_subscript.ensures) makes))
+    c.offset_element.ensures.makes
 
 -- src/expressions.rt:73:21
-pub expression-returns-in-Some-offset_subscript-clause-known :
-    goal.expression-returns-in-Some-offset_subscript-clause-known
-expression-returns-in-Some-offset_subscript-clause-known t c = ?
+pub expression-returns-in-Some-offset_subscript-clause-known : goal.expression-returns-in-Some-offset_subscript-clause-known
+expression-returns-in-Some-offset_subscript-clause-known t c =
+    IfOk-weaker c.offset_element.result _ _ (λ value holds.
+    rw c.in-Element.is (offset_known c.args.self.now c.in-Element.array c.in-Element.kind _ c.in-Element.subscript.value c.in-Some-offset_subscript.offset.variable c.in-Some-offset_subscript.offset.constant value
+    (subst (λ e. IsOffset c.args.self.now c.in-Element.array c.in-Element.kind e c.in-Some-offset_subscript.offset.variable c.in-Some-offset_subscript.offset.constant) c.deref-in-Element.ensures c.in-Some-offset_subscript.ensures) holds))
+    c.offset_element.ensures.holds
 
 -- src/expressions.rt:49:5
 pub expression-returns-in-Constant-clause-computes :
@@ -296,7 +303,7 @@ pub in_order-returns-clause-computes : goal.in_order-returns-clause-computes
 in_order-returns-clause-computes t c =
     on_ok_weaker c.apply.result (λ works unshifted enough.
     let more = no_immediate c.args.self.now c.args.operator c.args.left.now c.args.right.now c.args.room.registers
-        (sym c.constant_of.ensures.value ∙ none_of c.constant_of.result c.in_default.not-Some) enough in
+    (sym c.constant_of.ensures.value ∙ none_of c.constant_of.result c.in_default.not-Some) enough in
     applied_computes c.args.self.now c.operands.new.self c.args.code.now c.operands.new.code c.apply.new.code c.args.operator c.args.left.now c.args.right.now c.in_ok-b.b c.in_ok-b.a
     c.commutes.result c.args.room.registers c.args.room.kept c.in_ok-b.ensures.knowledge c.commutes.ensures c.in_ok-b.ensures.computes c.in_ok-b.ensures.left c.in_ok-b.ensures.right
     works.0 works.1 unshifted more) (on_ok_both _ _ c.apply.result c.apply.ensures.makes c.apply.ensures.swapped)
