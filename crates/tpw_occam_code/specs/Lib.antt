@@ -1,3 +1,11 @@
 -- What a reader must believe: clauses of public calls cite it.
 pub mod Code
 pub mod Program
+-- Clauses of calls within the crate cite these.
+pub mod Blocks
+pub mod Symbolic
+pub mod Leading
+pub mod Ranges
+pub mod Values
+pub mod Agreement
+pub mod Computing

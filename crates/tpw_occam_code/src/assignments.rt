@@ -173,7 +173,7 @@ impl Emitter<'_> {
         room: Room,
     ) -> Result<(), CodeFault> {
         let line = room.line;
-        let i = self.expression(code, subscript, room.beside())?;
+        let i = self.expression(code, subscript, room.beside()?)?;
         let i = checked(code, line, i, size)?;
         code.emit(line, Step::Load(room.word(), 0))?;
         code.instr(line, Instr::Rev)?;
@@ -294,9 +294,9 @@ impl Emitter<'_> {
             subscript,
         } = &assignment.target
         {
-            let i = self.expression(code, subscript, room.beside())?;
+            let i = self.expression(code, subscript, room.beside()?)?;
             checked(code, line, i, self.elements(*array, *kind))?;
-            code.emit(line, Step::Store(room.beside().word(), 0))?;
+            code.emit(line, Step::Store(room.beside()?.word(), 0))?;
         }
         Ok(())
     }
@@ -318,7 +318,7 @@ impl Emitter<'_> {
                 kind,
                 subscript: _,
             } => {
-                code.emit(line, Step::Load(room.beside().word(), 0))?;
+                code.emit(line, Step::Load(room.beside()?.word(), 0))?;
                 reduce(code, line, FULL, self.elements(*array, *kind))?;
                 indexed(code, line, *array, *kind)?;
                 store_at(code, line, *kind)

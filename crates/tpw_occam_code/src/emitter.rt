@@ -1,13 +1,24 @@
 //! What is known while code is made.
 
+ghost use Rattle.std.specs.Prelude.{◌≡◌, ◌<◌, ◌^◌, ◌+◌, ◌-◌, ℕ, List, Some, OnOk, IfOk, IfSome, slice_index};
+ghost use Rattle.tpw_occam_core.specs.Meaning.{kind_of};
+ghost use Rattle.tpw_occam_code.specs.Agreement.{fact_of_kind, valued_fact, constant_fact, counted_fact, fact_at, with_fact};
+ghost use Rattle.tpw_occam_code.specs.Agreement.{constant_in, elements_of};
+ghost use Rattle.tpw_occam_code.specs.Computing.{is_short as short};
+ghost use Rattle.tpw_occam_code.specs.declared.items.Item.TheVariants.{Temporary};
+ghost use Rattle.tpw_occam_code.specs.Symbolic.{Machine, push, number, performed};
+ghost use Rattle.tpw_occam_code.specs.Leading.{Makes, HasConstants, Serves};
+
 use crate::code::{Code, Step};
 use crate::fault::CodeFault;
 use crate::items::Item;
 use crate::range::{BYTE, FULL, Range};
 use std::alloc::{AllocError, Global};
+use std::marker::Model;
 use tp_decode::Instr;
+use tp_image::limits::WORKSPACE_WORDS_2;
 use tp_prefix::encode;
-use tpw_occam_core::{Expression, Kind, Worker};
+use tpw_occam_core::{Expression, Kind, Storage, Worker};
 
 /// The most bytes of `ldc` for a constant that is not an initial word.
 const MOST_BYTES: usize = 2;
@@ -22,7 +33,9 @@ pub(crate) struct Fact {
 }
 
 /// What is known of a variable of a kind.
-pub(crate) fn fact_of(kind: Kind) -> Fact {
+pub(crate) fn fact_of(kind: Kind) -> Fact
+    ensures { result ≡ fact_of_kind kind }
+{
     Fact {
         source: match kind {
             Kind::Word => FULL,
@@ -34,7 +47,9 @@ pub(crate) fn fact_of(kind: Kind) -> Fact {
 }
 
 /// What is known of a name with a value in this range.
-pub(crate) fn valued(source: Range) -> Fact {
+pub(crate) fn valued(source: Range) -> Fact
+    ensures { result ≡ valued_fact source }
+{
     Fact {
         source,
         known: FULL,
@@ -43,7 +58,9 @@ pub(crate) fn valued(source: Range) -> Fact {
 }
 
 /// What is known of a name of a constant.
-pub(crate) fn constant(c: u32) -> Fact {
+pub(crate) fn constant(c: u32) -> Fact
+    ensures { result ≡ constant_fact c }
+{
     let range = Range::exactly(c);
     Fact {
         source: range,
@@ -53,7 +70,9 @@ pub(crate) fn constant(c: u32) -> Fact {
 }
 
 /// What is known of the index of a loop.
-pub(crate) fn counted(range: Range) -> Fact {
+pub(crate) fn counted(range: Range) -> Fact
+    ensures { result ≡ counted_fact range }
+{
     Fact {
         source: range,
         known: range,
@@ -81,25 +100,36 @@ impl Room {
     }
 
     /// So many registers.
-    pub(crate) fn with_registers(self, registers: u32) -> Room {
+    pub(crate) fn with_registers(self, registers: u32) -> Room
+        ensures { result ≡ record self { registers = registers } }
+    {
         Room { registers, ..self }
     }
 
     /// One register less.
-    pub(crate) fn above(self) -> Room {
+    pub(crate) fn above(self) -> Room
+        ensures { result ≡ record self { registers = self.registers - 1 } }
+    {
         self.with_registers(self.registers.saturating_sub(1))
     }
 
-    /// One word more is kept.
-    pub(crate) fn beside(self) -> Room {
-        Room {
-            kept: self.kept.saturating_add(1),
-            ..self
+    /// One word more is kept. No workspace has room for more words than it has.
+    pub(crate) fn beside(self) -> Result<Room, CodeFault>
+        ensures { IfOk result (λ room. room ≡ record self { kept = self.kept + 1 }) }
+    {
+        if self.kept >= WORKSPACE_WORDS_2 as usize {
+            return Err(CodeFault::Workspace { line: self.line });
         }
+        Ok(Room {
+            kept: self.kept + 1,
+            ..self
+        })
     }
 
     /// The word that is kept next.
-    pub(crate) fn word(self) -> Item {
+    pub(crate) fn word(self) -> Item
+        ensures { result ≡ Temporary self.kept }
+    {
         Item::Temporary(self.kept)
     }
 }
@@ -110,6 +140,21 @@ pub(crate) struct Emitter<'a> {
     pub(crate) alloc: Global,
     pub(crate) worker: &'a Worker,
     facts: Vec<Fact>,
+}
+
+impl<'a> Model for Emitter<'a> {
+    ghost use Rattle.tpw_occam_code.specs.Agreement.{Knowledge};
+
+    ghost Value = { Knowledge };
+
+    ghost use Rattle.std.specs.Prelude.{map};
+    ghost use Rattle.tpw_occam_core.specs.Sound.{bytes_of};
+
+    ghost view = { λ e. record {
+      kinds = e.worker.now.variables.items;
+      arrays = map bytes_of e.worker.now.arrays.items;
+      facts = e.facts.items;
+    } };
 }
 
 /// What is known of variables.
@@ -131,23 +176,32 @@ impl<'a> Emitter<'a> {
     }
 
     /// The kind of a variable.
-    pub(crate) fn kind(&self, x: usize) -> Kind {
+    pub(crate) fn kind(&self, x: usize) -> Kind
+        ensures { result ≡ kind_of self.now.kinds x }
+    {
         self.worker.variables.get(x).copied().unwrap_or(Kind::Word)
     }
 
     /// What is known of a name.
-    pub(crate) fn fact(&self, x: usize) -> Fact {
+    pub(crate) fn fact(&self, x: usize) -> Fact
+        ensures { result ≡ fact_at self.now x }
+    {
         self.facts.get(x).copied().unwrap_or(fact_of(Kind::Word))
     }
 
-    pub(crate) fn set_fact(&mut self, x: usize, fact: Fact) {
+    pub(crate) fn set_fact(&mut self, x: usize, fact: Fact)
+        ensures { self.new ≡ with_fact x fact self.old }
+    {
         if x < self.facts.len() {
             self.facts[x] = fact;
         }
     }
 
     /// The value of an expression that is one constant.
-    pub(crate) fn constant_of(&self, e: &Expression) -> Option<u32> {
+    pub(crate) fn constant_of(&self, e: &Expression) -> Option<u32>
+        ensures value { result ≡ constant_in self.now e.now }
+        ensures small { IfSome result (λ c. c < 2 ^ 32) }
+    {
         match e {
             Expression::Constant(c) => Some(*c),
             Expression::Variable(x) => self.fact(*x).constant,
@@ -156,9 +210,12 @@ impl<'a> Emitter<'a> {
     }
 
     /// The bytes of an array.
-    pub(crate) fn bytes(&self, array: usize) -> u32 {
+    pub(crate) fn bytes(&self, array: usize) -> u32
+        ensures { slice_index self.now.arrays array < 2 ^ 32 → result ≡ slice_index self.now.arrays array }
+    {
         match self.worker.arrays.get(array) {
-            Some(storage) => storage.bytes(),
+            Some(Storage::Zeros(count)) => *count,
+            Some(Storage::Table(bytes)) => u32::try_from(bytes.len()).unwrap_or(u32::MAX),
             None => 0,
         }
     }
@@ -169,7 +226,9 @@ impl<'a> Emitter<'a> {
     }
 
     /// The elements of an array that is seen as words or bytes.
-    pub(crate) fn elements(&self, array: usize, kind: Kind) -> u32 {
+    pub(crate) fn elements(&self, array: usize, kind: Kind) -> u32
+        ensures { slice_index self.now.arrays array < 2 ^ 32 → result ≡ elements_of kind (slice_index self.now.arrays array) }
+    {
         match kind {
             Kind::Word => self.bytes(array) / 4,
             Kind::Byte => self.bytes(array),
@@ -178,12 +237,17 @@ impl<'a> Emitter<'a> {
 }
 
 /// Whether a constant's `ldc` is short.
-pub(crate) fn is_short(c: u32) -> bool {
+pub(crate) fn is_short(c: u32) -> bool
+    ensures { result ≡ short c }
+{
     encode(4, c.cast_signed()).len() <= MOST_BYTES
 }
 
 /// The step that pushes a constant: `ldc` where that is short, else an initial word.
-pub(crate) fn push_constant(c: u32) -> Step {
+pub(crate) fn push_constant(c: u32) -> Step
+    ensures { (w : List ℕ) (m : Machine) → HasConstants m → Serves w m.sizes result
+        → performed result m ≡ Some (push (number c) m) }
+{
     if is_short(c) {
         Step::Plain(Instr::Ldc(c.cast_signed()))
     } else {
@@ -193,7 +257,9 @@ pub(crate) fn push_constant(c: u32) -> Step {
 
 impl Code {
     /// Appends the step that pushes a constant.
-    pub(crate) fn constant(&mut self, source: u32, c: u32) -> Result<(), CodeFault> {
+    pub(crate) fn constant(&mut self, source: u32, c: u32) -> Result<(), CodeFault>
+        ensures { OnOk result (Makes self.old self.new HasConstants (push (number c))) }
+    {
         self.emit(source, push_constant(c))
     }
 }

@@ -3,6 +3,16 @@
 //! The code of an expression pushes its value. It uses so many registers at most, that of the value among them: what
 //! the others hold stays. One register is enough only where the expression needs no more.
 
+ghost use Rattle.std.specs.Prelude.{◌≡◌, ◌≤◌, ℕ, ◌+◌, [], ◌∷◌, IfOk, OnOk, IfSome};
+ghost use Rattle.tpw_occam_core.specs.declared.expression.Expression.TheVariants as expression;
+ghost use Rattle.tpw_occam_code.specs.declared.emitter.Fact.{Fact};
+ghost use Rattle.tp_decode.specs.Words.{complement};
+ghost use Rattle.tpw_occam_code.specs.declared.code.Step.TheVariants.{CjTo};
+ghost use Rattle.tpw_occam_code.specs.Code.{joined, followed_by, line_of, place_behind};
+ghost use Rattle.tpw_occam_code.specs.Agreement.{with_fact};
+ghost use Rattle.tpw_occam_code.specs.Values.{Holds};
+ghost use Rattle.tpw_occam_code.specs.Computing.{Binds, ComputesBinding, Computes, ComputesTo, IsKnown, IsKnownOf, IsSuccessor, IsPredecessor, inverse_of};
+
 use crate::code::{Code, Step};
 use crate::emitter::{Emitter, Room, constant, valued};
 use crate::fault::CodeFault;
@@ -13,6 +23,11 @@ use crate::subscripts::{checked, fixed_element, indexed_element, offset_element}
 use tp_decode::Instr;
 use tpw_occam_core::{Expression, Operator};
 
+/// The greatest and the least number.
+const MOST_POSITIVE: u32 = 0x7FFF_FFFF;
+
+const MOST_NEGATIVE: u32 = 0x8000_0000;
+
 /// What is known of a value that was pushed: the numbers that it may be, and those that the verifier knows of.
 #[derive(Clone, Copy)]
 pub(crate) struct Value {
@@ -22,7 +37,10 @@ pub(crate) struct Value {
 
 impl Value {
     /// What either may be.
-    fn or(self, other: Value) -> Value {
+    fn or(self, other: Value) -> Value
+        ensures first { (word : ℕ) → Holds self word → Holds result word }
+        ensures second { (word : ℕ) → Holds other word → Holds result word }
+    {
         Value {
             source: self.source.or(other.source),
             known: self.known.or(other.known),
@@ -30,7 +48,9 @@ impl Value {
     }
 
     /// Every bit turned.
-    fn complement(self) -> Value {
+    fn complement(self) -> Value
+        ensures { (word : ℕ) → Holds self word → Holds result (complement word) }
+    {
         Value {
             source: self.source.complement(),
             known: self.known.complement(),
@@ -46,7 +66,11 @@ impl Emitter<'_> {
         code: &mut Code,
         e: &Expression,
         room: Room,
-    ) -> Result<Value, CodeFault> {
+    ) -> Result<Value, CodeFault>
+        ensures knowledge { OnOk result (self.new ≡ self.old) }
+        ensures computes { OnOk result (Computes self.old code.old code.new e.now room.registers room.kept) }
+        ensures known { IfOk result (λ value. IsKnown self.old e.now value) }
+    {
         let line = room.line;
         match e {
             Expression::Constant(c) => number(code, line, *c),
@@ -115,7 +139,10 @@ impl Emitter<'_> {
     }
 
     /// Pushes the value of a name.
-    fn name(&self, code: &mut Code, line: u32, x: usize) -> Result<Value, CodeFault> {
+    fn name(&self, code: &mut Code, line: u32, x: usize) -> Result<Value, CodeFault>
+        ensures computes { OnOk result ((registers kept : ℕ) → Computes self.now code.old code.new (expression.Variable x) registers kept) }
+        ensures known { IfOk result (λ value. IsKnown self.now (expression.Variable x) value) }
+    {
         let fact = self.fact(x);
         match fact.constant {
             Some(c) => number(code, line, c),
@@ -137,7 +164,13 @@ impl Emitter<'_> {
         x: usize,
         e: &Expression,
         room: Room,
-    ) -> Result<(), CodeFault> {
+    ) -> Result<(), CodeFault>
+        ensures kinds { OnOk result (self.new.kinds ≡ self.old.kinds) }
+        ensures arrays { OnOk result (self.new.arrays ≡ self.old.arrays) }
+        ensures facts { OnOk result ((fact : Fact) × (self.new ≡ with_fact x fact self.old)) }
+        ensures knows { OnOk result (Binds self.old self.new x e.now) }
+        ensures computes { OnOk result (ComputesBinding self.old self.new code.old code.new x e.now room.registers room.kept) }
+    {
         if let Some(c) = self.constant_of(e) {
             self.set_fact(x, constant(c));
             return Ok(());
@@ -148,25 +181,46 @@ impl Emitter<'_> {
         Ok(())
     }
 
+    /// One more than the value of an expression that is one constant, if there is such a number.
+    fn successor(&self, e: &Expression) -> Option<u32>
+        ensures { IfSome result (λ next. IsSuccessor self.now e.now next) }
+    {
+        match self.constant_of(e) {
+            Some(c) if c != MOST_POSITIVE => Some(c.wrapping_add(1)),
+            _ => None,
+        }
+    }
+
+    /// One less than the value of an expression that is one constant, if there is such a number.
+    fn predecessor(&self, e: &Expression) -> Option<u32>
+        ensures { IfSome result (λ before. IsPredecessor self.now e.now before) }
+    {
+        match self.constant_of(e) {
+            Some(c) if c != MOST_NEGATIVE => Some(c.wrapping_sub(1)),
+            _ => None,
+        }
+    }
+
     /// Pushes whether an expression is FALSE. Of `x > c` that is `c + 1 > x`, and of `c > x` it is `x > c - 1`.
     #[cycle(expression)]
-    fn inverted(
-        &mut self,
-        code: &mut Code,
-        e: &Expression,
-        room: Room,
-    ) -> Result<Value, CodeFault> {
+    fn inverted(&mut self, code: &mut Code, e: &Expression, room: Room) -> Result<Value, CodeFault>
+        ensures knowledge { OnOk result (self.new ≡ self.old) }
+        ensures computes { OnOk result (ComputesTo self.old code.old code.new e.now (inverse_of e.now) room.registers room.kept) }
+        ensures known { IfOk result (λ value. IsKnownOf self.old e.now (inverse_of e.now) value) }
+    {
         if let Expression::Binary {
-            operator: Operator::Greater,
+            operator,
             left,
             right,
         } = e
         {
-            if let Some(c) = self.constant_of(right).filter(|c| *c != 0x7FFF_FFFF) {
-                return self.constant_first(code, Operator::Greater, c.wrapping_add(1), left, room);
-            }
-            if let Some(c) = self.constant_of(left).filter(|c| *c != 0x8000_0000) {
-                return self.with_constant(code, Operator::Greater, right, c.wrapping_sub(1), room);
+            if let Operator::Greater = *operator {
+                if let Some(next) = self.successor(right) {
+                    return self.constant_first(code, Operator::Greater, next, left, room);
+                }
+                if let Some(before) = self.predecessor(left) {
+                    return self.with_constant(code, Operator::Greater, right, before, room);
+                }
             }
         }
         if let Expression::Not(e) = e {
@@ -225,7 +279,9 @@ impl Emitter<'_> {
 }
 
 /// Appends code that is passed over, by a `cj` before it, where Areg is 0.
-pub(crate) fn branch(code: &mut Code, line: u32, more: &Code) -> Result<(), CodeFault> {
+pub(crate) fn branch(code: &mut Code, line: u32, more: &Code) -> Result<(), CodeFault>
+    ensures { OnOk result (code.new ≡ joined (followed_by code.old (line_of line (CjTo (place_behind more.now)) ∷ [])) more.now) }
+{
     code.emit(line, Step::CjTo(more.here()))?;
     code.append(line, more)
 }

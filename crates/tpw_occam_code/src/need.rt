@@ -1,19 +1,31 @@
 //! How many registers an expression needs, where nothing is kept in the workspace (Sethi and Ullman).
 
+ghost use Rattle.std.specs.Prelude.{◌≡◌, ◌≤◌, ◌⊎◌, ◌&&◌, false, IsTrue, is_some};
+ghost use Rattle.std.specs.Option.{option_map};
+ghost use Rattle.tp_decode.specs.Words.{signed};
+ghost use Rattle.tpw_occam_code.specs.Agreement.{constant_in};
+ghost use Rattle.tpw_occam_core.specs.declared.expression.Operator.TheVariants.{ShiftLeft, ShiftRight};
+ghost use Rattle.tpw_occam_code.specs.Computing.{IsNoShift, immediate_of, is_immediate, is_simple, is_swapped, IsConstantBelow};
+ghost use Rattle.tpw_occam_code.specs.Computing.{commutes as commute};
+
 use crate::emitter::{Emitter, is_short};
 use tpw_occam_core::{Expression, Operator};
 
 /// Of two operands one is evaluated first, and then stays in a register.
-fn both(left: u32, right: u32) -> u32 {
+fn both(left: u32, right: u32) -> u32
+    ensures { 2 ≤ result }
+{
     if left == right {
-        left.saturating_add(1)
+        left.saturating_add(1).max(2)
     } else {
         left.max(right).max(2)
     }
 }
 
 /// Whether an operand may change places with the other.
-pub(crate) fn commutes(operator: Operator) -> bool {
+pub(crate) fn commutes(operator: Operator) -> bool
+    ensures { result ≡ commute operator }
+{
     match operator {
         Operator::Add
         | Operator::Multiply
@@ -27,12 +39,17 @@ pub(crate) fn commutes(operator: Operator) -> bool {
     }
 }
 
-pub(crate) fn is_shift(operator: Operator) -> bool {
+pub(crate) fn is_shift(operator: Operator) -> bool
+    ensures yes { IsTrue result → (operator ≡ ShiftLeft) ⊎ (operator ≡ ShiftRight) }
+    ensures not { result ≡ false → IsNoShift operator }
+{
     operator == Operator::ShiftLeft || operator == Operator::ShiftRight
 }
 
 /// The operand of `adc` or `eqc` that works out an operator with this right operand.
-pub(crate) fn immediate(operator: Operator, c: u32) -> Option<i32> {
+pub(crate) fn immediate(operator: Operator, c: u32) -> Option<i32>
+    ensures { result ≡ option_map signed (immediate_of operator c) }
+{
     let operand = match operator {
         Operator::Add | Operator::Plus | Operator::Equal => c,
         Operator::Subtract | Operator::Minus => c.wrapping_neg(),
@@ -48,7 +65,10 @@ pub(crate) fn immediate(operator: Operator, c: u32) -> Option<i32> {
 impl Emitter<'_> {
     /// How many registers an expression needs.
     #[cycle(need)]
-    pub(crate) fn need(&self, e: &Expression) -> u32 {
+    pub(crate) fn need(&self, e: &Expression) -> u32
+        ensures least { 1 ≤ result }
+        ensures simple { result ≤ 1 → IsTrue (is_simple self.now e.now) }
+    {
         match e {
             Expression::Constant(_) | Expression::Variable(_) => 1,
             Expression::Element {
@@ -69,7 +89,7 @@ impl Emitter<'_> {
                 name: _,
                 value,
                 within,
-            } => self.need(value).max(self.need(within)),
+            } => self.need(value).max(self.need(within)).max(2),
             Expression::Binary {
                 operator,
                 left,
@@ -86,7 +106,10 @@ impl Emitter<'_> {
 
     /// How many registers an operator needs.
     #[cycle(need)]
-    fn need_of_operands(&self, operator: Operator, left: &Expression, right: &Expression) -> u32 {
+    fn need_of_operands(&self, operator: Operator, left: &Expression, right: &Expression) -> u32
+        ensures least { 1 ≤ result }
+        ensures simple { result ≤ 1 → IsTrue (is_immediate self.now operator right.now && is_simple self.now left.now) }
+    {
         if self.is_immediate(operator, right) {
             self.need(left)
         } else if is_shift(operator) {
@@ -98,7 +121,10 @@ impl Emitter<'_> {
 
     /// How many registers a shift's count needs, which may have to be checked.
     #[cycle(need)]
-    pub(crate) fn need_of_count(&self, count: &Expression) -> u32 {
+    pub(crate) fn need_of_count(&self, count: &Expression) -> u32
+        ensures least { 1 ≤ result }
+        ensures constant { result ≤ 1 → IsConstantBelow self.now count.now 32 }
+    {
         match self.constant_of(count) {
             Some(c) if c < 32 => 1,
             _ => self.need(count).max(2),
@@ -106,7 +132,9 @@ impl Emitter<'_> {
     }
 
     /// Whether an operator with this right operand is an instruction with an operand, whatever the left one is.
-    pub(crate) fn is_immediate(&self, operator: Operator, right: &Expression) -> bool {
+    pub(crate) fn is_immediate(&self, operator: Operator, right: &Expression) -> bool
+        ensures { result ≡ is_immediate self.now operator right.now }
+    {
         match operator {
             Operator::Plus | Operator::Minus => false,
             _ => match self.constant_of(right) {
@@ -123,7 +151,9 @@ impl Emitter<'_> {
         operator: Operator,
         left: &Expression,
         right: &Expression,
-    ) -> bool {
+    ) -> bool
+        ensures { result ≡ is_swapped self.now operator left.now right.now }
+    {
         commutes(operator)
             && self.constant_of(left).is_some()
             && !self.is_immediate(operator, right)

@@ -1,5 +1,12 @@
 //! Code of operators: their operands, in the order that needs the fewest registers.
 
+ghost use Rattle.std.specs.Prelude.{◌≡◌, ◌≤◌, ℕ, false, IfOk, OnOk, IsTrue};
+ghost use Rattle.tpw_occam_core.specs.Meaning.{value_of};
+ghost use Rattle.tpw_occam_code.specs.Ranges.{full};
+ghost use Rattle.tpw_occam_code.specs.Computing.{ComputesBoth, ComputesTo, ComputesTwo, IsKnownOfBoth, IsKnownOf, IsNoShift};
+ghost use Rattle.tpw_occam_code.specs.Computing.{HasImmediate, IsSimplePair, has_immediate, subscript_value, applied_value};
+ghost use Rattle.tpw_occam_code.specs.Computing.{applied_last, applied_first};
+
 use crate::code::{Code, Step};
 use crate::emitter::{Emitter, Room};
 use crate::expressions::Value;
@@ -11,7 +18,9 @@ use tp_decode::Instr;
 use tpw_occam_core::{Expression, Operator};
 
 /// What is known of a value that was kept in a word: the verifier knows nothing of it.
-fn recalled(value: Value) -> Value {
+fn recalled(value: Value) -> Value
+    ensures { result ≡ record { source = value.source; known = full } }
+{
     Value {
         source: value.source,
         known: FULL,
@@ -28,7 +37,12 @@ impl Emitter<'_> {
         left: &Expression,
         right: &Expression,
         room: Room,
-    ) -> Result<Value, CodeFault> {
+    ) -> Result<Value, CodeFault>
+        ensures knowledge { OnOk result (self.new ≡ self.old) }
+        ensures computes { OnOk result ((room.registers ≤ 1 → IsSimplePair self.old operator left.now right.now)
+            → ComputesBoth self.old code.old code.new left.now right.now (applied_value operator left.now right.now) room.registers room.kept) }
+        ensures known { IfOk result (λ value. IsKnownOfBoth self.old left.now right.now (applied_value operator left.now right.now) value) }
+    {
         if is_shift(operator) {
             let (b, a) = self.shifted(code, left, right, room)?;
             return apply(code, room.line, operator, b, a);
@@ -50,7 +64,12 @@ impl Emitter<'_> {
         left: &Expression,
         right: &Expression,
         room: Room,
-    ) -> Result<Value, CodeFault> {
+    ) -> Result<Value, CodeFault>
+        ensures knowledge { OnOk result (self.new ≡ self.old) }
+        ensures computes { OnOk result (IsNoShift operator → (room.registers ≤ 1 → HasImmediate self.old operator left.now right.now)
+            → ComputesBoth self.old code.old code.new left.now right.now (applied_value operator left.now right.now) room.registers room.kept) }
+        ensures known { IfOk result (λ value. IsKnownOfBoth self.old left.now right.now (applied_value operator left.now right.now) value) }
+    {
         if let Some(c) = self.constant_of(right) {
             return self.with_constant(code, operator, left, c, room);
         }
@@ -70,7 +89,12 @@ impl Emitter<'_> {
         left: &Expression,
         c: u32,
         room: Room,
-    ) -> Result<Value, CodeFault> {
+    ) -> Result<Value, CodeFault>
+        ensures knowledge { OnOk result (self.new ≡ self.old) }
+        ensures computes { OnOk result (IsNoShift operator → (room.registers ≤ 1 → IsTrue (has_immediate operator c))
+            → ComputesTo self.old code.old code.new left.now (applied_last operator left.now c) room.registers room.kept) }
+        ensures known { IfOk result (λ value. IsKnownOf self.old left.now (applied_last operator left.now c) value) }
+    {
         let b = self.expression(code, left, room)?;
         apply_constant(code, room.line, operator, b, c)
     }
@@ -84,7 +108,12 @@ impl Emitter<'_> {
         c: u32,
         right: &Expression,
         room: Room,
-    ) -> Result<Value, CodeFault> {
+    ) -> Result<Value, CodeFault>
+        ensures knowledge { OnOk result (self.new ≡ self.old) }
+        ensures computes { OnOk result (IsNoShift operator → 2 ≤ room.registers
+            → ComputesTo self.old code.old code.new right.now (applied_first operator c right.now) room.registers room.kept) }
+        ensures known { IfOk result (λ value. IsKnownOf self.old right.now (applied_first operator c right.now) value) }
+    {
         if self.need(right) < room.registers {
             let b = number(code, room.line, c)?;
             let a = self.expression(code, right, room.above())?;
@@ -105,7 +134,13 @@ impl Emitter<'_> {
         right: &Expression,
         room: Room,
         commute: bool,
-    ) -> Result<(Value, Value), CodeFault> {
+    ) -> Result<(Value, Value), CodeFault>
+        ensures knowledge { OnOk result (self.new ≡ self.old) }
+        ensures computes { OnOk result (ComputesTwo self.old code.old code.new left.now right.now (value_of left.now) (value_of right.now)
+            commute room.registers room.kept) }
+        ensures left { IfOk result (λ both. IsKnownOf self.old left.now (value_of left.now) both.0) }
+        ensures right { IfOk result (λ both. IsKnownOf self.old right.now (value_of right.now) both.1) }
+    {
         if self.need(right) < room.registers {
             let b = self.expression(code, left, room)?;
             let a = self.expression(code, right, room.above())?;
@@ -121,7 +156,7 @@ impl Emitter<'_> {
         }
         let a = self.expression(code, right, room)?;
         code.emit(room.line, Step::Store(room.word(), 0))?;
-        let b = self.expression(code, left, room.beside())?;
+        let b = self.expression(code, left, room.beside()?)?;
         code.emit(room.line, Step::Load(room.word(), 0))?;
         Ok((b, recalled(a)))
     }
@@ -135,7 +170,13 @@ impl Emitter<'_> {
         left: &Expression,
         count: &Expression,
         room: Room,
-    ) -> Result<(Value, Value), CodeFault> {
+    ) -> Result<(Value, Value), CodeFault>
+        ensures knowledge { OnOk result (self.new ≡ self.old) }
+        ensures computes { OnOk result (ComputesTwo self.old code.old code.new left.now count.now (value_of left.now)
+            (subscript_value count.now 32) false room.registers room.kept) }
+        ensures left { IfOk result (λ both. IsKnownOf self.old left.now (value_of left.now) both.0) }
+        ensures count { IfOk result (λ both. IsKnownOf self.old count.now (subscript_value count.now 32) both.1) }
+    {
         if self.need_of_count(count) < room.registers {
             let b = self.expression(code, left, room)?;
             let a = self.subscript(code, count, 32, room.above())?;
@@ -149,7 +190,7 @@ impl Emitter<'_> {
         }
         let b = self.expression(code, left, room)?;
         code.emit(room.line, Step::Store(room.word(), 0))?;
-        let a = self.subscript(code, count, 32, room.beside())?;
+        let a = self.subscript(code, count, 32, room.beside()?)?;
         code.emit(room.line, Step::Load(room.word(), 0))?;
         code.instr(room.line, Instr::Rev)?;
         Ok((recalled(b), a))

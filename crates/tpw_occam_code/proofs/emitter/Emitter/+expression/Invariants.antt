@@ -6,7 +6,10 @@ abbrev pub decreases-expression : goal.decreases-expression
 decreases-expression l = 5 * size-Expression l.e.now
 
 abbrev pub decreases-subscript : goal.decreases-subscript
-decreases-subscript l = 5 * size-Expression l.e.now + 1
+decreases-subscript l = 5 * size-Expression l.e.now + 2
+
+abbrev pub decreases-reduced : goal.decreases-reduced
+decreases-reduced l = 5 * size-Expression l.e.now + 1
 
 abbrev pub decreases-bind : goal.decreases-bind
 decreases-bind l = 5 * size-Expression l.e.now + 1
@@ -24,7 +27,7 @@ abbrev pub decreases-operands : goal.decreases-operands
 decreases-operands l = 5 * max (size-Expression l.left.now) (size-Expression l.right.now) + 2
 
 abbrev pub decreases-shifted : goal.decreases-shifted
-decreases-shifted l = 5 * max (size-Expression l.left.now) (size-Expression l.count.now) + 2
+decreases-shifted l = 5 * max (size-Expression l.left.now) (size-Expression l.count.now) + 3
 
 abbrev pub decreases-in_order : goal.decreases-in_order
 decreases-in_order l = 5 * max (size-Expression l.left.now) (size-Expression l.right.now) + 3
