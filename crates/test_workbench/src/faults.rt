@@ -3,7 +3,7 @@
 use crate::program::{check, write_file};
 
 /// Texts, and what is said of them.
-const FAULTS: [(&str, &str); 18] = [
+const FAULTS: [(&str, &str); 19] = [
     (
         "local n\n lld n\n",
         "tpw: standard input:2:2: unknown instruction: lld; ldl is near\n    2 |  lld n\n      |  ^^^\n",
@@ -63,7 +63,7 @@ tpw: standard input:1:7: a name is wanted here: no mark, and not as a number beg
 tpw: standard input:3:15: a number is wanted: decimal, #2A or 0x2A, of 32 bits: m
     3 | for i = 0 for m
       |               ^
-tpw: standard input:7:1: unknown instruction: frob; for is near
+tpw: standard input:7:1: unknown instruction: frob
     7 | frob
       | ^^^^
 tpw: standard input:6:3: no label has this name: far
@@ -86,6 +86,10 @@ tpw: standard input:6:3: no label has this name: far
     (
         "ldc 'a'\n",
         "tpw: standard input:1:5: no local has this name: 'a'; there are no characters: write the number, as 97 for an a\n    1 | ldc 'a'\n      |     ^^^\n",
+    ),
+    (
+        "abc IMAGE 5450\n",
+        "tpw: standard input:1:1: unknown instruction: abc; a line for farmd: asm without --line writes the image that tpw reads\n    1 | abc IMAGE 5450\n      | ^^^\n",
     ),
 ];
 

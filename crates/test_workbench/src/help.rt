@@ -107,11 +107,13 @@ Options:
       --words <WORDS>   A packet, as a line of FILE has it; may be given again
       --packets <FILE>  Packets, one a line
       --hex-packets     Packets are in hexadecimal, as they are sent, else words as numbers
+      --members <N>     How many members run packets, 1 to 64; 4 where nothing is said
   -h, --help            Print help
 
 Reads a worker in occam or as assembly text, or an image as hexadecimal, accepted by the verifier or not, and runs packets on
 it. It writes how many steps they made, each an instruction byte; the share of each line of the text, or of each instruction
 of an image, the most first; and the share of each loop.
+A packet whose traces have more than 256 bytes is lost, as it is on a farm.
 Status 0: each worker stopped. Status 1: not so, or what is read says no worker.
 ";
 

@@ -2,11 +2,17 @@
 
 use crate::asserts::{assert_same, unwrap};
 use crate::program::{Case, check, write_file};
+use std::alloc::Global;
 use std::fs;
-use tp_stream::Packet;
-use tpw_commands::Checked;
+use std::io::Eprint;
+use std::process::Abort;
+use std::sync::Wait;
+use std::thread::Threads;
+use std::time::Clock;
+use tp_accept::accept;
+use tpw_commands::Checking;
 use tpw_inputs::{Input, read_occam};
-use tpw_run_text::Style;
+use tpw_runs::{Notation, Progress, Style, packets_of, run_on_members};
 
 /// As many multiples of a packet are summed and traced as it says.
 const SUMS: &str = "\
@@ -363,62 +369,82 @@ fn check_of_assembly(rt: HostRuntime) {
     check(&rt, rt.alloc(), ("", words.as_slice(), 2, "", message));
 }
 
-/// Runs of the packets 2, 3 and 65 as they might have been: in order another flag, another trace, and no loss.
-const OTHER_RUNS: &str = "\
-0  flag 1  628 of 1384  2147483642
-  trace 0 2
-1  flag 1  640 of 1384  -2147483647
-  trace 0 3
-2  flag 0  1384 of 1384  5
-  trace
+/// Another text, which means the same by 0 alone.
+const OTHER: &str = "\
+PROC other (CHAN OF INT packet, CHAN OF INT result, CHAN OF INT trace)
+  INT x:
+  SEQ
+    packet ? x
+    IF
+      x = 3
+        trace ! 0
+      TRUE
+        SKIP
+    result ! x + 2147483640
+:
 ";
 
-/// What is written of them.
+/// What is written of the runs of the packets 0, 2, 3 and 65: in order nothing, another trace, another result, flag and
+/// trace, and a loss.
 const OTHERS: &str = "\
-0  flag 1  628 of 1384  2147483642
+1  flag 0  628 of 1384  2147483642
   trace 0 2
   the text means
-0  flag 0  2147483642
-  trace 0 2
-1  flag 1  640 of 1384  -2147483647
-  trace 0 3
-  the text means
-1  flag 1  -2147483647
-  trace 0 3 9
-2  flag 0  1384 of 1384  5
+1  flag 0  2147483642
   trace
+2  flag 1  640 of 1384  -2147483647
+  trace 0 3 9
   the text means
-2  LOST  its trace has more than 256 bytes
+2  flag 0  2147483643
+  trace 0
+3  LOST  its trace has more than 256 bytes
+  the text means
+3  flag 1  -2147483591
+  trace
 ";
 
-/// A check finds each packet of which something else is made than the text means.
+/// What a check of the runs of a text's worker by another text's meaning writes, and the packets that it finds.
+fn checked<T>(rt: &T, alloc: Global, text: &str, other: &str) -> (Vec<u8>, Vec<usize>)
+where
+    T: Threads + Wait + Clock + Eprint + Sync + Abort,
+{
+    let mut errors = Vec::new(alloc);
+    let ran = read_occam(alloc, &mut errors, &Input::Standard, text.as_bytes());
+    let image = unwrap(rt, accept(alloc, unwrap(rt, ran).bytes));
+    let meant = read_occam(alloc, &mut errors, &Input::Standard, other.as_bytes());
+    let worker = unwrap(rt, meant).compiled.worker;
+    let packets = unwrap(rt, packets_of(alloc, "0\n2\n3\n65\n", 4, Notation::Words));
+    let style = Style {
+        hexadecimal: false,
+        trace: true,
+    };
+    let mut checking = Checking::new(alloc, &worker, style, image.budget());
+    let progress = Progress::new(rt, packets.len(), false);
+    let mut output = Vec::new(alloc);
+    unwrap(
+        rt,
+        run_on_members(
+            rt,
+            alloc,
+            &image,
+            &packets,
+            2,
+            &progress,
+            &mut checking,
+            &mut output,
+        ),
+    );
+    (output, checking.others)
+}
+
+/// A check finds each packet of which something else is made than the text means, and no other.
 #[test]
 fn check_finds_others(rt: HostRuntime) {
     let alloc = rt.alloc();
-    let mut errors = Vec::new(alloc);
-    let occam = unwrap(
-        &rt,
-        read_occam(alloc, &mut errors, &Input::Standard, SUMS.as_bytes()),
-    );
-    let mut packets = Vec::new(alloc);
-    for x in [2u8, 3, 65] {
-        let mut packet = Packet::new();
-        unwrap(&rt, packet.try_extend_from_slice(&[x, 0, 0, 0]));
-        unwrap(&rt, packets.push(packet));
-    }
-    let checked = Checked {
-        worker: &occam.compiled.worker,
-        packets: &packets,
-        style: Style {
-            hexadecimal: false,
-            trace: false,
-        },
-        budget: 1384,
-    };
-    for (ran, found, written) in [(OTHER_RUNS, 3, OTHERS), (RUN, 0, "")] {
-        let mut output = Vec::new(alloc);
-        let others = unwrap(&rt, checked.write_others(alloc, ran, &mut output));
-        assert_same(&rt, &others, &found);
+    let others = unwrap(&rt, Vec::from_slice(alloc, &[1, 2, 3]));
+    for (other, written, found) in [(OTHER, OTHERS, others), (SUMS, "", Vec::new(alloc))] {
+        let (output, numbers) = checked(&rt, alloc, SUMS, other);
         assert_same(&rt, &unwrap(&rt, str::from_utf8(&output)), &written);
+        assert_same(&rt, &numbers, &found);
     }
 }

@@ -4,8 +4,25 @@ use crate::program::{STUCK, capitals, check};
 use test_samples::{FIBONACCI, INCREMENT};
 
 /// Sends 65 traces of a word, one more than is kept.
-const LOSES: &str =
+pub const LOSES: &str =
     "packet 1\nresult 1\nlocal n\nreceive n\nfor i = 0 for 65\ntrace n\nend i\nsend n\nstopp\n";
+
+/// Sends as many traces of a word as the packet says, 65 at most.
+pub const TRACES: &str = "\
+packet 1
+result 1
+local n
+receive n
+for i = 0 for 65
+ldl n
+ldl i
+gt
+cj over
+trace n
+over: end i
+send n
+stopp
+";
 
 /// What becomes of packets that are run: lines, bytes alone, losses, and what ends a run before it begins.
 #[test]
@@ -92,7 +109,33 @@ packets 2, lost 0, steps 16 to 16 of 16
             ["tpw", "run", "--words", "1", "--raw"].as_slice(),
             1,
             "",
-            "packets 1, lost 1, steps at most 668\n",
+            "tpw: packet 0 is lost: its trace has more than 256 bytes\npackets 1, lost 1, steps at most 668\n",
+        ),
+        // The results of the others are written.
+        (
+            TRACES,
+            [
+                "tpw",
+                "run",
+                "--raw",
+                "--words",
+                "65",
+                "--words",
+                "#0a343332",
+                "--words",
+                "64",
+                "--words",
+                "#01000041",
+            ]
+            .as_slice(),
+            1,
+            "@\0\0\0",
+            "\
+tpw: packet 0 is lost: its trace has more than 256 bytes
+tpw: packet 1 is lost: its trace has more than 256 bytes
+tpw: packet 3 is lost: its trace has more than 256 bytes
+packets 4, lost 3, steps 922 to 922 of 928
+",
         ),
         (
             STUCK,

@@ -78,7 +78,7 @@ fn refusals(rt: HostRuntime) {
             "mint\n  frob\n",
             ["tpw", "asm"].as_slice(),
             1,
-            "tpw: standard input:2:3: unknown instruction: frob; for is near\n    2 |   frob\n      |   ^^^^\n",
+            "tpw: standard input:2:3: unknown instruction: frob\n    2 |   frob\n      |   ^^^^\n",
         ),
         (
             "mint\n\nback: mint\n cj back\n",

@@ -1,2 +1,4 @@
 mod Naming
 mod Lines
+mod Others
+mod Origins

@@ -35,10 +35,12 @@ abbrev pub status_on : Outcome → ℕ
 status_on outcome.Good = 0
 status_on outcome.Bad = 1
 
--- the status of an ending: a text that was asked for, a command line that is refused, or a failure
+-- the status of an ending: a text that was asked for, a command line that is refused, an input without messages, or a
+-- failure
 abbrev pub status_of : Ending → ℕ
 status_of (ending.Shown error) = 0
 status_of (ending.Refused why) = 2
+status_of (ending.NoMessages input fault) = 1
 status_of (ending.Failed why) = 1
 
 -- the status of the program, by what a command answers or how it ends early

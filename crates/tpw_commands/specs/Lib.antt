@@ -2,3 +2,5 @@
 pub mod Endings
 pub mod Places
 pub mod Programs
+pub mod Checks
+pub mod Asked

@@ -1,14 +1,16 @@
 //! The packets that a command line asks for.
 
-ghost use Rattle.std.specs.Prelude.{◌≡◌, ◌≤◌, All, IfOk, OnOk, length};
+ghost use Rattle.std.specs.Prelude.{◌≡◌, ◌≤◌, ℕ, List, All, IfOk, OnOk, Some, length, map, slice_get, string_bytes};
+ghost use Rattle.std.specs.Option.{option_map};
+ghost use Rattle.tpw_runs.specs.Packets.{expected_said, packets_said, results_said};
+ghost use Rattle.tpw_commands.specs.Asked.{is_standard_file, origin_said, origins, words_said};
 
 use crate::ending::{Ending, Refusal};
 use std::alloc::Global;
 use std::io::Read;
 use std::rt::Files;
-use tp_stream::Packet;
-use tpw_inputs::{Failure, InputFault, Inputs, is_standard, text_of};
-use tpw_run_text::{Expected, Notation, PacketFault, fields_of, packet_of, packets_of, results_of};
+use tpw_inputs::{Failure, Input, InputFault, Inputs, is_standard, text_of};
+use tpw_runs::{Expected, Notation, PacketFault, fields_of, packet_of, packets_of, results_of};
 use tpw_text::Position;
 
 /// A file of packets, and how many packets of the command line come before it.
@@ -47,7 +49,7 @@ fn in_words(alloc: Global, words: &str, fault: PacketFault) -> Ending {
 /// Appends the packet of so many bytes that words of the command line say.
 fn push_said(
     alloc: Global,
-    packets: &mut Vec<Packet>,
+    packets: &mut Vec<Vec<u8>>,
     words: &str,
     bytes: usize,
     notation: Notation,
@@ -60,7 +62,7 @@ fn push_said(
     let place = Position { line: 1, column: 1 };
     match packet_of(&fields, place, bytes, notation) {
         Ok(packet) => {
-            packets.push(packet)?;
+            packets.push(Vec::from_slice(alloc, packet.as_slice())?)?;
             Ok(())
         }
         Err(fault) => Err(in_words(alloc, words, fault)),
@@ -68,12 +70,12 @@ fn push_said(
 }
 
 /// The packets of so many bytes that words of the command line say.
-fn packets_said(
+fn packets_of_words(
     alloc: Global,
     words: &[String],
     bytes: usize,
     notation: Notation,
-) -> Result<Vec<Packet>, Ending>
+) -> Result<Vec<Vec<u8>>, Ending>
     requires { bytes ≤ 256 }
     ensures { IfOk result (λ packets. All (λ p. length p.items ≡ bytes) packets.items) }
 {
@@ -82,14 +84,6 @@ fn packets_said(
         push_said(alloc, &mut packets, line.as_str(), bytes, notation)?;
     }
     Ok(packets)
-}
-
-/// The failure of a text that says no messages.
-fn no_messages(fault: PacketFault) -> Failure {
-    match fault {
-        PacketFault::Memory => Failure::Memory,
-        PacketFault::At(_, _) => Failure::Input(InputFault::Packets(fault)),
-    }
 }
 
 /// The text of a file of messages.
@@ -101,21 +95,31 @@ fn messages_in(text: &[u8]) -> Result<&str, Failure> {
     Ok(text)
 }
 
-/// The packets of so many bytes that a file says, one a line. A fault of the file does not name it.
-fn packets_within<T: Files, R: Read>(
+/// The failure of a file, which is named in it.
+fn in_file(alloc: Global, name: &str, failure: Failure) -> Ending {
+    match failure.in_file(alloc, name) {
+        Ok(failure) => Ending::Failed(failure),
+        Err(_) => Ending::Failed(Failure::Memory),
+    }
+}
+
+/// What is wrong with a file that says no messages.
+fn no_messages(alloc: Global, name: &str, fault: PacketFault) -> Ending {
+    match (fault, Input::named(alloc, name)) {
+        (PacketFault::At(_, _), Ok(input)) => Ending::NoMessages(input, fault),
+        _ => Ending::Failed(Failure::Memory),
+    }
+}
+
+/// The bytes of a file of messages.
+fn bytes_in<T: Files, R: Read>(
     alloc: Global,
     inputs: &mut Inputs<'_, T, R>,
     name: &str,
-    bytes: usize,
-    notation: Notation,
-) -> Result<Vec<Packet>, Failure>
-    requires { bytes ≤ 256 }
-    ensures { IfOk result (λ packets. All (λ p. length p.items ≡ bytes) packets.items) }
-{
-    let text = inputs.read_file(alloc, name)?;
-    match packets_of(alloc, messages_in(&text)?, bytes, notation) {
-        Ok(packets) => Ok(packets),
-        Err(fault) => Err(no_messages(fault)),
+) -> Result<Vec<u8>, Ending> {
+    match inputs.read_file(alloc, name) {
+        Ok(bytes) => Ok(bytes),
+        Err(failure) => Err(in_file(alloc, name, failure)),
     }
 }
 
@@ -126,13 +130,19 @@ fn packets_in<T: Files, R: Read>(
     name: &str,
     bytes: usize,
     notation: Notation,
-) -> Result<Vec<Packet>, Failure>
+) -> Result<Vec<Vec<u8>>, Ending>
     requires { bytes ≤ 256 }
-    ensures { IfOk result (λ packets. All (λ p. length p.items ≡ bytes) packets.items) }
+    ensures bytes { IfOk result (λ packets. All (λ p. length p.items ≡ bytes) packets.items) }
+    ensures said { IfOk result (λ packets. (text : List ℕ)
+        × (packets_said notation bytes text ≡ Some (map (λ p. p.items) packets.items))) }
 {
-    match packets_within(alloc, inputs, name, bytes, notation) {
-        Ok(packets) => Ok(packets),
-        Err(failure) => Err(failure.in_file(alloc, name)?),
+    let file = bytes_in(alloc, inputs, name)?;
+    match messages_in(&file) {
+        Ok(text) => match packets_of(alloc, text, bytes, notation) {
+            Ok(packets) => Ok(packets),
+            Err(fault) => Err(no_messages(alloc, name, fault)),
+        },
+        Err(failure) => Err(in_file(alloc, name, failure)),
     }
 }
 
@@ -144,29 +154,53 @@ pub enum Origin<'a> {
 }
 
 impl Asking {
-    /// Where the packet of a number is said, of so many.
-    pub fn origin(&self, number: usize, packets: usize) -> Option<Origin<'_>> {
-        let Some(PacketFile { name, after }) = &self.file else {
-            return self
-                .words
-                .get(number)
-                .map(|words| Origin::Words(words.as_str()));
-        };
+    /// The words of a number.
+    fn said(&self, number: usize) -> Option<Origin<'_>>
+        ensures { option_map origin_said result
+            ≡ slice_get (words_said (map (λ w. string_bytes w) self.now.words.items)) number }
+    {
+        match self.words.get(number) {
+            Some(words) => Some(Origin::Words(words.as_str())),
+            None => None,
+        }
+    }
+
+    /// Where the packet of a number is said, of so many, where some are in a file.
+    fn said_beside<'a>(
+        &'a self,
+        file: &'a PacketFile,
+        number: usize,
+        packets: usize,
+    ) -> Option<Origin<'a>>
+        ensures { option_map origin_said result
+            ≡ slice_get (origins (map (λ w. string_bytes w) self.now.words.items) (Some file.now) packets) number }
+    {
+        let before = file.after.min(self.words.len());
         let in_file = packets.saturating_sub(self.words.len());
-        if number < *after {
-            self.words
-                .get(number)
-                .map(|words| Origin::Words(words.as_str()))
-        } else if number.saturating_sub(*after) < in_file {
-            Some(Origin::File(name.as_str(), number.saturating_sub(*after)))
+        if number < before {
+            self.said(number)
+        } else if number - before < in_file {
+            Some(Origin::File(file.name.as_str(), number - before))
         } else {
-            let words = self.words.get(number.saturating_sub(in_file));
-            words.map(|words| Origin::Words(words.as_str()))
+            self.said(number - in_file)
+        }
+    }
+
+    /// Where the packet of a number is said, of so many.
+    pub fn origin(&self, number: usize, packets: usize) -> Option<Origin<'_>>
+        ensures { option_map origin_said result
+            ≡ slice_get (origins (map (λ w. string_bytes w) self.now.words.items) self.now.file packets) number }
+    {
+        match &self.file {
+            Some(file) => self.said_beside(file, number, packets),
+            None => self.said(number),
         }
     }
 
     /// Whether the file is standard input.
-    pub fn is_standard(&self) -> bool {
+    pub fn is_standard(&self) -> bool
+        ensures { result ≡ is_standard_file self.now.file }
+    {
         match &self.file {
             Some(file) => is_standard(file.name.as_str()),
             None => false,
@@ -179,51 +213,42 @@ impl Asking {
         alloc: Global,
         inputs: &mut Inputs<'_, T, R>,
         bytes: usize,
-    ) -> Result<Vec<Packet>, Ending>
+    ) -> Result<Vec<Vec<u8>>, Ending>
         requires { bytes ≤ 256 }
         ensures { IfOk result (λ packets. All (λ p. length p.items ≡ bytes) packets.items) }
     {
         let notation = self.notation;
         let Some(PacketFile { name, after }) = &self.file else {
-            return packets_said(alloc, &self.words, bytes, notation);
+            return packets_of_words(alloc, &self.words, bytes, notation);
         };
         let (before, behind) = self.words.split_at((*after).min(self.words.len()));
-        let mut packets = packets_said(alloc, before, bytes, notation)?;
+        let mut packets = packets_of_words(alloc, before, bytes, notation)?;
         packets.append(&mut packets_in(alloc, inputs, name.as_str(), bytes, notation)?)?;
-        packets.append(&mut packets_said(alloc, behind, bytes, notation)?)?;
+        packets.append(&mut packets_of_words(alloc, behind, bytes, notation)?)?;
         Ok(packets)
     }
 }
 
 impl Expecting {
-    /// The results of so many bytes that are expected. A fault of their file does not name it.
-    fn results_within<T: Files, R: Read>(
-        &self,
-        alloc: Global,
-        inputs: &mut Inputs<'_, T, R>,
-        bytes: usize,
-    ) -> Result<Vec<Expected>, Failure>
-        requires { bytes ≤ 256 }
-    {
-        let text = inputs.read_file(alloc, self.name.as_str())?;
-        match results_of(alloc, messages_in(&text)?, bytes, self.notation) {
-            Ok(results) => Ok(results),
-            Err(fault) => Err(no_messages(fault)),
-        }
-    }
-
     /// The results of so many bytes that are expected.
     pub fn results<T: Files, R: Read>(
         &self,
         alloc: Global,
         inputs: &mut Inputs<'_, T, R>,
         bytes: usize,
-    ) -> Result<Vec<Expected>, Failure>
+    ) -> Result<Vec<Expected>, Ending>
         requires { bytes ≤ 256 }
+        ensures { IfOk result (λ results. (text : List ℕ)
+            × (results_said self.now.notation bytes text ≡ Some (map expected_said results.items))) }
     {
-        match self.results_within(alloc, inputs, bytes) {
-            Ok(results) => Ok(results),
-            Err(failure) => Err(failure.in_file(alloc, self.name.as_str())?),
+        let name = self.name.as_str();
+        let file = bytes_in(alloc, inputs, name)?;
+        match messages_in(&file) {
+            Ok(text) => match results_of(alloc, text, bytes, self.notation) {
+                Ok(results) => Ok(results),
+                Err(fault) => Err(no_messages(alloc, name, fault)),
+            },
+            Err(failure) => Err(in_file(alloc, name, failure)),
         }
     }
 }

@@ -1,101 +1,137 @@
-//! `run --check`: packets' runs beside what the text in occam means by them.
+//! `run --check`: what packets' runs give, beside what the text in occam means by the packets.
+
+ghost use Rattle.std.specs.Prelude.{◌≡◌, ◌++◌, Some, OnOk};
+ghost use Rattle.std.specs.Option.{option_map};
+ghost use Rattle.tpw_commands.specs.Checks.{given_value, is_for_trace, is_meant, other_text, other_numbers};
+ghost use Rattle.tpw_commands.specs.Checks.{IsNothingChecked};
+ghost use Rattle.tp_collect.specs.declared.collected.Entry.TheVariants as became;
 
 use crate::meaning::Meant;
 use std::alloc::{AllocError, Global};
 use std::io::Write;
-use tp_stream::Packet;
+use tp_collect::{Done, Entry, LostCause};
+use tp_link::{DeviceFault, Link, LinkFault};
 use tpw_inputs::Failure;
-use tpw_occam_core::Worker;
-use tpw_run_text::Style;
+use tpw_occam_core::{Given, Worker};
+use tpw_runs::{Form, Report, Style, Tally, write_whole_line};
 
-/// What the line of a packet's trace begins with.
-const TRACE: &str = "  trace";
-
-/// What a run has written of a packet: its line, that of its trace with a line feed if it has one, and what follows.
-fn split_packet(ran: &str) -> (&str, &str, &str) {
-    let (line, rest) = ran.split_once('\n').unwrap_or((ran, ""));
-    if !rest.starts_with(TRACE) {
-        return (line, "", rest);
-    }
-    let end = rest
-        .find('\n')
-        .map_or(rest.len(), |at| at.saturating_add(1));
-    match rest.split_at_checked(end) {
-        Some((trace, rest)) => (line, trace, rest),
-        None => (line, rest, ""),
-    }
-}
-
-/// The line of a packet without its steps, of so large a budget. That of a packet that is lost has none.
-fn without_steps(alloc: Global, line: &str, budget: u32) -> Result<String, AllocError> {
-    let between = format!(in alloc; " of {budget} ")?;
-    let parts = line.split_once(between.as_str()).and_then(|(head, words)| head
-        .rsplit_once("  ")
-        .map(|(flag, _)| (flag, words)));
-    match parts {
-        Some((flag, words)) => format!(in alloc; "{flag} {words}"),
-        None => String::from_str(alloc, line),
-    }
-}
-
-/// Packets of a worker in occam, and how their lines are written.
-#[derive(Clone, Copy)]
-pub struct Checked<'a> {
-    pub worker: &'a Worker,
-    pub packets: &'a [Packet],
-    pub style: Style,
+/// Compares what becomes of packets with what a text in occam means by them, and shows where they differ.
+#[derive(Drop)]
+pub struct Checking<'a> {
+    alloc: Global,
+    worker: &'a Worker,
+    style: Style,
     /// The budget of the worker's image.
-    pub budget: u32,
+    budget: u32,
+    pub tally: Tally,
+    /// The numbers of the packets that have something else than the text means.
+    pub others: Vec<usize>,
 }
 
-impl Checked<'_> {
-    /// Writes what a run has made of the packet of a number and what the text means by it, where these differ: results,
-    /// flags, traces, or whether it is lost. Returns whether they do, and what the run has written behind the packet.
-    fn write_other<'r, W: Write>(
-        self,
-        alloc: Global,
-        number: usize,
-        packet: &Packet,
-        ran: &'r str,
-        writer: &mut W,
-    ) -> Result<(bool, &'r str), Failure> {
-        let (line, trace, rest) = split_packet(ran);
-        let mut meant = Vec::new(alloc);
-        let style = Style {
-            trace: true,
-            ..self.style
-        };
-        Meant::of(alloc, self.worker, packet)?.write_lines(&mut meant, style, number)?;
-        let said = without_steps(alloc, line, self.budget)?;
-        let came = format!(in alloc; "{said}\n{trace}")?;
-        if came.as_bytes() == meant.as_slice() {
-            return Ok((false, rest));
-        }
-        let written = write!(writer, "{line}\n{trace}  the text means\n").and_then(
-            |()| writer.write_all(&meant),
-        );
-        match written {
-            Ok(()) => Ok((true, rest)),
-            Err(_) => Err(Failure::Write),
+impl<'a> Checking<'a> {
+    /// Nothing yet.
+    pub fn new(alloc: Global, worker: &'a Worker, style: Style, budget: u32) -> Checking<'a>
+        ensures { IsNothingChecked worker.now style budget result }
+    {
+        Checking {
+            alloc,
+            worker,
+            style,
+            budget,
+            tally: Tally::new(),
+            others: Vec::new(alloc),
         }
     }
+}
 
-    /// Writes each packet of which a run, which has written `ran`, has made another result than the text means.
-    /// Returns how many there are.
-    pub fn write_others<W: Write>(
-        self,
-        alloc: Global,
-        ran: &str,
-        writer: &mut W,
-    ) -> Result<usize, Failure> {
-        let mut others = 0usize;
-        let mut rest = ran;
-        for (number, packet) in self.packets.iter().enumerate() {
-            let (is_other, behind) = self.write_other(alloc, number, packet, rest, writer)?;
-            others = others.saturating_add(usize::from(is_other));
-            rest = behind;
-        }
-        Ok(others)
+/// Whether a packet was lost for its trace.
+fn is_for_trace(cause: LostCause) -> bool
+    ensures { result ≡ is_for_trace cause }
+{
+    match cause {
+        LostCause::Link(
+            LinkFault {
+                link: Link::Trace,
+                code: DeviceFault::Full,
+            },
+        ) => true,
+        LostCause::Link(_) | LostCause::Stopped => false,
+    }
+}
+
+/// Whether a run's result is the one that is meant.
+fn is_given(done: &Done, given: &Given) -> bool
+    ensures { result ≡ is_meant (became.Done done.now) (Some (given_value given.now)) }
+{
+    done.result.as_slice() == given.result.as_slice()
+        && u8::from(done.error) == u8::from(given.flag)
+        && done.trace.as_slice() == given.traced.as_slice()
+}
+
+/// Whether a run gives what is meant.
+fn is_meant(entry: &Entry, meant: &Meant) -> bool
+    ensures { result ≡ is_meant entry.now (option_map given_value meant.now.given) }
+{
+    match (entry, &meant.given) {
+        (Entry::Done(done), Some(given)) => is_given(done, given),
+        (Entry::Lost(cause), None) => is_for_trace(*cause),
+        _ => false,
+    }
+}
+
+/// Writes what a run gives and what is meant, where these differ.
+fn write_other(
+    out: &mut Vec<u8>,
+    style: Style,
+    budget: u32,
+    number: usize,
+    entry: &Entry,
+    meant: &Meant,
+) -> Result<(), AllocError>
+    ensures { OnOk result (out.new.items ≡ out.old.items
+        ++ other_text style budget number entry.now (option_map given_value meant.now.given)) }
+{
+    if is_meant(entry, meant) {
+        return Ok(());
+    }
+    write_whole_line(out, style, budget, number, entry)?;
+    out.extend_from_slice(b"  the text means\n")?;
+    meant.write_lines(out, style, number)
+}
+
+/// Appends the number of a packet, where what a run gives differs from what is meant.
+fn push_other(
+    others: &mut Vec<usize>,
+    number: usize,
+    entry: &Entry,
+    meant: &Meant,
+) -> Result<(), AllocError>
+    ensures { OnOk result (others.new.items ≡ others.old.items
+        ++ other_numbers number entry.now (option_map given_value meant.now.given)) }
+{
+    if is_meant(entry, meant) {
+        return Ok(());
+    }
+    others.push(number)?;
+    Ok(())
+}
+
+impl Report for Checking<'_> {
+    ghost use Rattle.tpw_commands.specs.Checks.{checked_count, checked_text, CheckedNext};
+
+    ghost count = { checked_count };
+
+    ghost text = { checked_text };
+
+    ghost becomes = { CheckedNext };
+
+    fn show(&mut self, out: &mut Vec<u8>, packet: &[u8], entry: &Entry) -> Result<(), AllocError> {
+        let number = self.tally.packets();
+        let meant = Meant::of(self.alloc, self.worker, packet)?;
+        write_other(out, self.style, self.budget, number, entry, &meant)?;
+        push_other(&mut self.others, number, entry, &meant)?;
+        self.tally.add_entry(Form::Lines(self.style), entry);
+        Ok(())
     }
 }
 

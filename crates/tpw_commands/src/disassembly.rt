@@ -1,7 +1,9 @@
 //! The command `dis`: an image as text, with where the bytes of its runs go.
 
-ghost use Rattle.std.specs.Prelude.{IfOk, string_bytes};
-ghost use Rattle.tpw_commands.specs.Programs.{AreTextOf};
+ghost use Rattle.std.specs.Prelude.{◌≡◌, ℕ, List, IfOk, OnOk, string_bytes};
+ghost use Rattle.std.specs.Io.KnownBytes.{Appends};
+ghost use Rattle.tpw_commands.specs.declared.ending.Outcome.TheVariants.{Good};
+ghost use Rattle.tpw_commands.specs.Programs.{AreTextOf, IsDisassembled};
 
 use crate::assembling::write_line;
 use crate::ending::Outcome;
@@ -75,7 +77,11 @@ pub fn disassemble_image<W: Write>(
     alloc: Global,
     text: &[u8],
     writer: &mut W,
-) -> Result<Outcome, Failure> {
+) -> Result<Outcome, Failure>
+    ensures written { OnOk result ((written : List ℕ) × IsDisassembled text.now written
+        × Appends (W.contents writer.old) (W.contents writer.new) written) }
+    ensures good { IfOk result (λ outcome. outcome ≡ Good) }
+{
     let bytes = hex_bytes(alloc, text)?;
     let image = read_image(alloc, &bytes)?;
     let program = disassemble(alloc, &image)?;

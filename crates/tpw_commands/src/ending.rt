@@ -11,9 +11,8 @@ use crate::stepping::{PlaceKind, WatchKind};
 use clap::error::ErrorKind;
 use std::alloc::{AllocError, AllocFailed};
 use thiserror::Error;
-use tpw_inputs::Failure;
-use tpw_run_text::PacketKind;
-use tpw_runs::RunFault;
+use tpw_inputs::{Failure, Input};
+use tpw_runs::{PacketFault, PacketKind, RunFault};
 use tpw_step::End;
 
 /// What a command that has run answers.
@@ -102,6 +101,9 @@ pub enum Ending {
     /// The command line is refused.
     #[error("{0}")]
     Refused(Refusal),
+    /// An input says no packets, or no results that may be expected.
+    #[error("{0}:{1}\n")]
+    NoMessages(Input, PacketFault),
     /// The command fails.
     #[error("{0}")]
     Failed(Failure),
@@ -114,7 +116,7 @@ impl Ending {
     {
         match self {
             Ending::Shown(_) => 0,
-            Ending::Failed(_) => 1,
+            Ending::NoMessages(_, _) | Ending::Failed(_) => 1,
             Ending::Refused(_) => 2,
         }
     }

@@ -1,9 +1,11 @@
 //! The command `eval`: what a text in occam means by packets, without an image or a farm.
 
-ghost use Rattle.std.specs.Prelude.{◌≡◌, IfErr};
+ghost use Rattle.std.specs.Prelude.{◌≡◌, ◌<◌, ◌+◌, ◌^◌, IfErr, OnOk};
+ghost use Rattle.tpw_runs.specs.Tallies.{counted};
 ghost use Rattle.tpw_commands.specs.Endings.{status_of};
 
 use crate::ending::{Ending, Outcome};
+use crate::losses::{LONG_TRACE, write_loss};
 use crate::meaning::Meant;
 use crate::showing::Showing;
 use crate::summary::{is_as_expected, write_summary};
@@ -12,10 +14,9 @@ use std::alloc::{AllocError, Global};
 use std::io::{Read, Write};
 use std::rt::Files;
 use tp_image::layout::WORD_BYTES;
-use tp_stream::Packet;
 use tpw_inputs::{Failure, Inputs, Occam};
 use tpw_occam_core::Worker;
-use tpw_run_text::{Expected, Form, Tally, write_expected};
+use tpw_runs::{Expected, Form, Kind, Tally, write_expected};
 
 /// Whether what is meant by a packet is the result that is expected.
 fn is_expected(meant: &Meant, expected: Option<&Expected>) -> bool {
@@ -27,27 +28,23 @@ fn is_expected(meant: &Meant, expected: Option<&Expected>) -> bool {
     }
 }
 
-/// Counts what is meant by the packet of a number, and whether that is another result than the one that is expected.
-fn count(tally: &mut Tally, meant: &Meant, number: usize, is_other: bool) {
+/// What is counted of a packet, by what is meant by it and whether that is another result than the expected one.
+fn kind_of(meant: &Meant, is_other: bool) -> Kind {
     match &meant.given {
-        Some(_) => tally.done = tally.done.saturating_add(1),
-        None => tally.lost = tally.lost.saturating_add(1),
-    }
-    if is_other {
-        tally.differing = tally.differing.saturating_add(1);
-        tally.first = Some(tally.first.unwrap_or(number));
+        Some(_) if is_other => Kind::Other,
+        Some(_) => Kind::Done,
+        None => Kind::Lost,
     }
 }
 
-/// Writes what is shown of the packet of a number in a form, and counts it.
+/// Writes what is shown of the packet of a number in a form. Returns whether what is meant by it is another result than
+/// the one that is expected.
 fn write_meant(
     out: &mut Vec<u8>,
     form: Form<'_>,
     number: usize,
     meant: &Meant,
-    tally: &mut Tally,
-) -> Result<(), AllocError> {
-    let mut is_other = false;
+) -> Result<bool, AllocError> {
     match form {
         Form::Lines(style) => meant.write_lines(out, style, number)?,
         Form::Raw => {
@@ -57,34 +54,61 @@ fn write_meant(
         }
         Form::Differences(style, expected) => {
             let expected = expected.get(number);
-            is_other = !is_expected(meant, expected);
-            if is_other {
+            if !is_expected(meant, expected) {
                 meant.write_lines(out, style, number)?;
                 write_expected(out, style, expected)?;
+                return Ok(true);
             }
         }
     }
-    count(tally, meant, number, is_other);
+    Ok(false)
+}
+
+/// Evaluates the packet of a number, and writes what is shown of it in a form. A loss of which that is nothing goes to
+/// `errors`.
+fn write_packet<W: Write, E: Write>(
+    alloc: Global,
+    worker: &Worker,
+    number: usize,
+    packet: &[u8],
+    form: Form<'_>,
+    writer: &mut W,
+    errors: &mut E,
+    tally: &mut Tally,
+) -> Result<(), Failure>
+    requires { counted tally.old < 2 ^ 63 }
+    ensures { OnOk result (counted tally.new ≡ counted tally.old + 1) }
+{
+    let meant = Meant::of(alloc, worker, packet)?;
+    let mut text = Vec::new(alloc);
+    let is_other = write_meant(&mut text, form, number, &meant)?;
+    if writer.write_all(&text).is_err() {
+        return Err(Failure::Write);
+    }
+    if let (Form::Raw, None) = (form, &meant.given) {
+        write_loss(errors, number, LONG_TRACE);
+    }
+    tally.add(kind_of(&meant, is_other));
+    if is_other {
+        tally.note_other(number);
+    }
     Ok(())
 }
 
-/// Evaluates packets, and writes what is shown of each in a form. The text of one takes the room of the one before.
-fn write_packets<W: Write>(
+/// Evaluates packets, and writes what is shown of each in a form.
+fn write_packets<W: Write, E: Write>(
     alloc: Global,
     worker: &Worker,
-    packets: &[Packet],
+    packets: &[Vec<u8>],
     form: Form<'_>,
     writer: &mut W,
+    errors: &mut E,
 ) -> Result<Tally, Failure> {
     let mut tally = Tally::new();
-    let mut room = Vec::new(alloc);
     for (number, packet) in packets.iter().enumerate() {
-        let meant = Meant::of(alloc, worker, packet)?;
-        room.clear();
-        write_meant(&mut room, form, number, &meant, &mut tally)?;
-        if writer.write_all(&room).is_err() {
-            return Err(Failure::Write);
-        }
+        write_packet(
+            alloc, worker, number, packet, form, writer, errors, &mut tally,
+        )?;
     }
     Ok(tally)
 }
@@ -93,12 +117,12 @@ fn write_packets<W: Write>(
 fn write_all_meant<W: Write, E: Write>(
     alloc: Global,
     worker: &Worker,
-    packets: &[Packet],
+    packets: &[Vec<u8>],
     form: Form<'_>,
     writer: &mut W,
     errors: &mut E,
 ) -> Result<Outcome, Failure> {
-    let tally = write_packets(alloc, worker, packets, form, writer)?;
+    let tally = write_packets(alloc, worker, packets, form, writer, errors)?;
     match form {
         // A picture or a pipe has the results alone.
         Form::Raw => {

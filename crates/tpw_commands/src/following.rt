@@ -3,7 +3,7 @@
 use crate::asking::{Asking, Origin};
 use std::fmt;
 use tpw_inputs::{Input, Language};
-use tpw_run_text::Notation;
+use tpw_runs::Notation;
 
 /// A word of a shell's command line, quoted where it has to be.
 #[derive(Clone, Copy)]

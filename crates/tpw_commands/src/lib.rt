@@ -10,6 +10,7 @@ mod disassembly;
 mod ending;
 mod evaluating;
 mod following;
+mod losses;
 mod meaning;
 mod output;
 mod place;
@@ -25,7 +26,7 @@ mod terminal;
 mod translating;
 mod words;
 
-pub use checking::Checked;
+pub use checking::Checking;
 pub use ending::{Ending, Outcome, Refusal};
 pub use output::Output;
 pub use place::place_of;

@@ -1,57 +1,168 @@
 //! The command `profile`: where the steps of packets' runs go.
 
-ghost use Rattle.std.specs.Prelude.{◌≡◌, ◌*◌, All, IfOk, IfErr, length};
+ghost use Rattle.std.specs.Prelude.{◌≡◌, ◌≤◌, ◌*◌, All, IfOk, IfErr, length};
+ghost use Rattle.tp_image.specs.Text.{IsTextOf};
 ghost use Rattle.tpw_step.specs.Profiles.{AddsUp};
 ghost use Rattle.tpw_commands.specs.Endings.{status_of};
 
 use crate::asking::Asking;
 use crate::ending::{Ending, Outcome};
+use crate::losses::{LONG_TRACE, write_loss};
+use crate::running::members_for;
 use crate::shares::{Shares, write_shares};
 use crate::terminal::Terminal;
-use std::alloc::Global;
-use std::io::{Read, Write};
+use std::alloc::{AllocError, Global};
+use std::io::{Eprint, Read, Write};
 use std::rt::Files;
-use tp_image::Image;
+use std::thread;
+use std::thread::Threads;
+use std::time::Clock;
+use tp_collect::LostCause;
 use tp_image::layout::WORD_BYTES;
-use tp_stream::Packet;
+use tp_image::{Image, ImageFault, read_image};
 use tpw_inputs::{Failure, Inputs, Worker};
+use tpw_runs::Progress;
 use tpw_step::{Profile, RunEnd, Stepper, count_run};
+
+/// What `profile` is to count, and on how many members.
+#[derive(Drop)]
+pub struct Profiling {
+    pub asking: Asking,
+    pub members: usize,
+}
 
 /// What is counted: the runs of packets of an image.
 #[derive(Drop)]
 struct Counted {
     image: Image,
-    packets: Vec<Packet>,
+    packets: Vec<Vec<u8>>,
 }
 
-/// Writes how the run of a packet has ended, if the worker has not stopped.
+/// How the run of a packet has ended whose worker did not stop.
+#[derive(Clone, Copy, Debug, PartialEq, Eq)]
+struct Unstopped {
+    number: usize,
+    end: RunEnd,
+}
+
+/// What a member has counted.
+#[derive(Drop)]
+struct Share {
+    profile: Profile,
+    unstopped: Vec<Unstopped>,
+}
+
+/// Writes how the run of a packet has ended whose worker did not stop.
 fn note_end<E: Write>(errors: &mut E, number: usize, end: RunEnd) {
     let _ = match end {
         RunEnd::Stopped => Ok(()),
         RunEnd::Stuck(at) => write!(errors, "tpw: packet {number} is stuck at {at}\n"),
+        RunEnd::Refused(fault) if LostCause::Link(fault) == LONG_TRACE => {
+            write_loss(errors, number, LONG_TRACE);
+            Ok(())
+        }
         RunEnd::Refused(fault) => write!(errors, "tpw: packet {number} is refused: {fault}\n"),
         RunEnd::Unended => write!(errors, "tpw: packet {number} does not end\n"),
     };
 }
 
-/// Runs packets of an image, and counts their steps. Returns whether each worker stopped.
-fn count_packets<E: Write>(
+/// Runs packets of an image, the first of which has a number, and counts their steps.
+fn count_packets<R: Clock + Eprint>(
     alloc: Global,
     stepper: &mut Stepper,
-    packets: &[Packet],
+    first: usize,
+    packets: &[Vec<u8>],
     profile: &mut Profile,
-    errors: &mut E,
-) -> Result<bool, Failure>
+    progress: &Progress<'_, R>,
+) -> Result<Vec<Unstopped>, AllocError>
     requires { AddsUp profile.old }
-    ensures { AddsUp profile.new }
+    ensures adds_up { AddsUp profile.new }
+    ensures long { length profile.new.counts.items ≡ length profile.old.counts.items }
 {
-    let mut all = true;
-    for (number, packet) in packets.iter().enumerate() {
-        let end = count_run(alloc, stepper, packet.as_slice(), profile)?;
-        note_end(errors, number, end);
-        all = all && end == RunEnd::Stopped;
+    let mut unstopped = Vec::new(alloc);
+    for (i, packet) in packets.iter().enumerate() {
+        let end = count_run(alloc, stepper, packet, profile)?;
+        if end != RunEnd::Stopped {
+            let number = first.saturating_add(i);
+            unstopped.push(Unstopped { number, end })?;
+        }
+        progress.add();
     }
-    Ok(all)
+    Ok(unstopped)
+}
+
+/// Counts a member's packets, the first of which has a number, on the image that bytes say.
+fn count_share<R: Clock + Eprint>(
+    alloc: Global,
+    bytes: &[u8],
+    image: &Image,
+    first: usize,
+    packets: &[Vec<u8>],
+    progress: &Progress<'_, R>,
+) -> Result<Share, ImageFault>
+    requires { IsTextOf bytes.now image.now }
+    ensures adds_up { IfOk result (λ share. AddsUp share.profile) }
+    ensures long { IfOk result (λ share. length share.profile.counts.items ≡ length image.now.code) }
+{
+    let mut profile = Profile::new(alloc, image)?;
+    let mut stepper = Stepper::new(read_image(alloc, bytes)?);
+    let unstopped = count_packets(alloc, &mut stepper, first, packets, &mut profile, progress)?;
+    Ok(Share { profile, unstopped })
+}
+
+/// Counts packets on the image that bytes say, on so many members: each has as many packets as the others, in order.
+fn count_shares<T: Threads + Clock + Eprint + Sync>(
+    rt: &T,
+    alloc: Global,
+    bytes: &[u8],
+    image: &Image,
+    packets: &[Vec<u8>],
+    members: usize,
+    progress: &Progress<'_, T>,
+) -> Result<Vec<Result<Share, ImageFault>>, AllocError>
+    requires text { IsTextOf bytes.now image.now }
+    requires members { 1 ≤ members }
+    ensures adds_up { IfOk result (λ shares. All (λ share. IfOk share (λ s. AddsUp s.profile)) shares.items) }
+    ensures long { IfOk result (λ shares. All (λ share. IfOk share
+        (λ s. length s.profile.counts.items ≡ length image.now.code)) shares.items) }
+{
+    let each = packets.len().div_ceil(members).max(1);
+    thread::map_chunks(
+        rt,
+        alloc,
+        packets,
+        each,
+        &|first, part| count_share(alloc, bytes, image, first, part, progress),
+    )
+}
+
+/// Adds up what members have counted, and writes how the runs have ended whose workers did not stop. Returns all steps,
+/// and whether each worker stopped.
+fn added<E: Write>(
+    alloc: Global,
+    image: &Image,
+    shares: &[Result<Share, ImageFault>],
+    errors: &mut E,
+) -> Result<(Profile, bool), Failure>
+    requires adds_up { All (λ share. IfOk share (λ s. AddsUp s.profile)) shares.now }
+    requires long { All (λ share. IfOk share (λ s. length s.profile.counts.items ≡ length image.now.code)) shares.now }
+    ensures { IfOk result (λ counted. AddsUp counted.0) }
+{
+    let mut profile = Profile::new(alloc, image)?;
+    let mut all = true;
+    for share in shares {
+        match share {
+            Ok(share) => {
+                profile.add(&share.profile);
+                for Unstopped { number, end } in &share.unstopped {
+                    note_end(errors, *number, *end);
+                    all = false;
+                }
+            }
+            Err(fault) => return Err(Failure::from(*fault)),
+        }
+    }
+    Ok((profile, all))
 }
 
 /// What is to be counted: the packets that are asked for, each as long as those of a worker.
@@ -61,7 +172,9 @@ fn prepare_profile<T: Files, R: Read>(
     worker: &Worker<'_>,
     asking: &Asking,
 ) -> Result<Counted, Ending>
-    ensures { IfOk result (λ counted. All (λ p. length p.items ≡ 4 * counted.image.packet) counted.packets.items) }
+    ensures packets { IfOk result (λ counted.
+        All (λ p. length p.items ≡ 4 * counted.image.packet) counted.packets.items) }
+    ensures text { IfOk result (λ counted. IsTextOf worker.now.bytes.items counted.image) }
 {
     let image = worker.image(alloc)?;
     let bytes = WORD_BYTES * image.packet as usize;
@@ -70,19 +183,25 @@ fn prepare_profile<T: Files, R: Read>(
 }
 
 /// Counts the steps of packets' runs, and writes where they go, by the lines of the worker's text if it has one.
-fn write_counted<W: Write, E: Write>(
+fn write_counted<T: Threads + Clock + Eprint + Sync, W: Write, E: Write>(
+    rt: &T,
     alloc: Global,
     worker: &Worker<'_>,
-    counted: Counted,
+    counted: &Counted,
+    members: usize,
     writer: &mut W,
-    errors: &mut E,
-) -> Result<Outcome, Failure> {
+    terminal: &mut Terminal<'_, E>,
+) -> Result<Outcome, Failure>
+    requires { IsTextOf worker.now.bytes.items counted.now.image }
+{
     let Counted { image, packets } = counted;
-    let mut profile = Profile::new(alloc, &image)?;
-    let mut stepper = Stepper::new(image);
-    let all = count_packets(alloc, &mut stepper, &packets, &mut profile, errors)?;
+    let progress = Progress::new(rt, packets.len(), terminal.is_terminal);
+    let members = members_for(members, packets.len());
+    let shares = count_shares(rt, alloc, &worker.bytes, image, packets, members, &progress);
+    progress.clear();
+    let (profile, all) = added(alloc, image, &shares?, terminal.errors)?;
     let shares = Shares {
-        image: stepper.image(),
+        image,
         profile: &profile,
         source: worker.source_text(),
     };
@@ -94,16 +213,19 @@ fn write_counted<W: Write, E: Write>(
 }
 
 /// Runs packets on a worker, accepted or not, and writes where their steps go.
-pub fn profile_worker<T: Files, R: Read, W: Write, E: Write>(
+pub fn profile_worker<T, R: Read, W: Write, E: Write>(
+    rt: &T,
     alloc: Global,
     inputs: &mut Inputs<'_, T, R>,
     worker: &Worker<'_>,
     writer: &mut W,
     terminal: &mut Terminal<'_, E>,
-    asking: &Asking,
+    asked: &Profiling,
 ) -> Result<Outcome, Ending>
+where
+    T: Files + Threads + Clock + Eprint + Sync,
     ensures { IfErr result (λ e. status_of e ≡ 2 → W.contents writer.new ≡ W.contents writer.old) }
 {
-    let counted = prepare_profile(alloc, inputs, worker, asking)?;
-    Ok(write_counted(alloc, worker, counted, writer, terminal.errors)?)
+    let counted = prepare_profile(alloc, inputs, worker, &asked.asking)?;
+    Ok(write_counted(rt, alloc, worker, &counted, asked.members, writer, terminal)?)
 }

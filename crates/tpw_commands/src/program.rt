@@ -50,7 +50,9 @@ where
         ..
     } = asked;
     match work {
-        Work::Profile(asking) => profile_worker(alloc, inputs, worker, writer, terminal, asking),
+        Work::Profile(profiling) => profile_worker(
+            rt, alloc, inputs, worker, writer, terminal, profiling,
+        ),
         Work::Run(running) => run_worker(
             rt, alloc, inputs, input, *language, worker, writer, terminal, running,
         ),

@@ -1,11 +1,14 @@
 //! The command `run`: packets on an accepted worker.
 
-ghost use Rattle.std.specs.Prelude.{◌≡◌, ◌≤◌, ◌*◌, All, IfOk, IfErr, IfSome, length};
+ghost use Rattle.std.specs.Prelude.{◌≡◌, ◌≤◌, ◌*◌, All, IfOk, IfErr, IfSome, length, map};
+ghost use Rattle.tpw_runs.specs.Results.{HasShown};
+ghost use Rattle.tpw_commands.specs.Checks.{HasChecked};
 ghost use Rattle.tpw_commands.specs.Endings.{status_of};
 
-use crate::checking::{Checked, write_checked};
+use crate::checking::{Checking, write_checked};
 use crate::ending::{Ending, Outcome, failure_of_run};
 use crate::following::Following;
+use crate::losses::write_loss;
 use crate::refusing::accepted_of;
 use crate::showing::Showing;
 use crate::summary::{is_as_expected, write_summary};
@@ -17,11 +20,9 @@ use std::sync::Wait;
 use std::thread::Threads;
 use std::time::Clock;
 use tp_accept::Accepted;
-use tp_stream::Packet;
 use tpw_inputs::{Failure, Input, Inputs, Language, Worker};
 use tpw_occam_core::Worker as Meaning;
-use tpw_run_text::{Expected, Form, Style, Tally};
-use tpw_runs::{Progress, run_on_members};
+use tpw_runs::{Expected, Form, Progress, Shown, Style, Tally, run_in_form, run_on_members};
 
 /// The most members.
 const MAX_MEMBERS: usize = 64;
@@ -39,7 +40,7 @@ pub struct Running {
 #[derive(Drop)]
 struct Prepared {
     image: Accepted,
-    packets: Vec<Packet>,
+    packets: Vec<Vec<u8>>,
     expected: Option<Vec<Expected>>,
 }
 
@@ -59,7 +60,7 @@ fn write_following<W: Write>(
         input,
         language,
         number,
-        packets: tally.done.saturating_add(tally.lost),
+        packets: tally.packets(),
     };
     match write!(writer, "follow packet {number} by: {following}\n") {
         Ok(()) => Ok(()),
@@ -67,27 +68,80 @@ fn write_following<W: Write>(
     }
 }
 
+/// How many members run so many packets: no more than there are packets, and 1 to 64.
+pub fn members_for(members: usize, packets: usize) -> usize
+    ensures least { 1 ≤ result }
+    ensures most { result ≤ 64 }
+{
+    packets.min(members).min(MAX_MEMBERS).max(1)
+}
+
 /// Runs packets on an accepted image, and shows their results in a form, and progress where somebody waits for it.
-fn run_tallied<T, W: Write>(
+fn run_shown<'e, T, W: Write>(
     rt: &T,
     alloc: Global,
     prepared: &Prepared,
     members: usize,
-    form: Form<'_>,
+    form: Form<'e>,
     writer: &mut W,
     is_terminal: bool,
-) -> Result<Tally, Failure>
+) -> Result<Shown<'e>, Failure>
 where
     T: Threads + Wait + Clock + Eprint + Sync,
     requires { All (λ p. length p.items ≡ 4 * prepared.now.image.image.packet) prepared.now.packets.items }
+    ensures { IfOk result (HasShown prepared.now.image form.entry (map (λ p. p.items) prepared.now.packets.items)
+        (W.contents writer.old) (W.contents writer.new)) }
 {
     let image = &prepared.image;
     let packets = &prepared.packets;
     let progress = Progress::new(rt, packets.len(), is_terminal);
-    let members = packets.len().min(members).min(MAX_MEMBERS).max(1);
-    let ran = run_on_members(rt, alloc, image, packets, members, &progress, form, writer);
+    let members = members_for(members, packets.len());
+    let ran = run_in_form(rt, alloc, image, packets, members, &progress, form, writer);
     progress.clear();
-    ran.map_err(|fault| failure_of_run(fault))
+    match ran {
+        Ok(shown) => Ok(shown),
+        Err(fault) => Err(failure_of_run(fault)),
+    }
+}
+
+/// Runs packets on an accepted image, and shows where what becomes of them is not what a worker means, and progress
+/// where somebody waits for it.
+fn run_checked<'m, T, W: Write>(
+    rt: &T,
+    alloc: Global,
+    prepared: &Prepared,
+    members: usize,
+    meaning: &'m Meaning,
+    style: Style,
+    writer: &mut W,
+    is_terminal: bool,
+) -> Result<Checking<'m>, Failure>
+where
+    T: Threads + Wait + Clock + Eprint + Sync,
+    requires { All (λ p. length p.items ≡ 4 * prepared.now.image.image.packet) prepared.now.packets.items }
+    ensures { IfOk result (HasChecked prepared.now.image meaning.now style
+        (map (λ p. p.items) prepared.now.packets.items) (W.contents writer.old) (W.contents writer.new)) }
+{
+    let image = &prepared.image;
+    let packets = &prepared.packets;
+    let progress = Progress::new(rt, packets.len(), is_terminal);
+    let members = members_for(members, packets.len());
+    let mut checking = Checking::new(alloc, meaning, style, image.budget());
+    let ran = run_on_members(
+        rt,
+        alloc,
+        image,
+        packets,
+        members,
+        &progress,
+        &mut checking,
+        writer,
+    );
+    progress.clear();
+    match ran {
+        Ok(()) => Ok(checking),
+        Err(fault) => Err(failure_of_run(fault)),
+    }
 }
 
 /// Runs what is prepared, and writes what becomes of each packet.
@@ -108,7 +162,7 @@ where
     let form = asked.showing.form(&prepared.expected);
     let budget = Some(prepared.image.budget());
     let is_terminal = terminal.is_terminal;
-    let tally = run_tallied(
+    let Shown { tally, unshown, .. } = run_shown(
         rt,
         alloc,
         prepared,
@@ -120,7 +174,12 @@ where
     match form {
         // A picture or a pipe has the results alone.
         Form::Raw if tally.lost == 0 => {}
-        Form::Raw => write_summary(terminal.errors, budget, &tally, form)?,
+        Form::Raw => {
+            for loss in &unshown {
+                write_loss(terminal.errors, loss.number, loss.cause);
+            }
+            write_summary(terminal.errors, budget, &tally, form)?
+        }
         Form::Lines(_) | Form::Differences(_, _) => {
             write_following(writer, asked, input, language, &tally)?;
             write_summary(writer, budget, &tally, form)?
@@ -143,32 +202,24 @@ where
     T: Threads + Wait + Clock + Eprint + Sync,
     requires { All (λ p. length p.items ≡ 4 * prepared.now.image.image.packet) prepared.now.packets.items }
 {
-    let style = asked.showing.style;
-    let form = Form::Lines(Style {
+    let style = Style {
         trace: true,
-        ..style
-    });
+        ..asked.showing.style
+    };
     let budget = prepared.image.budget();
     let is_terminal = terminal.is_terminal;
-    let mut ran = Vec::new(alloc);
-    let tally = run_tallied(
+    let checking = run_checked(
         rt,
         alloc,
         prepared,
         asked.members,
-        form,
-        &mut ran,
+        meaning,
+        style,
+        writer,
         is_terminal,
     )?;
-    let checked = Checked {
-        worker: meaning,
-        packets: &prepared.packets,
-        style,
-        budget,
-    };
-    let ran = str::from_utf8(&ran).unwrap_or("");
-    let others = checked.write_others(alloc, ran, writer)?;
-    write_summary(writer, Some(budget), &tally, form)?;
+    let others = checking.others.len();
+    write_summary(writer, Some(budget), &checking.tally, Form::Lines(style))?;
     write_checked(writer, prepared.packets.len(), others)?;
     Ok(Outcome::of(others == 0))
 }

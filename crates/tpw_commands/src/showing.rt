@@ -3,11 +3,12 @@
 ghost use Rattle.std.specs.Prelude.{◌≤◌};
 
 use crate::asking::{Asking, Expecting};
+use crate::ending::Ending;
 use std::alloc::Global;
 use std::io::Read;
 use std::rt::Files;
-use tpw_inputs::{Failure, Inputs, is_standard};
-use tpw_run_text::{Expected, Form, Style};
+use tpw_inputs::{Inputs, is_standard};
+use tpw_runs::{Expected, Form, Style};
 
 /// Packets, and how what is made of them is shown.
 #[derive(Drop)]
@@ -34,7 +35,7 @@ impl Showing {
         alloc: Global,
         inputs: &mut Inputs<'_, T, R>,
         bytes: usize,
-    ) -> Result<Option<Vec<Expected>>, Failure>
+    ) -> Result<Option<Vec<Expected>>, Ending>
         requires { bytes ≤ 256 }
     {
         match &self.expect {

@@ -242,7 +242,7 @@ impl Picked {
     {
         let packets = self.asking.packets(alloc, inputs, bytes)?;
         match packets.get(self.number) {
-            Some(packet) => Ok(Vec::from_slice(alloc, packet.as_slice())?),
+            Some(packet) => Ok(Vec::from_slice(alloc, packet)?),
             None => Err(Ending::Refused(Refusal::NoNumber(self.number, packets.len()))),
         }
     }

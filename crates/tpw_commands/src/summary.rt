@@ -2,7 +2,7 @@
 
 use std::io::{self, Write};
 use tpw_inputs::Failure;
-use tpw_run_text::{Form, StepRange, Tally};
+use tpw_runs::{Form, StepRange, Tally};
 
 /// How many of the results that are expected are of no packet, and how many packets have no result that is expected.
 #[derive(Clone, Copy)]
@@ -34,7 +34,10 @@ fn write_differing<W: Write>(
     unmatched: Unmatched,
 ) -> Result<(), io::Error> {
     let Unmatched { results, packets } = unmatched;
-    let differing = tally.differing.saturating_add(results);
+    let differing = tally
+        .other
+        .saturating_add(tally.lost)
+        .saturating_add(results);
     write!(writer, ", differing {differing}")?;
     if results > 0 {
         write!(writer, ", expected results without a packet {results}")?;
@@ -68,7 +71,7 @@ fn write_counts<W: Write>(
     form: Form<'_>,
 ) -> Result<(), io::Error> {
     let lost = tally.lost;
-    let packets = tally.done.saturating_add(lost);
+    let packets = tally.packets();
     write!(writer, "packets {packets}, lost {lost}")?;
     if let Some(budget) = budget {
         write_steps(writer, budget, tally.steps)?;
@@ -95,7 +98,6 @@ pub fn write_summary<W: Write>(
 
 /// Whether each packet has a result, the one that is expected, and each result that is expected a packet.
 pub fn is_as_expected(tally: &Tally, form: Form<'_>) -> bool {
-    let packets = tally.done.saturating_add(tally.lost);
-    let unmatched = Unmatched::of(form, packets);
-    tally.lost == 0 && tally.differing == 0 && unmatched.results == 0
+    let unmatched = Unmatched::of(form, tally.packets());
+    tally.lost == 0 && tally.other == 0 && unmatched.results == 0
 }

@@ -3,3 +3,4 @@ pub mod Positions
 pub mod Texts
 pub mod Failures
 pub mod Programs
+pub mod Names

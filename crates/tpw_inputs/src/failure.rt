@@ -1,8 +1,9 @@
 //! Why a command fails.
 
-ghost use Rattle.std.specs.Prelude.{◌≡◌};
+ghost use Rattle.std.specs.Prelude.{◌≡◌, IfOk};
 ghost use Rattle.tpw_inputs.specs.declared.failure.Failure.TheVariants as failure;
 ghost use Rattle.tpw_inputs.specs.Failures.{of_image, of_occam, of_source};
+ghost use Rattle.tpw_inputs.specs.Names.{IsInFile};
 
 use crate::fault::{CompilerFault, InputFault};
 use crate::input::is_standard;
@@ -45,7 +46,9 @@ pub enum Failure {
 
 impl Failure {
     /// The same, where a fault of an input is one of the file of a name.
-    pub fn in_file(self, alloc: Global, name: &str) -> Result<Failure, AllocError> {
+    pub fn in_file(self, alloc: Global, name: &str) -> Result<Failure, AllocError>
+        ensures { IfOk result (IsInFile name.now self) }
+    {
         match self {
             Failure::Input(fault) if is_standard(name) => Ok(Failure::InStandard(fault)),
             Failure::Input(fault) => Ok(Failure::File(String::from_str(alloc, name)?, fault)),

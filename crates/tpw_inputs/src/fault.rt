@@ -9,7 +9,6 @@ use tp_accept::RefusalCode;
 use tp_image::ImageFault;
 use tpw_asm::{AssemblyFault, LineFault};
 use tpw_occam::{Defect, Message};
-use tpw_run_text::PacketFault;
 use tpw_text::{Position, SourceFault};
 
 /// What the compiler of occam does wrong with a text. None is known.
@@ -75,9 +74,6 @@ pub enum InputFault {
     /// It is a text in occam that the compiler does wrong with.
     #[error(": a fault of the compiler: {0}; please report it, with the text")]
     Compiler(CompilerFault),
-    /// It says no packets, or no results that may be expected.
-    #[error(":{0}")]
-    Packets(PacketFault),
 }
 
 /// The place of the byte behind one.

@@ -1,7 +1,8 @@
 //! What is expected where a text has a fault, and which name may be meant.
 
+use crate::near::nearest;
 use crate::reports::{line_of, word_at};
-use tpw_source::nearest;
+use std::alloc::{AllocError, Global};
 use tpw_text::{SourceFault, TextFault};
 
 /// What helps beside the message of a fault.
@@ -174,6 +175,9 @@ fn of_unknown(text: &str, line: &str, fault: SourceFault) -> Option<&'static str
     if fault.line == 1 && text.starts_with('\u{FEFF}') {
         return Some("the text begins with a byte order mark, U+FEFF: save it without one");
     }
+    if line.contains(" IMAGE ") {
+        return Some("a line for farmd: asm without --line writes the image that tpw reads");
+    }
     if word.starts_with('#') || word.starts_with("//") || word.starts_with('/') {
         return Some("a comment begins with --");
     }
@@ -244,31 +248,47 @@ fn help_of(
     }
 }
 
+/// The first word of a statement that is nearest to a word.
+fn nearest_form(alloc: Global, word: &str) -> Result<Option<&'static str>, AllocError> {
+    let word = word.to_ascii_lowercase(alloc)?;
+    nearest(alloc, word.as_str(), &FIRST_WORDS)
+}
+
+/// The name that is near to a word that has a fault, of some names, or of the first words of statements.
+fn near_to<'a>(
+    alloc: Global,
+    word: &str,
+    fault: TextFault,
+    names: &[&'a str],
+) -> Result<Option<&'a str>, AllocError> {
+    match fault {
+        TextFault::Unknown => nearest_form(alloc, word),
+        TextFault::NoNumber | TextFault::NoLocal | TextFault::NoLabel | TextFault::NoLoop => {
+            nearest(alloc, word, names)
+        }
+        _ => Ok(None),
+    }
+}
+
 /// What helps against a fault of a text that gives some names.
-pub fn hint_of<'a>(text: &str, fault: SourceFault, names: &[&'a str]) -> Hint<'a> {
+pub fn hint_of<'a>(
+    alloc: Global,
+    text: &str,
+    fault: SourceFault,
+    names: &[&'a str],
+) -> Result<Hint<'a>, AllocError> {
     let line = line_of(text, fault.line);
     let word = word_at(line, fault.column);
     let (expected, help) = help_of(text, line, word, fault);
-    let near = match fault.fault {
-        TextFault::Unknown => nearest_form(word),
-        TextFault::NoNumber | TextFault::NoLocal | TextFault::NoLabel | TextFault::NoLoop => {
-            nearest(word, names)
-        }
-        _ => None,
-    };
+    let near = near_to(alloc, word, fault.fault, names)?;
     // Where help is given, or the name itself is of another kind, no name is near.
     let nearest = match (help, near) {
         (None, Some(name)) if name != word => Some(name),
         _ => None,
     };
-    Hint {
+    Ok(Hint {
         expected,
         help,
         nearest,
-    }
-}
-
-/// The first word of a statement that is nearest to a word.
-fn nearest_form(word: &str) -> Option<&'static str> {
-    nearest(word, &FIRST_WORDS)
+    })
 }

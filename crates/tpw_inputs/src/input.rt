@@ -4,6 +4,7 @@ ghost use Rattle.std.specs.Prelude.{◌≡◌, ◌≤◌, ◌+◌, ◌<◌, ◌^
 ghost use Rattle.std.specs.List.{filter, prefix_len};
 ghost use Rattle.std.specs.Char.{is_ascii_hexdigit};
 ghost use Rattle.tpw_inputs.specs.Failures.{of_text};
+ghost use Rattle.tpw_inputs.specs.Names.{is_standard};
 ghost use Rattle.tpw_inputs.specs.declared.input.TextFault.{TextFault};
 ghost use Rattle.tpw_inputs.specs.declared.input.TextFault.TheVariants.{Memory, NotADigit};
 ghost use Rattle.tpw_inputs.specs.Programs.{IsNoText, IsNotUtf8};
@@ -149,8 +150,20 @@ pub enum Input {
 const STANDARD: &str = "-";
 
 /// Whether a file's name is that of standard input.
-pub fn is_standard(name: &str) -> bool {
+pub fn is_standard(name: &str) -> bool
+    ensures { result ≡ is_standard name.now }
+{
     name == STANDARD
+}
+
+impl Input {
+    /// The input of a name: the file, or standard input by its name.
+    pub fn named(alloc: Global, name: &str) -> Result<Input, AllocError> {
+        if is_standard(name) {
+            return Ok(Input::Standard);
+        }
+        Ok(Input::File(String::from_str(alloc, name)?))
+    }
 }
 
 impl fmt::Display for Input {

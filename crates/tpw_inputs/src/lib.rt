@@ -9,6 +9,7 @@ mod fields;
 mod hints;
 mod input;
 mod language;
+mod near;
 mod notes;
 mod occam;
 mod reports;

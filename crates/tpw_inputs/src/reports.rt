@@ -123,7 +123,7 @@ fn write_fault<E: Write>(
     let SourceFault { line, column, .. } = fault;
     let message = message_of(alloc, text, fault)?;
     let names = names_of(alloc, text)?;
-    let hint = hint_of(text, fault, &names);
+    let hint = hint_of(alloc, text, fault, &names)?;
     let position = Position { line, column };
     write_at(errors, name, text, position, message.as_str(), hint);
     Ok(())
@@ -287,8 +287,7 @@ fn write_placed<E: Write>(
         | InputFault::Image(_)
         | InputFault::NotUtf8(_)
         | InputFault::Assembly(_)
-        | InputFault::Compiler(_)
-        | InputFault::Packets(_) => return Ok(false),
+        | InputFault::Compiler(_) => return Ok(false),
     }
     Ok(true)
 }

@@ -1,6 +1,7 @@
 //! Workers: images, and what texts say of their code and mean.
 
 ghost use Rattle.std.specs.Prelude.{◌≤◌, IfOk};
+ghost use Rattle.tp_image.specs.Text.{IsTextOf};
 
 use crate::failure::Failure;
 use crate::fault::InputFault;
@@ -36,7 +37,8 @@ impl Worker<'_> {
 
     /// The image that its bytes say.
     pub fn image(&self, alloc: Global) -> Result<Image, Failure>
-        ensures { IfOk result (λ image. image.packet ≤ 64) }
+        ensures text { IfOk result (IsTextOf self.now.bytes.items) }
+        ensures packet { IfOk result (λ image. image.packet ≤ 64) }
     {
         Ok(read_image(alloc, &self.bytes)?)
     }

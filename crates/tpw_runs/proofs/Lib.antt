@@ -1,4 +1,9 @@
+mod Numbers
+mod Cutting
+mod Saying
 mod Results
 mod Begun
-mod Written
+mod Behind
+mod Showing
+pub mod Forms
 mod Ready

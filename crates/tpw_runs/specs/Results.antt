@@ -11,10 +11,12 @@ use Rattle.tp_accept.specs.Ending.{EndsWithin}
 use Rattle.tp_board.specs.Limits.{most_members}
 use Rattle.tp_collect.specs.declared.collected.Entry.{Entry}
 use Rattle.tp_farm.specs.Promised.{IsEntryOf, TakeAll}
-use Rattle.tpw_run_text.specs.declared.form.Form.{Form}
-use Rattle.tpw_run_text.specs.declared.tally.Tally.{Tally}
-use Rattle.tpw_run_text.specs.Lines.{entries_text}
-use Rattle.tpw_run_text.specs.Tallies.{nothing_counted, with_entries}
+use Rattle.tpw_runs.specs.declared.form.Form.{Form}
+use Rattle.tpw_runs.specs.declared.report.Shown.{Shown}
+use Rattle.tpw_runs.specs.Lines.{entries_text}
+use Rattle.tpw_runs.specs.Reports.{ShowsAll}
+use Rattle.tpw_runs.specs.Shown.{all_unshown}
+use Rattle.tpw_runs.specs.Tallies.{nothing_counted, with_entries}
 
 -- A packet's run alone ends by stopp within the budget. What became of the packet is that run's result, or a loss where
 -- its trace is longer than it may be.
@@ -32,10 +34,21 @@ pub record AreReady {D : Type 0} (state : D → DeviceState) (image : ImageValue
   pub most : length links ≤ most_members
   pub take : All (TakeAll image) (map (devices_of state) links)
 
--- Packets were run: what is shown of their results, in order of number from 0, is written, and they are counted.
-pub record HasRun (image : Accepted) (form : Form) (packets : List (List ℕ)) (before after : Option (List ℕ))
-    (tally : Tally) : Type 0 where
+-- Packets were run: a report shows them and their results, in order, and what it shows is written.
+pub record HasRun {R : Type 0} (text : R → List ℕ → Entry → List ℕ) (becomes : R → List ℕ → Entry → R → Type 0)
+    (image : Accepted) (packets : List (List ℕ)) (before after : Option (List ℕ)) (old new : R) : Type 0 where
   pub entries : List Entry
   pub results : AreResults image.image image.budget packets entries
-  pub shown : Appends before after (entries_text form image.budget 0 entries)
-  pub counted : tally ≡ with_entries form nothing_counted 0 entries
+  pub written : List ℕ
+  pub shown : ShowsAll text becomes old packets entries written new
+  pub appended : Appends before after written
+
+-- Packets were run: what a form shows of their results, in order of number from 0, is written. They are counted, and
+-- the losses of which the form shows nothing are kept.
+pub record HasShown (image : Accepted) (form : Form) (packets : List (List ℕ)) (before after : Option (List ℕ))
+    (shown : Shown) : Type 0 where
+  pub entries : List Entry
+  pub results : AreResults image.image image.budget packets entries
+  pub written : Appends before after (entries_text form image.budget 0 entries)
+  pub counted : shown.tally ≡ with_entries form nothing_counted entries
+  pub losses : shown.unshown.items ≡ all_unshown form 0 entries

@@ -1,23 +1,23 @@
 //! Batches, one behind another.
 
-ghost use Rattle.std.specs.Prelude.{◌≡◌, ◌≤◌, ◌<◌, ◌+◌, ◌*◌, ◌^◌, All, IfOk, OnOk, length, map, true};
+ghost use Rattle.std.specs.Prelude.{◌≡◌, ◌≤◌, ◌<◌, ◌+◌, ◌++◌, ◌*◌, ◌^◌, ℕ, List, All, IfOk, OnOk, length, map, true};
 ghost use Rattle.std.specs.Io.KnownBytes.{Appends};
 ghost use Rattle.tp_farm.specs.Refused.{IsEnvironmental};
-ghost use Rattle.tpw_run_text.specs.Lines.{entries_text};
+ghost use Rattle.tpw_runs.specs.Reports.{ShowsAll};
 ghost use Rattle.tpw_runs.specs.Results.{AreResults, AreReady, HasRun};
 
 use crate::fault::RunFault;
-use std::alloc::Global;
+use crate::report::Report;
+use std::alloc::{AllocError, Global};
 use std::io::Write;
 use std::mem;
 use std::sync::Wait;
 use std::thread::Threads;
 use tp_accept::Accepted;
-use tp_collect::Collected;
+use tp_collect::{Collected, Entry};
 use tp_farm::{FarmFault, Gate, Job, run_batch};
 use tp_link::{LinkDevice, Links};
 use tp_stream::{MAX_PACKETS, Packet};
-use tpw_run_text::{Form, Tally, write_entries};
 
 /// Why a batch that has begun gives nothing.
 fn fault_of(fault: FarmFault) -> RunFault
@@ -56,22 +56,44 @@ fn run_one<R: Threads + Wait + Sync, D: LinkDevice + Send, G: Gate>(
     }
 }
 
-/// Writes what is shown of a batch, and flushes it. The text takes the room of the one before.
-fn write_batch<W: Write>(
-    writer: &mut W,
-    room: &mut Vec<u8>,
-    form: Form<'_>,
-    budget: u32,
-    number: usize,
-    collected: &Collected,
-) -> Result<(), RunFault>
-    requires { number + length collected.now < 2 ^ 63 }
-    ensures { OnOk result (Appends (W.contents writer.old) (W.contents writer.new)
-        (entries_text form.entry budget number collected.now)) }
+/// Messages as packets of a batch.
+fn batch_of(alloc: Global, messages: &[Vec<u8>]) -> Result<Vec<Packet>, AllocError>
+    requires { All (λ m. length m.items ≤ 256) messages.now }
+    ensures { IfOk result (λ packets. map (λ p. p.items) packets.items ≡ map (λ m. m.items) messages.now) }
 {
-    room.clear();
-    write_entries(room, form, budget, number, &collected.entries)?;
-    if writer.write_all(room).is_err() {
+    let mut packets = Vec::with_capacity(alloc, messages.len())?;
+    for message in messages {
+        let mut packet = Packet::new();
+        let _ = packet.try_extend_from_slice(message);
+        packets.push(packet)?;
+    }
+    Ok(packets)
+}
+
+/// Appends what a report shows of the packets of a batch.
+fn show_batch<S: Report>(
+    report: &mut S,
+    out: &mut Vec<u8>,
+    packets: &[Vec<u8>],
+    entries: &[Entry],
+) -> Result<(), AllocError>
+    requires room { S.count report.old + length entries.now < 2 ^ 63 }
+    requires each { length entries.now ≡ length packets.now }
+    ensures count { OnOk result (S.count report.new ≡ S.count report.old + length entries.now) }
+    ensures shown { OnOk result ((shown : List ℕ) × (out.new.items ≡ out.old.items ++ shown)
+        × ShowsAll S.text S.becomes report.old (map (λ p. p.items) packets.now) entries.now shown report.new) }
+{
+    for (i, entry) in entries.iter().enumerate() {
+        report.show(out, &packets[i], entry)?;
+    }
+    Ok(())
+}
+
+/// Writes what is shown of a batch, and flushes it.
+fn write_shown<W: Write>(writer: &mut W, shown: &[u8]) -> Result<(), RunFault>
+    ensures { OnOk result (Appends (W.contents writer.old) (W.contents writer.new) shown.now) }
+{
+    if writer.write_all(shown).is_err() {
         return Err(RunFault::Write);
     }
     match writer.flush() {
@@ -81,37 +103,40 @@ fn write_batch<W: Write>(
 }
 
 /// Runs packets of the image's length on the members that the links make, in batches of at most 1,024, one behind
-/// another, and writes what is shown of each batch once it has ended. Packets are numbered from 0, through all batches.
-pub fn run_packets<R: Threads + Wait + Sync, D: LinkDevice + Send, G: Gate, W: Write>(
+/// another. What the report shows of a batch is written once the batch has ended.
+pub fn run_packets<R: Threads + Wait + Sync, D: LinkDevice + Send, G: Gate, S: Report, W: Write>(
     rt: &R,
     alloc: Global,
     image: &Accepted,
-    packets: &[Packet],
+    packets: &[Vec<u8>],
     mut links: Vec<Links<D>>,
     gate: &G,
-    form: Form<'_>,
+    report: &mut S,
     writer: &mut W,
-) -> Result<Tally, RunFault>
+) -> Result<(), RunFault>
     requires open { G.open_for_good gate.now ≡ true }
     requires ready { AreReady D.state image.now.image links.items }
     requires whole { All (λ p. length p.items ≡ 4 * image.now.image.packet) packets.now }
-    ensures { IfOk result (HasRun image.now form.entry (map (λ p. p.items) packets.now)
-        (W.contents writer.old) (W.contents writer.new)) }
+    requires new { S.count report.old ≡ 0 }
+    ensures { OnOk result (HasRun S.text S.becomes image.now (map (λ p. p.items) packets.now)
+        (W.contents writer.old) (W.contents writer.new) report.old report.new) }
 {
-    let mut tally = Tally::new();
-    let mut room = Vec::new(alloc);
+    let mut shown = Vec::new(alloc);
     let mut number = 0usize;
     while number < packets.len() {
         let count = (packets.len() - number).min(MAX_PACKETS as usize);
+        let messages = &packets[number..number + count];
+        let batch = batch_of(alloc, messages)?;
         let job = Job {
             batch: number as u64,
             image,
-            packets: &packets[number..number + count],
+            packets: &batch,
         };
         let collected = run_one(rt, alloc, &job, &mut links, gate)?;
-        write_batch(writer, &mut room, form, image.budget(), number, &collected)?;
-        tally.add_all(form, number, &collected.entries);
+        shown.clear();
+        show_batch(report, &mut shown, messages, &collected.entries)?;
+        write_shown(writer, &shown)?;
         number += count;
     }
-    Ok(tally)
+    Ok(())
 }

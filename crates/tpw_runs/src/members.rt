@@ -1,10 +1,12 @@
 //! The members that run packets.
 
-ghost use Rattle.std.specs.Prelude.{◌≡◌, ◌≤◌, ◌*◌, All, IfOk, length, map, true};
-ghost use Rattle.tpw_runs.specs.Results.{HasRun};
+ghost use Rattle.std.specs.Prelude.{◌≡◌, ◌≤◌, ◌*◌, All, IfOk, OnOk, length, map, true};
+ghost use Rattle.tpw_runs.specs.Results.{HasRun, HasShown};
 
 use crate::batches::run_packets;
 use crate::fault::RunFault;
+use crate::form::Form;
+use crate::report::{Report, Shown};
 use std::alloc::Global;
 use std::io::Write;
 use std::sync::Wait;
@@ -13,28 +15,50 @@ use tp_accept::Accepted;
 use tp_collect::limits::MAX_MESSAGE;
 use tp_farm::Gate;
 use tp_link::{boxed, media_of};
-use tp_stream::Packet;
-use tpw_run_text::{Form, Tally};
 
 /// Runs packets as [`run_packets`] does, on members of its own: 1 to 64.
-pub fn run_on_members<R: Threads + Wait + Sync, G: Gate, W: Write>(
+pub fn run_on_members<R: Threads + Wait + Sync, G: Gate, S: Report, W: Write>(
     rt: &R,
     alloc: Global,
     image: &Accepted,
-    packets: &[Packet],
+    packets: &[Vec<u8>],
     members: usize,
     gate: &G,
-    form: Form<'_>,
+    report: &mut S,
     writer: &mut W,
-) -> Result<Tally, RunFault>
+) -> Result<(), RunFault>
     requires least { 1 ≤ members }
     requires most { members ≤ 64 }
     requires open { G.open_for_good gate.now ≡ true }
     requires whole { All (λ p. length p.items ≡ 4 * image.now.image.packet) packets.now }
-    ensures { IfOk result (HasRun image.now form.entry (map (λ p. p.items) packets.now)
-        (W.contents writer.old) (W.contents writer.new)) }
+    requires new { S.count report.old ≡ 0 }
+    ensures { OnOk result (HasRun S.text S.becomes image.now (map (λ p. p.items) packets.now)
+        (W.contents writer.old) (W.contents writer.new) report.old report.new) }
 {
     let mut media = media_of(alloc, members, MAX_MESSAGE)?;
     let links = boxed(alloc, &mut media)?;
-    run_packets(rt, alloc, image, packets, links, gate, form, writer)
+    run_packets(rt, alloc, image, packets, links, gate, report, writer)
+}
+
+/// Runs packets on members of its own, and writes what became of each in a form. Packets are numbered from 0.
+pub fn run_in_form<'e, R: Threads + Wait + Sync, G: Gate, W: Write>(
+    rt: &R,
+    alloc: Global,
+    image: &Accepted,
+    packets: &[Vec<u8>],
+    members: usize,
+    gate: &G,
+    form: Form<'e>,
+    writer: &mut W,
+) -> Result<Shown<'e>, RunFault>
+    requires least { 1 ≤ members }
+    requires most { members ≤ 64 }
+    requires open { G.open_for_good gate.now ≡ true }
+    requires whole { All (λ p. length p.items ≡ 4 * image.now.image.packet) packets.now }
+    ensures { IfOk result (HasShown image.now form.entry (map (λ p. p.items) packets.now)
+        (W.contents writer.old) (W.contents writer.new)) }
+{
+    let mut shown = Shown::new(alloc, form, image.budget());
+    run_on_members(rt, alloc, image, packets, members, gate, &mut shown, writer)?;
+    Ok(shown)
 }

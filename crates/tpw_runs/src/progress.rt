@@ -71,6 +71,13 @@ impl<'r, R: Clock + Eprint> Progress<'r, R> {
         }
     }
 
+    /// Counts one packet more that is finished.
+    pub fn add(&self) {
+        if let Some(start) = self.start {
+            self.count(start);
+        }
+    }
+
     /// Clears the line on which it was shown.
     pub fn clear(&self) {
         if self.start.is_some() {
@@ -93,8 +100,6 @@ impl<R: Clock + Eprint + Sync> Gate for Progress<'_, R> {
     fn claimed(&self, _member: u32, _number: u32) {}
 
     fn finished(&self, _member: u32, _number: u32) {
-        if let Some(start) = self.start {
-            self.count(start);
-        }
+        self.add();
     }
 }

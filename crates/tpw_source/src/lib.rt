@@ -3,11 +3,9 @@
 #![tactic(auto)]
 
 mod fault;
-mod near;
 mod report;
 mod source;
 
 pub use fault::ShowFault;
-pub use near::nearest;
 pub use report::{Reported, Spot, write_report};
 pub use source::{Indexed, Label, LoopName, Named, Names, SourceText, Statement, WordName};

@@ -1,7 +1,7 @@
 //! Where the steps of runs go.
 
-ghost use Rattle.std.specs.Prelude.{IfOk};
-ghost use Rattle.tpw_step.specs.Profiles.{AddsUp};
+ghost use Rattle.std.specs.Prelude.{◌≡◌, ◌+◌, ◌<◌, ◌^◌, ℕ, IfOk, length, slice_index_or};
+ghost use Rattle.tpw_step.specs.Profiles.{AddsUp, sums};
 
 use crate::prefixes::prefixes_at;
 use crate::run::{MOST_INSTRUCTIONS, ROOM};
@@ -27,16 +27,29 @@ pub enum RunEnd {
     Stopped,
     /// No step exists, at this address.
     Stuck(i64),
-    /// A device refused a call.
+    /// A device refused a call, as the trace does beyond the bytes that a farm keeps of a packet.
     Refused(LinkFault),
     /// The most instructions were run.
     Unended,
 }
 
+/// Adds each of some numbers to that at its place.
+fn add_each(counts: &mut [u64], more: &[u64])
+    requires long { length more.now ≡ length counts.old }
+    requires fits { (i : ℕ) → i < length counts.old
+        → slice_index_or counts.old i 0 + slice_index_or more.now i 0 < 2 ^ 64 }
+    ensures { counts.new ≡ sums counts.old more.now }
+{
+    for i in 0..counts.len() {
+        counts[i] += more[i];
+    }
+}
+
 impl Profile {
     /// No steps of an image.
     pub fn new(alloc: Global, image: &Image) -> Result<Profile, AllocError>
-        ensures { IfOk result AddsUp }
+        ensures adds_up { IfOk result AddsUp }
+        ensures long { IfOk result (λ profile. length profile.counts.items ≡ length image.now.code) }
     {
         Ok(Profile {
             counts: vec![in alloc; 0; image.code.len()]?,
@@ -48,7 +61,8 @@ impl Profile {
     #[tactic(auto, using(crate::proofs::Counting::counted_more))]
     fn count(&mut self, at: usize, steps: u64)
         requires { AddsUp self.old }
-        ensures { AddsUp self.new }
+        ensures adds_up { AddsUp self.new }
+        ensures long { length self.new.counts.items ≡ length self.old.counts.items }
     {
         let Some(count) = self.counts.get(at).copied() else {
             return;
@@ -60,14 +74,22 @@ impl Profile {
         self.counts[at] = more;
         self.steps = all;
     }
-}
 
-/// Empties a device, which has room again.
-fn drain<D: LinkDevice>(device: &mut D) {
-    let mut bytes = [0; ROOM];
-    let held = device.held().min(ROOM);
-    if 0 < held {
-        let _ = device.receive(&mut bytes[..held]);
+    /// Adds the steps of another profile of the same image. If the two have 2^64 steps or more, nothing is added.
+    pub fn add(&mut self, other: &Profile)
+        requires mine { AddsUp self.old }
+        requires others { AddsUp other.now }
+        requires long { length other.now.counts.items ≡ length self.old.counts.items }
+        ensures adds_up { AddsUp self.new }
+        ensures long { length self.new.counts.items ≡ length self.old.counts.items }
+        ensures counts { self.old.steps + other.now.steps < 2 ^ 64
+            → self.new.counts.items ≡ sums self.old.counts.items other.now.counts.items }
+        ensures steps { self.old.steps + other.now.steps < 2 ^ 64 → self.new.steps ≡ self.old.steps + other.now.steps }
+    {
+        if let Some(steps) = self.steps.checked_add(other.steps) {
+            add_each(&mut self.counts, &other.counts);
+            self.steps = steps;
+        }
     }
 }
 
@@ -78,7 +100,9 @@ fn count_one<D: LinkDevice>(
     profile: &mut Profile,
 ) -> Option<RunEnd>
     requires { AddsUp profile.old }
-    ensures { AddsUp profile.new }
+    ensures adds_up { AddsUp profile.new }
+    ensures long { length profile.new.counts.items ≡ length profile.old.counts.items }
+    ensures image { stepper.new.image ≡ stepper.old.image }
 {
     let at = stepper.registers().iptr;
     match stepper.next(links) {
@@ -91,7 +115,6 @@ fn count_one<D: LinkDevice>(
     if let Ok(at) = usize::try_from(at) {
         profile.count(at, bytes);
     }
-    drain(&mut links.trace);
     None
 }
 
@@ -103,7 +126,9 @@ pub fn count_run(
     profile: &mut Profile,
 ) -> Result<RunEnd, AllocError>
     requires { AddsUp profile.old }
-    ensures { AddsUp profile.new }
+    ensures adds_up { AddsUp profile.new }
+    ensures long { length profile.new.counts.items ≡ length profile.old.counts.items }
+    ensures image { stepper.new.image ≡ stepper.old.image }
 {
     let mut media = Media::with_rooms(alloc, packet.len(), ROOM, ROOM)?;
     let mut links = media.wires();

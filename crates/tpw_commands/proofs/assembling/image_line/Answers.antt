@@ -1,4 +1,4 @@
-use Rattle.std.proofs.Common.{◌≡◌, List, ℕ, Bor, string_bytes, ap}
+use Rattle.std.proofs.Common.{List, ℕ, Bor, string_bytes, ap}
 use Rattle.std.specs.Option.{option_map}
 use Rattle.tpw_commands.proofs.Lines.{behind_name}
 use Rattle.tpw_commands.proofs.assembling.image_line.Goals as goal

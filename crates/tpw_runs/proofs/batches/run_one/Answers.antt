@@ -1,8 +1,7 @@
-use Rattle.std.proofs.Common.{◌≡◌, ◌≤◌, None, All, IfErr, map, length, refl, sym, subst, ap, ◌∙◌, true, arith}
+use Rattle.std.proofs.Common.{◌≡◌, All, map, length, sym, subst, ap, ◌∙◌, arith}
 use Rattle.tp_outcome.specs.Devices.{devices_of}
 use Rattle.tp_accept.proofs.NeverWrong.{never_goes_wrong_of}
 use Rattle.tp_farm.specs.Jobs.{value_of_job}
-use Rattle.tp_farm.specs.Refused.{job_fault}
 use Rattle.tp_farm.specs.Promised.{TakeAll}
 use Rattle.tp_farm.proofs.Promising.{loses_long_traces}
 use Rattle.tpw_runs.proofs.Begun.{job_begins}

@@ -1,46 +1,97 @@
-use Rattle.std.proofs.Common.{◌≡◌, ◌≤◌, ◌+◌, ◌++◌, ◌∙◌, ap, sym, subst, map, take, drop, length, arith}
+use Rattle.std.proofs.Common.{[], ◌≡◌, ◌≤◌, ◌*◌, ◌+◌, ◌-◌, ◌++◌, ◌∙◌, All, ap, sym, subst, map, take, drop, length, arith, refl}
 use Rattle.std.specs.Io.KnownBytes.{Appends}
+use Rattle.std.specs.Coded.{le_prop}
 use Rattle.std.proofs.KnownBytes.{Appends-trans}
+use Rattle.std.proofs.Math.Logic.{∥∥₁_elim}
 use Rattle.std.proofs.lemmas.List.{length-map}
-use Rattle.tpw_run_text.specs.Lines.{entries_text}
-use Rattle.tpw_run_text.specs.Tallies.{nothing_counted, with_entries}
+use Rattle.std.proofs.lemmas.List.Elements.{All-drop, All-take, All-weaker}
+use Rattle.tpw_runs.specs.Reports.{ShowsAll}
 use Rattle.tpw_runs.proofs.Results.{as_many_results}
-use Rattle.tpw_runs.proofs.Written.{text_and, counted_and, batch_more, of_slice, long_taken, long_batch}
+use Rattle.tpw_runs.proofs.Showing.{shows_and}
+use Rattle.tpw_runs.proofs.Behind.{appends_none, taken_and, batch_more, of_slice, long_batch, same_all}
 use Rattle.tpw_runs.proofs.batches.run_packets.Goals as goal
+
+pub loop-number-init : goal.loop-number-init
+loop-number-init g c = (
+  omega arith,
+  c.requires.new,
+  c.requires.ready,
+  ([], [], tt, (refl, refl), appends_none (g.W.Write.contents c.args.writer.now)),
+)
+
+pub batch_of-requires : goal.batch_of-requires
+batch_of-requires g c =
+    let image = c.args.image.now in
+    let short : 4 * image.image.packet ≤ 256 = ∥∥₁_elim image.acceptable le_prop (λ a. omega (arith, a.in_range.packet.1)) in
+    let n = c.loop-number.number in
+    All-take (λ m. length m.items ≤ 256) ((n + c.min-count.result) - n) (drop n c.args.packets.now)
+    (All-drop (λ m. length m.items ≤ 256) n c.args.packets.now
+    (All-weaker (λ m. length m.items ≡ 4 * image.image.packet) (λ m. length m.items ≤ 256) (λ m is. omega (arith, is, short))
+    c.args.packets.now c.requires.whole))
+
+pub run_one-requires-clause-whole : goal.run_one-requires-clause-whole
+run_one-requires-clause-whole g c κs within =
+    let words = 4 * c.args.image.now.image.packet in
+    let n = c.loop-number.number in
+    let m = (n + c.min-count.result) - n in
+    subst (All (λ p. length p.items ≡ words)) (sym c.deref.ensures.value)
+    (same_all (λ p. p.items) (λ q. q.items) (λ l. length l ≡ words) c.in_ok-batch.batch.items (take m (drop n c.args.packets.now))
+    c.in_ok-batch.ensures
+    (All-take (λ q. length q.items ≡ words) m (drop n c.args.packets.now)
+    (All-drop (λ q. length q.items ≡ words) n c.args.packets.now c.requires.whole)))
+
+pub show_batch-requires-clause-each : goal.show_batch-requires-clause-each
+show_batch-requires-clause-each g c =
+    let image = c.args.image.now in
+    let n = c.loop-number.number in
+    let m = (n + c.min-count.result) - n in
+    let messages = take m (drop n c.args.packets.now) in
+    let seen = c.deref-in-loop-number.ensures.value ∙ c.collected.view_is in
+    let many = as_many_results image.image image.budget (map (λ p. p.items) c.deref.result.now) c.in_ok-collected.collected
+    c.in_ok-collected.ensures.results in
+    ap length seen ∙ many
+    ∙ ap (λ ps. length (map (λ p. p.items) ps)) c.deref.ensures.value ∙ ap length c.in_ok-batch.ensures
+    ∙ length-map messages (λ q. q.items)
 
 pub loop-number-preserved : goal.loop-number-preserved
 loop-number-preserved g c =
+    let report = g.S.Report in
+    let contents = g.W.Write.contents in
     let image = c.args.image.now in
-    let form = c.args.form in
     let n = c.loop-number.number in
     let m = c.min-count.result in
     let all = map (λ p. p.items) c.args.packets.now in
     let so_far = c.loop-number.invariant.3 in
     let entries = so_far.0 in
+    let written = so_far.1 in
     let more = c.in_ok-collected.collected in
     let within : n + m ≤ length c.args.packets.now = omega (arith, c.min-count.ensures, c.loop-number-test.true) in
     let long : length all ≡ length c.args.packets.now = length-map c.args.packets.now (λ p. p.items) in
+    let slice = of_slice (λ p. p.items) n m c.args.packets.now in
+    let batch : map (λ p. p.items) c.deref.result.now ≡ take m (drop n all) =
+    ap (map (λ p. p.items)) c.deref.ensures.value ∙ c.in_ok-batch.ensures ∙ slice in
     let results = c.in_ok-collected.ensures.results in
-    let batch = batch_more image.image image.budget n m all _ entries more (of_slice (λ p. p.items) n m c.args.packets.now) so_far.1 results in
-    let many : length entries ≡ n =
-    as_many_results image.image image.budget (take n all) entries so_far.1 ∙ long_taken n all (omega (arith, long, c.loop-number.invariant.0)) in
+    let both = batch_more image.image image.budget n m all _ entries more batch so_far.2 results in
     let others : length more ≡ m =
-    as_many_results image.image image.budget _ more results ∙ ap length (of_slice (λ p. p.items) n m c.args.packets.now)
-    ∙ long_batch n m all (omega (arith, long, within)) in
-    let seen : c.deref.result.now ≡ more = c.deref.ensures.value ∙ c.collected.view_is in
-    let from : 0 + length entries ≡ n = omega (arith, many) in
-    let text : entries_text form image.budget 0 entries ++ entries_text form c.budget.result n more ≡ entries_text form image.budget 0 (entries ++ more) =
-    ap (λ b. entries_text form image.budget 0 entries ++ entries_text form b n more) c.budget.ensures.value
-    ∙ ap (λ k. entries_text form image.budget 0 entries ++ entries_text form image.budget k more) (sym from)
-    ∙ sym (text_and form image.budget 0 entries more) in
-    let shown = Appends-trans _ _ _ _ _ so_far.2 c.in_ok-write_batch.ensures in
-    let counted =
-    c.add_all.ensures.tally ∙ ap (with_entries form c.loop-number.tally n) seen
-    ∙ ap (λ t. with_entries form t n more) so_far.3 ∙ ap (λ k. with_entries form (with_entries form nothing_counted 0 entries) k more) (sym from)
-    ∙ sym (counted_and form nothing_counted 0 entries more) in (
+    as_many_results image.image image.budget _ more results ∙ ap length batch ∙ long_batch n m all (omega (arith, long, within)) in
+    let seen : c.deref-in-loop-number.result.now ≡ more = c.deref-in-loop-number.ensures.value ∙ c.collected.view_is in
+    let shown = c.in_ok-show_batch.ensures.shown in
+    let text = shown.0 in
+    let here : ShowsAll report.text report.becomes c.loop-number.report (take m (drop n all)) more text c.show_batch.new.report =
+    subst (λ ps. ShowsAll report.text report.becomes c.loop-number.report ps more text c.show_batch.new.report) slice
+    (subst (λ es. ShowsAll report.text report.becomes c.loop-number.report (map (λ p. p.items) (take ((n + m) - n) (drop n c.args.packets.now))) es text c.show_batch.new.report) seen shown.2) in
+    let joined : ShowsAll report.text report.becomes c.args.report.now (take (n + m) all) (entries ++ more) (written ++ text) c.show_batch.new.report =
+    subst (λ ps. ShowsAll report.text report.becomes c.args.report.now ps (entries ++ more) (written ++ text) c.show_batch.new.report)
+    (sym (taken_and n m all))
+    (shows_and report.text report.becomes c.args.report.now c.loop-number.report c.show_batch.new.report (take n all)
+    (take m (drop n all)) entries more written text so_far.3 here) in
+    let out : c.deref-in-loop-number-2.result.now ≡ text =
+    c.deref-in-loop-number-2.ensures.value ∙ shown.1 ∙ ap (λ l. l ++ text) c.clear.ensures.items in
+    let appended =
+    Appends-trans _ _ _ written text so_far.4
+    (subst (Appends (contents c.loop-number.writer) (contents c.write_shown.new.writer)) out c.in_ok-write_shown.ensures) in (
       within,
-      omega (arith, c.add_all.ensures.all, ap length seen, others, c.loop-number.invariant.1),
+      omega (arith, c.in_ok-show_batch.ensures.count, ap length seen, others, c.loop-number.invariant.1),
       c.in_ok-collected.ensures.ready,
-      (entries ++ more, batch, subst (Appends (g.W.Write.contents c.args.writer.now) (g.W.Write.contents c.write_batch.new.writer)) text shown, counted),
-      c.add_all.ensures.differing,
+      (entries ++ more, written ++ text, both, joined, appended),
     )

@@ -1,0 +1,24 @@
+//! `occam`, as the command line has it.
+
+use crate::command_line::arguments::file_argument;
+use clap::{Command, Error};
+use std::alloc::Global;
+
+/// The name of the command.
+pub const OCCAM: &str = "occam";
+
+/// What `tpw occam --help` says below the options.
+const OCCAM_LINES: &str = "\
+Reads a text in occam, and writes the assembly text that it becomes, each statement behind its line of occam. asm makes the
+same image of both.
+Status 1: the text says no worker; standard error names each place, FILE:LINE:COLUMN, and the fault.
+docs/OCCAM.md has the language.";
+
+/// `occam`, as the command line has it.
+pub fn occam_command<'a>(alloc: Global) -> Result<Command<'a>, Error> {
+    let command = Command::new(alloc, OCCAM)
+        .about("Makes an assembly text of one in occam")
+        .after_help(OCCAM_LINES)
+        .arg(file_argument(alloc))?;
+    Ok(command)
+}

@@ -1,4 +1,0 @@
--- What a reader must believe: clauses of public calls cite it.
-pub mod Packets
-pub mod Lines
-pub mod Tallies
