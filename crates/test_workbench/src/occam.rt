@@ -413,7 +413,9 @@ where
     let image = unwrap(rt, accept(alloc, unwrap(rt, ran).bytes));
     let meant = read_occam(alloc, &mut errors, &Input::Standard, other.as_bytes());
     let worker = unwrap(rt, meant).compiled.worker;
-    let packets = unwrap(rt, packets_of(alloc, "0\n2\n3\n65\n", 4, Notation::Words));
+    let bytes = image.packet_bytes();
+    let packets = packets_of(alloc, "0\n2\n3\n65\n", bytes, Notation::Words);
+    let packets = unwrap(rt, packets);
     let style = Style {
         hexadecimal: false,
         trace: true,
