@@ -23,23 +23,28 @@ use Rattle.tpw_occam_code.proofs.Keeping.{is_item-self}
 -- ---- what may be missing
 
 -- where both have an outcome, the second carries the first
-abbrev pub Carries : Site → Option Machine → Option State → Type 0
-Carries site None o = Unit {0}
-Carries site (Some m) None = Unit {0}
-Carries site (Some m) (Some s) = Corresponds site m s
+pub record Carries (site : Site) (o : Option Machine) (p : Option State) : Type 0 where
+  pub carries : (m : Machine) (s : State) → o ≡ Some m → p ≡ Some s → Corresponds site m s
+
+pub both_carry : (site : Site) (m : Machine) (s : State) → Corresponds site m s → Carries site (Some m) (Some s)
+both_carry site m s is = record {
+  carries = λ n t e f. subst (λ x. Corresponds site x t) (same_Some _ _ e) (subst (Corresponds site m) (same_Some _ _ f) is);
+}
 
 pub none_carries : (site : Site) (o : Option Machine) → Carries site o None
-none_carries site None = tt
-none_carries site (Some m) = tt
+none_carries site o = record { carries = λ m s e f. absurd cc }
+
+pub none_carried : (site : Site) (o : Option State) → Carries site None o
+none_carried site o = record { carries = λ m s e f. absurd cc }
 
 pub bind_machine : (site : Site) {A : Type 0} (o : Option A) (f : A → Option Machine) (p : Option State)
     → ((x : A) → o ≡ Some x → Carries site (f x) p) → Carries site (option_and_then f o) p
-bind_machine site None f p go = tt
+bind_machine site None f p go = none_carried site p
 bind_machine site (Some x) f p go = go x refl
 
 pub when_machine : (site : Site) (b : Bool) (o : Option Machine) (p : Option State) → (b ≡ true → Carries site o p)
     → Carries site (only_if b >> o) p
-when_machine site false o p go = tt
+when_machine site false o p go = none_carried site p
 when_machine site true o p go = go refl
 
 pub bind_state : (site : Site) {A : Type 0} (m : Option Machine) (o : Option A) (f : A → Option State)
