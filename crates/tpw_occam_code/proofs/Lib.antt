@@ -16,3 +16,4 @@ pub mod Conditions
 pub mod Naming
 pub mod Carrying
 pub mod CarryingNumbers
+pub mod CarryingMemory
