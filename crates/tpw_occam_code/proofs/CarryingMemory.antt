@@ -145,3 +145,133 @@ module _ (image : ImageValue) (site : Site) (lies : LiesIn image site) (m : Mach
       both_carry site (push (address item (4 * word)) m) (push_in (local s (pos (site.locals item + word))) s)
       (with_registers site m s (address item (4 * word)) m.areg m.breg (Some (local s (pos (site.locals item + word)))) s.areg s.breg is
       (local_is site s item word is.wptr) is.areg is.breg)
+
+  -- ---- addresses
+
+  pub ldnl_carries : (n : ℕ) → Carries site (effect (Ldnl (pos n)) m) (effect_in image (Ldnl (pos n)) s)
+  unfolding effect effect_in
+  ldnl_carries n =
+      bind_machine site (address_in m.areg) _ _ λ a is_a.
+      when_machine site (has_bytes m a.0 (a.1 + 4 * n) 4) _ _ λ has.
+      bind_state site _ s.areg _ λ a' is_a'.
+      bind_state site _ (load image s (words_on a' (pos n))) _ λ w found.
+      let there = address_held site m.areg s.areg a a' is.areg is_a is_a' in
+      let same : w ≡ word_at m.blocks a.0 (a.1 + 4 * n) =
+      word_there image site lies m s is a.0 (a.1 + 4 * n) _ w has (words_further a' (base_of site a.0) a.1 n there) found in
+      both_carry site (set_areg (number (word_at m.blocks a.0 (a.1 + 4 * n))) m) (set_areg_in w s)
+      (with_registers site m s (number (word_at m.blocks a.0 (a.1 + 4 * n))) m.breg m.creg (Some w) s.breg s.creg is same is.breg is.creg)
+
+  pub stnl_carries : (n : ℕ) → Carries site (effect (Stnl (pos n)) m) (effect_in image (Stnl (pos n)) s)
+  unfolding effect effect_in
+  stnl_carries n =
+      bind_machine site (address_in m.areg) _ _ λ a is_a.
+      bind_machine site (number_in m.breg) _ _ λ b is_b.
+      when_machine site (has_bytes m a.0 (a.1 + 4 * n) 4) _ _ λ has.
+      bind_state site _ s.areg _ λ a' is_a'.
+      bind_state site _ s.breg _ λ b' is_b'.
+      let there = address_held site m.areg s.areg a a' is.areg is_a is_a' in
+      let same : b' ≡ b = number_held site m.breg s.breg b b' is.breg is_b is_b' in
+      let at = words_on a' (pos n) in
+      store_state site _ image at b' s _
+      (both_carry site (pop_two (with_blocks (with_word a.0 (a.1 + 4 * n) b m.blocks) m)) (pop_two_in (record s { memory = with_word_at s.memory at b' }))
+      (with_registers site (with_blocks (with_word a.0 (a.1 + 4 * n) b m.blocks) m) (record s { memory = with_word_at s.memory at b' })
+      m.creg m.breg m.creg s.creg None None
+      (word_stored image site lies m s is a.0 (a.1 + 4 * n) at b b' has (words_further a' (base_of site a.0) a.1 n there) same) is.creg tt tt))
+
+  pub lb_carries : Carries site (effect Lb m) (effect_in image Lb s)
+  unfolding effect effect_in
+  lb_carries =
+      bind_machine site (address_in m.areg) _ _ λ a is_a.
+      when_machine site (has_bytes m a.0 a.1 1) _ _ λ has.
+      bind_state site _ s.areg _ λ a' is_a'.
+      when_state site _ (in_workspace image a' 1) _ λ inside.
+      bind_state site _ (s.memory a') _ λ byte found.
+      let there = address_held site m.areg s.areg a a' is.areg is_a is_a' in
+      let room = room_of site m a.0 a.1 1 is.sizes has in
+      let place = place_of image site lies a.0 a.1 1 a' (omega arith) room there in
+      let same : byte ≡ m.blocks a.0 a.1 = is.memory a.0 a.1 byte (omega (arith, room)) (ap s.memory (sym place) ∙ found) in
+      both_carry site (set_areg (number (m.blocks a.0 a.1)) m) (set_areg_in byte s)
+      (with_registers site m s (number (m.blocks a.0 a.1)) m.breg m.creg (Some byte) s.breg s.creg is same is.breg is.creg)
+
+  pub sb_carries : Carries site (effect Sb m) (effect_in image Sb s)
+  unfolding effect effect_in
+  sb_carries =
+      bind_machine site (address_in m.areg) _ _ λ a is_a.
+      bind_machine site (number_in m.breg) _ _ λ b is_b.
+      when_machine site (has_bytes m a.0 a.1 1) _ _ λ has.
+      bind_state site _ s.areg _ λ a' is_a'.
+      bind_state site _ s.breg _ λ b' is_b'.
+      when_state site _ (in_workspace image a' 1) _ λ inside.
+      let there = address_held site m.areg s.areg a a' is.areg is_a is_a' in
+      let same : b' ≡ b = number_held site m.breg s.breg b b' is.breg is_b is_b' in
+      let blocks = with_bytes a.0 a.1 (b % 256 ∷ []) m.blocks in
+      let memory = with_bytes_at s.memory a' (b' % 256 ∷ []) in
+      both_carry site (pop_two (with_blocks blocks m)) (pop_two_in (record s { memory = memory }))
+      (with_registers site (with_blocks blocks m) (record s { memory = memory }) m.creg m.breg m.creg s.creg None None
+      (with_memory site m s blocks memory is
+      (subst (λ x. Agrees site (with_bytes a.0 a.1 (x % 256 ∷ []) m.blocks) memory) same
+      (agrees_bytes image site lies m.blocks s.memory a.0 a.1 a' (b' % 256 ∷ []) is.memory there (room_of site m a.0 a.1 1 is.sizes has))))
+      is.creg tt tt)
+
+  pub bsub_carries : Carries site (effect Bsub m) (effect_in image Bsub s)
+  unfolding effect effect_in
+  bsub_carries =
+      bind_machine site (address_in m.areg) _ _ λ a is_a.
+      bind_machine site (number_in m.breg) _ _ λ b is_b.
+      bind_state site _ s.areg _ λ a' is_a'.
+      bind_state site _ s.breg _ λ b' is_b'.
+      let there = address_held site m.areg s.areg a a' is.areg is_a is_a' in
+      let same : b' ≡ b = number_held site m.breg s.breg b b' is.breg is_b is_b' in
+      let sum : low_word (pos a' +ℤ pos b') ≡ (base_of site a.0 + (a.1 + b)) % 2 ^ 32 =
+      ap (λ x. (a' + x) % 2 ^ 32) same ∙ further a' (base_of site a.0) a.1 b there in
+      both_carry site (replace_pair (address a.0 (a.1 + b)) m) (replace_pair_in (low_word (pos a' +ℤ pos b')) s)
+      (with_registers site m s (address a.0 (a.1 + b)) m.creg m.creg (Some (low_word (pos a' +ℤ pos b'))) s.creg None is sum is.creg tt)
+
+  pub wsub_carries : Carries site (effect Wsub m) (effect_in image Wsub s)
+  unfolding effect effect_in
+  wsub_carries =
+      bind_machine site (address_in m.areg) _ _ λ a is_a.
+      bind_machine site (number_in m.breg) _ _ λ b is_b.
+      bind_state site _ s.areg _ λ a' is_a'.
+      bind_state site _ s.breg _ λ b' is_b'.
+      let there = address_held site m.areg s.areg a a' is.areg is_a is_a' in
+      let same : b' ≡ b = number_held site m.breg s.breg b b' is.breg is_b is_b' in
+      let sum : words_on a' (pos b') ≡ (base_of site a.0 + (a.1 + 4 * b)) % 2 ^ 32 =
+      ap (λ x. words_on a' (pos x)) same ∙ words_further a' (base_of site a.0) a.1 b there in
+      both_carry site (replace_pair (address a.0 (a.1 + 4 * b)) m) (replace_pair_in (words_on a' (pos b')) s)
+      (with_registers site m s (address a.0 (a.1 + 4 * b)) m.creg m.creg (Some (words_on a' (pos b'))) s.creg None is sum is.creg tt)
+
+  length-bytes_at : (blocks : Blocks) (item : Item) (at n : ℕ) → length (bytes_at blocks item at n) ≡ n
+  unfolding bytes_at
+  length-bytes_at blocks item at zero = refl
+  length-bytes_at blocks item at (suc n) = ap suc (length-bytes_at blocks item (at + 1) n)
+
+  pub move_carries : Carries site (effect MoveBytes m) (effect_in image MoveBytes s)
+  unfolding effect effect_in
+  move_carries =
+      bind_machine site (number_in m.areg) _ _ λ n is_n.
+      bind_machine site (address_in m.breg) _ _ λ target is_target.
+      bind_machine site (address_in m.creg) _ _ λ source is_source.
+      when_machine site (has_bytes m source.0 source.1 n) _ _ λ has_source.
+      when_machine site (has_bytes m target.0 target.1 n) _ _ λ has_target.
+      bind_state site _ s.areg _ λ n' is_n'.
+      bind_state site _ s.breg _ λ target' is_target'.
+      bind_state site _ s.creg _ λ source' is_source'.
+      when_state site _ (has_move image.version && may_move image n' target' source') _ λ may.
+      bind_state site _ (bytes_from s.memory source' n') _ λ bytes found.
+      let count : n' ≡ n = number_held site m.areg s.areg n n' is.areg is_n is_n' in
+      let to = address_held site m.breg s.breg target target' is.breg is_target is_target' in
+      let from = address_held site m.creg s.creg source source' is.creg is_source is_source' in
+      let same : bytes ≡ bytes_at m.blocks source.0 source.1 n =
+      bytes_there image site lies m s is source.0 source.1 n source' bytes (room_of site m source.0 source.1 n is.sizes has_source) from
+      (ap (bytes_from s.memory source') (sym count) ∙ found) in
+      let long : length bytes ≡ n = ap length same ∙ length-bytes_at m.blocks source.0 source.1 n in
+      let blocks : List ℕ → Blocks = λ bs. with_bytes target.0 target.1 bs m.blocks in
+      let memory = with_bytes_at s.memory target' bytes in
+      both_carry site (with_blocks (blocks (bytes_at m.blocks source.0 source.1 n)) m) (no_registers (record s { memory = memory }))
+      (with_registers site (with_blocks (blocks (bytes_at m.blocks source.0 source.1 n)) m) (record s { memory = memory }) m.areg m.breg m.creg None None None
+      (with_memory site m s (blocks (bytes_at m.blocks source.0 source.1 n)) memory is
+      (subst (λ bs. Agrees site (blocks bs) memory) same
+      (agrees_bytes image site lies m.blocks s.memory target.0 target.1 target' bytes is.memory to
+      (omega (arith, long, room_of site m target.0 target.1 n is.sizes has_target)))))
+      tt tt tt)
