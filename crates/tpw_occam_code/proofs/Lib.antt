@@ -17,3 +17,4 @@ pub mod Naming
 pub mod Carrying
 pub mod CarryingNumbers
 pub mod CarryingMemory
+pub mod CarryingControl
