@@ -78,12 +78,12 @@ descheduled_last site o image s there = by_test (in_workspace image (s.wptr - 20
 ahead_is : (a b : ℕ) → a ≤ b → pos a +ℤ pos (b - a) ≡ pos b
 ahead_is a b h = ap pos (omega (arith, h))
 
-back_is : (a f : ℕ) → f ≤ a → pos a +ℤ (pos 0 -ℤ pos (a - f)) ≡ pos f
+pub back_is : (a f : ℕ) → f ≤ a → pos a +ℤ (pos 0 -ℤ pos (a - f)) ≡ pos f
 back_is a f h = grind (arith, ints, h)
 
 module _ (image : ImageValue) (site : Site) (lies : LiesIn image site) where
   -- what a place to deschedule leaves carries as much
-  rested : (m : Machine) (s : State) (a n : ℕ) → Corresponds site m s → Corresponds site m (no_registers (record s { memory = undefined s.memory a n }))
+  pub rested : (m : Machine) (s : State) (a n : ℕ) → Corresponds site m s → Corresponds site m (no_registers (record s { memory = undefined s.memory a n }))
   rested m s a n is =
       with_registers site m (record s { memory = undefined s.memory a n }) m.areg m.breg m.creg None None None
       (with_memory site m s m.blocks (undefined s.memory a n) is (agrees_undefined image site lies m.blocks s.memory a n is.memory))

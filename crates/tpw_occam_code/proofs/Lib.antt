@@ -18,3 +18,4 @@ pub mod Carrying
 pub mod CarryingNumbers
 pub mod CarryingMemory
 pub mod CarryingControl
+pub mod CarryingTurns
