@@ -19,3 +19,5 @@ pub mod CarryingNumbers
 pub mod CarryingMemory
 pub mod CarryingControl
 pub mod CarryingTurns
+pub mod CarryingSteps
+pub mod CarryingRuns
