@@ -21,3 +21,4 @@ pub mod CarryingControl
 pub mod CarryingTurns
 pub mod CarryingSteps
 pub mod CarryingRuns
+pub mod CarryingCode
