@@ -52,14 +52,14 @@ first_address at [] = refl
 first_address at (x ∷ lengths) = refl
 
 -- where the spelling of a line lies
-record Parts (addresses : List ℕ) (number at : ℕ) (lines : List Line) (lengths : List ℕ) (k : ℕ) (line : Line) : Type 0 where
-  before : List ℕ
-  after : List ℕ
-  joined : concat (spelled_from addresses number lines) ≡ before ++ spelled_at addresses (number + k) line ++ after
-  start : slice_index (addresses_from at lengths) k ≡ at + length before
-  next : slice_index (addresses_from at lengths) (k + 1) ≡ at + length before + length (spelled_at addresses (number + k) line)
+pub record Parts (addresses : List ℕ) (number at : ℕ) (lines : List Line) (lengths : List ℕ) (k : ℕ) (line : Line) : Type 0 where
+  pub before : List ℕ
+  pub after : List ℕ
+  pub joined : concat (spelled_from addresses number lines) ≡ before ++ spelled_at addresses (number + k) line ++ after
+  pub start : slice_index (addresses_from at lengths) k ≡ at + length before
+  pub next : slice_index (addresses_from at lengths) (k + 1) ≡ at + length before + length (spelled_at addresses (number + k) line)
 
-parts : (addresses : List ℕ) (number at : ℕ) (lines : List Line) (lengths : List ℕ) (k : ℕ) (line : Line)
+pub parts : (addresses : List ℕ) (number at : ℕ) (lines : List Line) (lengths : List ℕ) (k : ℕ) (line : Line)
     → map length (spelled_from addresses number lines) ≡ lengths → slice_get lines k ≡ Some line
     → Parts addresses number at lines lengths k line
 parts addresses number at [] lengths k line long is = cc

@@ -22,3 +22,5 @@ pub mod CarryingTurns
 pub mod CarryingSteps
 pub mod CarryingRuns
 pub mod CarryingCode
+pub mod CarryingImage
+pub mod CarryingStart
