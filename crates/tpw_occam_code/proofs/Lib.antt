@@ -24,3 +24,4 @@ pub mod CarryingRuns
 pub mod CarryingCode
 pub mod CarryingImage
 pub mod CarryingStart
+pub mod CarryingPlaces

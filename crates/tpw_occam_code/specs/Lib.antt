@@ -6,6 +6,7 @@ pub mod Blocks
 pub mod Symbolic
 pub mod Leading
 pub mod Carried
+pub mod Placing
 pub mod Ranges
 pub mod Values
 pub mod Agreement
