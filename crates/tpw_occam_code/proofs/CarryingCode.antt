@@ -47,7 +47,7 @@ index_behind (x ∷ xs) (suc k) h = index_behind xs k (omega (arith, h))
 
 -- ---- lines
 
-first_address : (at : ℕ) (lengths : List ℕ) → slice_index (addresses_from at lengths) 0 ≡ at
+pub first_address : (at : ℕ) (lengths : List ℕ) → slice_index (addresses_from at lengths) 0 ≡ at
 first_address at [] = refl
 first_address at (x ∷ lengths) = refl
 

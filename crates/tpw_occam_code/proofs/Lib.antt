@@ -25,3 +25,4 @@ pub mod CarryingCode
 pub mod CarryingImage
 pub mod CarryingStart
 pub mod CarryingPlaces
+pub mod CarryingWhole
