@@ -1,21 +1,21 @@
 -- States that carry symbolic machines: registers, flags, memory.
-use Rattle.std.proofs.Common.{◌≡◌, ◌⊎◌, inl, inr, ℕ, zero, suc, ◌+◌, ◌-◌, ◌*◌, ◌%◌, ◌^◌, ◌<◌, ◌≤◌, Bool, true, false, ◌&&◌, ◌||◌, nat_le, nat_lt, nat_eq}
+use Rattle.std.proofs.Common.{◌≡◌, ◌⊎◌, inl, inr, ℕ, zero, suc, ◌+◌, ◌-◌, ◌%◌, ◌^◌, ◌<◌, ◌≤◌, Bool, true, false, ◌&&◌, nat_le, nat_lt}
 use Rattle.std.proofs.Common.{if◌then◌else◌, ℤ, pos, List, [], ◌∷◌, length, map, replicate, Option, Some, None, refl, ap, sym, subst, ◌∙◌, arith, w32}
 use Rattle.std.proofs.Common.{slice_index_or}
 use Rattle.std.specs.Prelude.{option_and_then, slice_index}
 use Rattle.std.specs.Int.{to_le_bytes, from_le_bytes}
-use Rattle.std.proofs.lemmas.Bool.{cases_lt, eq-eqb, le-leb}
+use Rattle.std.proofs.lemmas.Bool.{cases_lt, le-leb}
 use Rattle.std.proofs.lemmas.Bool.Decides.{nat_tests}
 use Rattle.std.proofs.lemmas.Option.{same_Some}
-use Rattle.std.proofs.lemmas.List.{length-map, get_or-map, length-replicate}
+use Rattle.std.proofs.lemmas.List.{length-map, get_or-map}
 use Rattle.tp_image.specs.Image.{ImageValue}
 use Rattle.tp_step.specs.Maybe.{◌>>=◌, ◌>>◌, only_if}
 use Rattle.tp_step.specs.Memory.{Memory, with_cells, undefined, with_bytes as with_bytes_at, bytes_at as bytes_from, word_at as word_from, with_word as with_word_at}
-use Rattle.tp_step.specs.State.{State, mem_start}
+use Rattle.tp_step.specs.State.{State}
 use Rattle.tp_step.proofs.MemoryLemmas.{cell_in, cell_below, cell_above}
 use Rattle.tpw_occam_code.specs.declared.items.Item.{Item}
 use Rattle.tpw_occam_code.specs.declared.items.Item.TheVariants.{Variable, Temporary, Constant, Array, Zeros}
-use Rattle.tpw_occam_code.specs.Blocks.{Blocks, is_item, sort_of, number_of, with_bytes, bytes_at, word_at, with_word}
+use Rattle.tpw_occam_code.specs.Blocks.{Blocks, is_item, with_bytes, bytes_at, word_at, with_word}
 use Rattle.tpw_occam_code.specs.Symbolic.{Machine, Contents}
 use Rattle.tpw_occam_code.specs.Carried.{Site, base_of, LiesIn, IsHeld, Agrees, Corresponds}
 use Rattle.tpw_occam_code.proofs.Keeping.{is_item-self}

@@ -1,15 +1,13 @@
 -- The lines of a program that is assembled are spelled in its image.
-use Rattle.std.proofs.Common.{◌≡◌, ◌≢◌, ◌⊎◌, inl, inr, lit<, ℕ, zero, suc, ◌+◌, ◌-◌, ◌*◌, ◌<◌, ◌≤◌, ◌^◌, Bool, true, false, ℤ, pos, List, [], ◌∷◌, ◌++◌, length, map, take, drop}
-use Rattle.std.proofs.Common.{slice_get, slice_range, Option, Some, None, refl, ap, sym, subst, ◌∙◌, arith, length-append, append_assoc, w32}
-use Rattle.std.specs.Prelude.{slice_index, unwrap_or, sum}
+use Rattle.std.proofs.Common.{◌≡◌, ◌≢◌, ℕ, zero, suc, ◌+◌, ◌<◌, ◌≤◌, ◌^◌, pos, List, [], ◌∷◌, ◌++◌, length, map}
+use Rattle.std.proofs.Common.{slice_get, Some, refl, ap, sym, ◌∙◌, arith, length-append, append_assoc, w32}
+use Rattle.std.specs.Prelude.{slice_index}
 use Rattle.std.specs.List.{concat}
-use Rattle.std.proofs.lemmas.Bool.{cases_lt}
 use Rattle.std.proofs.lemmas.Int.{ints}
 use Rattle.std.proofs.lemmas.Option.{same_Some}
 use mir.Val.{SFits}
 use Rattle.tp_prefix.proofs.Reach.{canonical_spells}
-use Rattle.tp_prefix.proofs.ReadingLemmas.{middle}
-use Rattle.tp_decode.specs.Spelling.{IsSpelling, IsSpelledAt}
+use Rattle.tp_decode.specs.Spelling.{IsSpelling}
 use Rattle.tp_decode.specs.Table.{entry}
 use Rattle.tp_decode.specs.Lines.{shortest}
 use Rattle.tp_decode.specs.declared.instr.Instr.{Instr}
@@ -17,16 +15,8 @@ use Rattle.tp_decode.specs.declared.instr.Instr.TheVariants.{Jump, Ldlp, Ldnl, L
 use Rattle.tp_decode.specs.declared.instr.Instr.TheVariants.{Stnl, Rev, Lb, Bsub, Diff, Add, Input, Prod, Gt, Wsub}
 use Rattle.tp_decode.specs.declared.instr.Instr.TheVariants.{Output, Sub, Seterr, Csub0, Stopp, Rem, Lend, Div, BitNot}
 use Rattle.tp_decode.specs.declared.instr.Instr.TheVariants.{BitXor, Sb, Shr, Shl, Mint, BitAnd, MoveBytes, BitOr, Sum, Mul}
-use Rattle.tpw_asm.specs.declared.program.Operation.{Operation}
 use Rattle.tpw_asm.specs.declared.program.Line.{Line}
-use Rattle.tpw_asm.specs.declared.program.Line.TheVariants.{Spelled}
-use Rattle.tpw_asm.specs.Layout.{addresses_from, distance, instr_at, filled, spelled_at, spelled_from}
-use Rattle.tpw_asm.specs.Faults.{operation_fault, line_fault, first_fault}
-use Rattle.tpw_asm.proofs.LayoutLemmas.{way_is, operation_sound, sound_first}
-use Rattle.tpw_occam_code.specs.declared.code.Step.{Step}
-use Rattle.tpw_occam_code.specs.declared.code.Step.TheVariants.{Plain, Load, Store, Pointer, JumpTo, CjTo, Distance}
-use Rattle.tpw_occam_code.specs.declared.code.CodeLine.{CodeLine}
-use Rattle.tpw_occam_code.specs.Carried.{Site, address_of, operation_of, instr_of, GoesOn, IsSpelledIn}
+use Rattle.tpw_asm.specs.Layout.{addresses_from, spelled_at, spelled_from}
 
 -- ---- lists
 

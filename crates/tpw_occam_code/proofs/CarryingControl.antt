@@ -1,30 +1,25 @@
 -- Jumps, messages and the ends of turns carry over.
-use Rattle.std.proofs.Common.{◌≡◌, ◌⊎◌, inl, inr, ℕ, zero, suc, ◌+◌, ◌-◌, ◌*◌, ◌/◌, ◌%◌, ◌^◌, ◌<◌, ◌≤◌, Bool, true, false, ◌&&◌, ◌||◌, nat_le, nat_lt, nat_eq, w32}
-use Rattle.std.proofs.Common.{if◌then◌else◌, ℤ, pos, List, [], ◌∷◌, ◌++◌, length, take, drop, Option, Some, None, refl, ap, sym, subst, ◌∙◌, arith}
-use Rattle.std.specs.Prelude.{option_and_then, ◌+ℤ◌, ◌-ℤ◌, int_lt, slice_index}
-use Rattle.std.proofs.lemmas.Bool.{cases_lt}
+use Rattle.std.proofs.Common.{◌≡◌, ℕ, ◌+◌, ◌-◌, ◌*◌, ◌%◌, ◌^◌, ◌<◌, ◌≤◌, Bool, true, false, ◌&&◌, nat_le, nat_eq}
+use Rattle.std.proofs.Common.{if◌then◌else◌, pos, List, ◌++◌, length, take, drop, Option, Some, None, refl, ap, sym, subst, ◌∙◌, arith}
+use Rattle.std.specs.Prelude.{◌+ℤ◌, ◌-ℤ◌}
 use Rattle.std.proofs.lemmas.Bool.Decides.{nat_tests}
-use Rattle.std.proofs.lemmas.Int.{ints, to_z_pos}
-use Rattle.std.proofs.lemmas.Option.{same_Some}
+use Rattle.std.proofs.lemmas.Int.{ints}
 use Rattle.std.proofs.lemmas.List.{length-take-le}
-use Rattle.tp_decode.specs.Words.{signed, low_word}
-use Rattle.tp_decode.specs.declared.instr.Instr.{Instr}
-use Rattle.tp_decode.specs.declared.instr.Instr.TheVariants.{Jump, Cj, Ldc, Stopp, Input, Output, Lend}
+use Rattle.tp_decode.specs.Words.{low_word}
+use Rattle.tp_decode.specs.declared.instr.Instr.TheVariants.{Jump, Cj, Ldc, Stopp, Input, Output}
 use Rattle.tp_image.specs.Image.{ImageValue}
-use Rattle.tp_step.specs.Maybe.{◌>>=◌, ◌>>◌, only_if}
-use Rattle.tp_step.specs.Numbers.{words_on}
-use Rattle.tp_step.specs.Memory.{Memory, undefined, with_bytes as with_bytes_at, bytes_at as bytes_from, word_at as word_from, with_word as with_word_at}
-use Rattle.tp_step.specs.State.{State, in_workspace, load, store, descheduled, no_registers, push as push_in, pop as pop_in}
-use Rattle.tp_step.specs.Effects.{effect as effect_in, go, is_packet, is_result, is_trace, sent_on as sent_in, turn_ended as turn_ended_in, link0_output, link1_output, link0_input, most_trace_message}
+use Rattle.tp_step.specs.Maybe.{◌>>◌, only_if}
+use Rattle.tp_step.specs.Memory.{undefined, with_bytes as with_bytes_at, bytes_at as bytes_from}
+use Rattle.tp_step.specs.State.{State, in_workspace, descheduled, no_registers, push as push_in, pop as pop_in}
+use Rattle.tp_step.specs.Effects.{effect as effect_in, go, is_packet, sent_on as sent_in, link0_output, link1_output, link0_input, most_trace_message}
 use Rattle.tpw_asm.specs.Layout.{distance as distance_between}
-use Rattle.tpw_occam_code.specs.declared.items.Item.{Item}
 use Rattle.tpw_occam_code.specs.declared.code.Step.TheVariants.{JumpTo, CjTo, Distance}
-use Rattle.tpw_occam_code.specs.Blocks.{Blocks, with_bytes, bytes_at, word_at, with_word}
-use Rattle.tpw_occam_code.specs.Symbolic.{Machine, Contents, number, address, distance, number_in, address_in, distance_to, effect, performed, push, pop, at_place, with_blocks, has_bytes, sent_on, turn_ended}
-use Rattle.tpw_occam_code.specs.Carried.{Site, address_of, base_of, LiesIn, IsHeld, StandsFor, Agrees, Corresponds}
+use Rattle.tpw_occam_code.specs.Blocks.{Blocks, with_bytes, bytes_at}
+use Rattle.tpw_occam_code.specs.Symbolic.{Machine, distance, number_in, address_in, effect, performed, push, pop, at_place, with_blocks, has_bytes, sent_on}
+use Rattle.tpw_occam_code.specs.Carried.{Site, address_of, LiesIn, Agrees, Corresponds}
 use Rattle.tpw_occam_code.proofs.Carrying.{Carries, both_carry, none_carries, none_carried, bind_machine, when_machine, bind_state, when_state, with_registers, with_memory, with_place, agrees_bytes, agrees_undefined}
 use Rattle.tpw_occam_code.proofs.CarryingNumbers.{number_held}
-use Rattle.tpw_occam_code.proofs.CarryingMemory.{address_held, descheduled_state, store_state, room_of, word_there, bytes_there, word_stored, words_further}
+use Rattle.tpw_occam_code.proofs.CarryingMemory.{address_held, descheduled_state, room_of, bytes_there}
 
 pub with_streams : (site : Site) (m : Machine) (s : State) (x y z x' y' z' : List ℕ) (phase : ℕ) → Corresponds site m s
     → x' ≡ x → y' ≡ y → z' ≡ z

@@ -1,16 +1,15 @@
 -- Code and items lie in the image that a program is assembled to.
-use Rattle.std.proofs.Common.{◌≡◌, ◌⊎◌, inl, inr, ℕ, zero, suc, ◌+◌, ◌-◌, ◌*◌, ◌<◌, ◌≤◌, ◌^◌, ℤ, pos, List, [], ◌∷◌, ◌++◌, length, map, take, drop, replicate}
-use Rattle.std.proofs.Common.{slice_get, slice_range, Option, Some, None, refl, ap, sym, subst, ◌∙◌, arith, length-append, w32}
-use Rattle.std.specs.Prelude.{slice_index, unwrap_or}
+use Rattle.std.proofs.Common.{◌≡◌, ◌⊎◌, inl, inr, ℕ, zero, suc, ◌+◌, ◌-◌, ◌*◌, ◌<◌, ◌≤◌, ◌^◌, List, [], ◌∷◌, ◌++◌, length, map, replicate}
+use Rattle.std.proofs.Common.{slice_get, slice_range, Some, None, ap, sym, subst, ◌∙◌, arith, length-append, w32}
+use Rattle.std.specs.Prelude.{slice_index}
 use Rattle.std.specs.List.{concat}
 use Rattle.std.proofs.lemmas.Bool.{cases_lt}
 use Rattle.std.proofs.lemmas.Option.{same_Some}
 use mir.Val.{SFits}
 use Rattle.tp_prefix.proofs.ReadingLemmas.{middle}
-use Rattle.tp_decode.specs.Spelling.{IsSpelling, IsSpelledAt}
+use Rattle.tp_decode.specs.Spelling.{IsSpelling}
 use Rattle.tp_decode.specs.Table.{entry}
 use Rattle.tp_decode.specs.Lines.{shortest}
-use Rattle.tp_decode.specs.declared.instr.Instr.{Instr}
 use Rattle.tp_image.specs.declared.image.Version.{Version}
 use Rattle.tp_image.specs.declared.image.Version.TheVariants.{One, Two}
 use Rattle.tp_image.specs.Limits.{most_workspace}
@@ -20,7 +19,7 @@ use Rattle.tpw_asm.specs.declared.program.Operation.{Operation}
 use Rattle.tpw_asm.specs.declared.program.Line.{Line}
 use Rattle.tpw_asm.specs.declared.program.Line.TheVariants.{Spelled}
 use Rattle.tpw_asm.specs.declared.program.Program.{Program}
-use Rattle.tpw_asm.specs.Layout.{addresses_from, distance, instr_at, filled, spelled_at, spelled_from}
+use Rattle.tpw_asm.specs.Layout.{addresses_from, instr_at, spelled_at, spelled_from}
 use Rattle.tpw_asm.specs.Faults.{operation_fault, line_fault, first_fault}
 use Rattle.tpw_asm.specs.Assembly.{IsAssembly}
 use Rattle.tpw_asm.specs.Outcome.{AreAddresses}
@@ -31,7 +30,7 @@ use Rattle.tpw_occam_code.specs.declared.code.Step.{Step}
 use Rattle.tpw_occam_code.specs.declared.code.Step.TheVariants.{Plain, Load, Store, Pointer, JumpTo, CjTo, Distance}
 use Rattle.tpw_occam_code.specs.declared.code.CodeLine.{CodeLine}
 use Rattle.tpw_occam_code.specs.Carried.{Site, address_of, base_of, operation_of, instr_of, GoesOn, IsSpelledIn, LiesIn}
-use Rattle.tpw_occam_code.proofs.CarryingCode.{get_map, get_within, index_behind, parts, shortest_spells, small_fits}
+use Rattle.tpw_occam_code.proofs.CarryingCode.{get_map, index_behind, parts, shortest_spells, small_fits}
 
 -- the line of a program that a line of code becomes
 abbrev pub line_at : Site → CodeLine → Line

@@ -1,26 +1,23 @@
 -- Steps that read and write memory carry over.
-use Rattle.std.proofs.Common.{◌≡◌, ◌⊎◌, inl, inr, ℕ, zero, suc, ◌+◌, ◌-◌, ◌*◌, ◌/◌, ◌%◌, ◌^◌, ◌<◌, ◌≤◌, Bool, true, false, ◌&&◌, ◌||◌, nat_le, nat_lt, nat_eq}
-use Rattle.std.proofs.Common.{if◌then◌else◌, ℤ, pos, List, [], ◌∷◌, length, Option, Some, None, refl, ap, sym, subst, ◌∙◌, arith}
+use Rattle.std.proofs.Common.{◌≡◌, ℕ, zero, suc, ◌+◌, ◌-◌, ◌*◌, ◌%◌, ◌^◌, ◌<◌, ◌≤◌, Bool, true, false, ◌&&◌}
+use Rattle.std.proofs.Common.{ℤ, pos, List, [], ◌∷◌, length, Option, Some, None, refl, ap, sym, subst, ◌∙◌, arith}
 use Rattle.std.specs.Prelude.{option_and_then, ◌+ℤ◌}
-use Rattle.std.proofs.lemmas.Bool.{cases_lt}
 use Rattle.std.proofs.lemmas.Bool.Decides.{nat_tests}
-use Rattle.std.proofs.lemmas.Int.{ints}
 use Rattle.std.proofs.lemmas.Option.{same_Some}
-use Rattle.tp_decode.specs.Words.{signed, low_word}
-use Rattle.tp_decode.specs.declared.instr.Instr.{Instr}
+use Rattle.tp_decode.specs.Words.{low_word}
 use Rattle.tp_decode.specs.declared.instr.Instr.TheVariants.{Ldl, Stl, Ldlp, Ldnl, Stnl, Lb, Sb, Bsub, Wsub, MoveBytes}
 use Rattle.tp_image.specs.Image.{ImageValue}
-use Rattle.tp_step.specs.Maybe.{◌>>=◌, ◌>>◌, only_if}
+use Rattle.tp_step.specs.Maybe.{◌>>◌, only_if}
 use Rattle.tp_step.specs.Numbers.{words_on}
-use Rattle.tp_step.specs.Memory.{Memory, undefined, with_bytes as with_bytes_at, bytes_at as bytes_from, word_at as word_from, with_word as with_word_at}
+use Rattle.tp_step.specs.Memory.{undefined, with_bytes as with_bytes_at, bytes_at as bytes_from, word_at as word_from, with_word as with_word_at}
 use Rattle.tp_step.specs.State.{State, is_word, in_workspace, local, load, store, descheduled, no_registers, replace_pair as replace_pair_in, push as push_in, pop as pop_in, pop_two as pop_two_in, set_areg as set_areg_in}
 use Rattle.tp_step.specs.Effects.{effect as effect_in, has_move, may_move}
 use Rattle.tpw_occam_code.specs.declared.items.Item.{Item}
 use Rattle.tpw_occam_code.specs.declared.code.Step.TheVariants.{Load, Store, Pointer}
 use Rattle.tpw_occam_code.specs.Blocks.{Blocks, with_bytes, bytes_at, word_at, with_word}
 use Rattle.tpw_occam_code.specs.Symbolic.{Machine, Contents, number, address, distance, number_in, address_in, effect, performed, replace_pair, push, set_areg, pop, pop_two, with_blocks, has_bytes}
-use Rattle.tpw_occam_code.specs.Carried.{Site, base_of, LiesIn, IsHeld, StandsFor, Agrees, Corresponds}
-use Rattle.tpw_occam_code.proofs.Carrying.{Carries, both_carry, none_carries, bind_machine, when_machine, bind_state, when_state, with_registers, with_memory, low, bytes_read, word_read, agrees_bytes, agrees_word, agrees_undefined}
+use Rattle.tpw_occam_code.specs.Carried.{Site, base_of, LiesIn, IsHeld, Agrees, Corresponds}
+use Rattle.tpw_occam_code.proofs.Carrying.{Carries, both_carry, none_carries, bind_machine, when_machine, bind_state, when_state, with_registers, with_memory, low, bytes_read, word_read, agrees_bytes, agrees_word}
 use Rattle.tpw_occam_code.proofs.CarryingNumbers.{number_held}
 
 -- a register in which an address is

@@ -1,6 +1,6 @@
 -- Instructions on numbers carry over.
-use Rattle.std.proofs.Common.{◌≡◌, ◌⊎◌, inl, inr, ℕ, zero, suc, ◌+◌, ◌-◌, ◌*◌, ◌/◌, ◌%◌, ◌^◌, ◌<◌, ◌≤◌, Bool, true, false, ◌&&◌, ◌||◌, nat_le, nat_lt, nat_eq}
-use Rattle.std.proofs.Common.{if◌then◌else◌, ℤ, pos, List, [], ◌∷◌, Option, Some, None, refl, ap, sym, subst, ◌∙◌, arith}
+use Rattle.std.proofs.Common.{◌≡◌, ℕ, Bool, true, false, ◌&&◌, ◌||◌, nat_le}
+use Rattle.std.proofs.Common.{if◌then◌else◌, ℤ, pos, Option, Some, None, refl, ap, sym, subst, ◌∙◌}
 use Rattle.std.specs.Prelude.{int_div, int_rem, ◌+ℤ◌}
 use Rattle.std.specs.Ordering.{int_eq}
 use Rattle.std.proofs.Math.Bool.{or-false}
@@ -15,10 +15,10 @@ use Rattle.tp_step.specs.Numbers.{least_integer, minus_one, overflows, truth}
 use Rattle.tp_step.specs.State.{State, replace_pair as replace_pair_in, push as push_in, pop as pop_in, set_areg as set_areg_in}
 use Rattle.tp_step.specs.Effects.{effect as effect_in, divided as divided_in, is_shift_count}
 use Rattle.tpw_occam_core.specs.declared.arithmetic.Answer.{Answer}
-use Rattle.tpw_occam_core.specs.Arithmetic.{plain, checked, applied, divided, quotient_answer}
+use Rattle.tpw_occam_core.specs.Arithmetic.{plain, divided, quotient_answer}
 use Rattle.tpw_occam_code.specs.Symbolic.{Machine, Contents, number, address, distance, number_in, pair_answer, pair_effect, effect, raised, replace_pair, push, set_areg, pop, shifted}
-use Rattle.tpw_occam_code.specs.Carried.{Site, IsHeld, StandsFor, Corresponds}
-use Rattle.tpw_occam_code.proofs.Carrying.{Carries, both_carry, none_carries, bind_machine, when_machine, bind_state, when_state, with_registers, with_error}
+use Rattle.tpw_occam_code.specs.Carried.{Site, IsHeld, Corresponds}
+use Rattle.tpw_occam_code.proofs.Carrying.{Carries, both_carry, bind_machine, bind_state, when_state, with_registers, with_error}
 
 -- a register in which a number is
 pub number_held : (site : Site) (c : Contents) (o : Option ℕ) (n word : ℕ) → IsHeld site c o → number_in c ≡ Some n → o ≡ Some word

@@ -1,5 +1,5 @@
 -- Items that are placed one behind another have words of their own.
-use Rattle.std.proofs.Common.{◌≡◌, ℕ, ◌+◌, ◌*◌, ◌<◌, ◌≤◌, Bool, true, false, if◌then◌else◌, List, [], ◌∷◌, refl, ap, sym, ◌∙◌, arith}
+use Rattle.std.proofs.Common.{◌≡◌, ℕ, ◌+◌, ◌*◌, ◌<◌, ◌≤◌, Bool, true, false, if◌then◌else◌, List, [], ◌∷◌, refl, sym, ◌∙◌, arith}
 use Rattle.tp_image.specs.Image.{ImageValue}
 use Rattle.tp_step.specs.State.{mem_start}
 use Rattle.tpw_occam_code.specs.declared.code.CodeLine.{CodeLine}

@@ -1,23 +1,20 @@
 -- Runs carry over: what the symbolic machine gets to, a worker gets to whose run ends.
-use Rattle.std.proofs.Common.{◌≡◌, ℕ, zero, suc, ◌+◌, ◌-◌, ◌<◌, ◌≤◌, Bool, true, false, not, ◌||◌, if◌then◌else◌, ℤ, pos}
+use Rattle.std.proofs.Common.{◌≡◌, ℕ, zero, suc, ◌+◌, ◌-◌, ◌<◌, ◌≤◌, Bool, true, false, not, if◌then◌else◌, ℤ, pos}
 use Rattle.std.proofs.Common.{List, [], ◌∷◌, length, take, drop, slice_get, slice_range, Option, Some, None, refl, ap, sym, subst, ◌∙◌, arith, length-drop}
 use Rattle.std.proofs.lemmas.Option.{same_Some}
 use Rattle.std.proofs.lemmas.List.{length-take}
-use Rattle.tp_decode.specs.Words.{signed}
-use Rattle.tp_decode.specs.Spelling.{function_of, digit_of, is_pfix, is_nfix, shifted, shifted_complement, spelled, IsSpelledAt}
+use Rattle.tp_decode.specs.Spelling.{digit_of, is_pfix, is_nfix, shifted, shifted_complement, spelled}
 use Rattle.tp_decode.specs.Table.{entry}
 use Rattle.tp_image.specs.Image.{ImageValue}
 use Rattle.tp_step.specs.Maybe.{◌>>=◌, ◌>>◌, only_if}
 use Rattle.tp_step.specs.State.{State}
-use Rattle.tp_step.specs.Effects.{effect as effect_in}
 use Rattle.tp_step.specs.Steps.{code_byte, step as step_in, steps}
 use Rattle.tp_step.proofs.StepLemmas.{steps_add, stopped_stays}
 use Rattle.tp_step.proofs.SpellingLemmas.{at, HasBytesAt, instruction_runs}
-use Rattle.tpw_occam_code.specs.declared.code.Step.{Step}
 use Rattle.tpw_occam_code.specs.declared.code.CodeLine.{CodeLine}
 use Rattle.tpw_occam_code.specs.Symbolic.{Machine, performed, at_place, step, Leads, nowhere, onward}
 use Rattle.tpw_occam_code.specs.Carried.{Site, address_of, instr_of, LiesIn, Corresponds}
-use Rattle.tpw_occam_code.proofs.Carrying.{Carries, with_place}
+use Rattle.tpw_occam_code.proofs.Carrying.{with_place}
 use Rattle.tpw_occam_code.proofs.CarryingSteps.{performed_carries}
 
 true_false : ◌≡◌ {A = Bool} true false → ⊥

@@ -1,21 +1,20 @@
 -- A packet's run carries what the symbolic machine does with it.
-use Rattle.std.proofs.Common.{◌≡◌, ◌⊎◌, inl, inr, ℕ, zero, suc, ◌+◌, ◌-◌, ◌*◌, ◌<◌, ◌≤◌, ◌^◌, Bool, true, false, pos, List, [], ◌∷◌, length, map}
-use Rattle.std.proofs.Common.{slice_index_or, Option, Some, None, refl, ap, sym, subst, ◌∙◌, arith, w32}
+use Rattle.std.proofs.Common.{◌≡◌, ◌⊎◌, inl, inr, ℕ, ◌+◌, ◌-◌, ◌*◌, ◌<◌, ◌≤◌, true, false, pos, List, [], length, map}
+use Rattle.std.proofs.Common.{slice_index_or, Option, Some, None, refl, ap, sym, ◌∙◌, arith, w32}
 use Rattle.std.specs.Prelude.{flat_map}
 use Rattle.std.specs.Int.{to_le_bytes}
 use Rattle.std.proofs.lemmas.Bool.{cases_lt}
 use Rattle.std.proofs.lemmas.Option.{same_Some}
 use Rattle.std.proofs.lemmas.List.{length-map, get_or-map}
 use Rattle.tp_image.specs.Image.{ImageValue}
-use Rattle.tp_step.specs.Memory.{Memory, nothing_defined, with_cells, with_bytes as with_bytes_at}
-use Rattle.tp_step.specs.State.{State, mem_start}
+use Rattle.tp_step.specs.Memory.{nothing_defined, with_cells, with_bytes as with_bytes_at}
+use Rattle.tp_step.specs.State.{mem_start}
 use Rattle.tp_step.specs.Runs.{start, first_words, Run, RunsAlone}
 use Rattle.tp_step.proofs.MemoryLemmas.{cell_in, cell_below, cell_above}
 use Rattle.tp_step.proofs.StepLemmas.{ends_in}
 use Rattle.tpw_occam_code.specs.declared.items.Item.{Item}
-use Rattle.tpw_occam_code.specs.Blocks.{Blocks}
 use Rattle.tpw_occam_code.specs.Symbolic.{Machine, Leads}
-use Rattle.tpw_occam_code.specs.Carried.{Site, address_of, base_of, LiesIn, IsHeld, Agrees, Corresponds}
+use Rattle.tpw_occam_code.specs.Carried.{Site, address_of, base_of, LiesIn, Agrees, Corresponds}
 use Rattle.tpw_occam_code.proofs.CarryingRuns.{end_carries}
 
 -- the bytes that a workspace begins with

@@ -1,30 +1,19 @@
 -- Steps carry over: what the symbolic machine gets to, a worker gets to that ends.
-use Rattle.std.proofs.Common.{◌≡◌, ℕ, zero, suc, ◌+◌, ◌-◌, ◌<◌, ◌≤◌, Bool, true, false, not, ◌||◌, if◌then◌else◌, ℤ, pos, negsuc}
-use Rattle.std.proofs.Common.{List, [], ◌∷◌, length, take, drop, slice_get, slice_range, Option, Some, None, refl, ap, sym, subst, ◌∙◌, arith, length-drop}
-use Rattle.std.proofs.lemmas.Option.{same_Some}
-use Rattle.std.proofs.lemmas.List.{length-take}
-use Rattle.tp_decode.specs.Words.{signed}
-use Rattle.tp_decode.specs.Spelling.{function_of, digit_of, is_pfix, is_nfix, shifted, shifted_complement, spelled, IsSpelledAt}
-use Rattle.tp_decode.specs.Table.{entry}
+use Rattle.std.proofs.Common.{◌≡◌, ℕ, ◌+◌, Bool, true, false, pos, negsuc}
+use Rattle.std.proofs.Common.{Option, Some, None, refl, sym, ◌∙◌}
 use Rattle.tp_decode.specs.declared.instr.Instr.{Instr}
 use Rattle.tp_decode.specs.declared.instr.Instr.TheVariants.{Jump, Ldlp, Ldnl, Ldc, Ldnlp, Ldl, Adc, Cj, Ajw, Eqc, Stl}
 use Rattle.tp_decode.specs.declared.instr.Instr.TheVariants.{Stnl, Rev, Lb, Bsub, Diff, Add, Input, Prod, Gt, Wsub}
 use Rattle.tp_decode.specs.declared.instr.Instr.TheVariants.{Output, Sub, Seterr, Csub0, Stopp, Rem, Lend, Div, BitNot}
 use Rattle.tp_decode.specs.declared.instr.Instr.TheVariants.{BitXor, Sb, Shr, Shl, Mint, BitAnd, MoveBytes, BitOr, Sum, Mul}
 use Rattle.tp_image.specs.Image.{ImageValue}
-use Rattle.tp_step.specs.Maybe.{◌>>=◌, ◌>>◌, only_if}
 use Rattle.tp_step.specs.State.{State}
 use Rattle.tp_step.specs.Effects.{effect as effect_in}
-use Rattle.tp_step.specs.Steps.{code_byte, step as step_in, steps}
-use Rattle.tp_step.proofs.StepLemmas.{steps_add, stopped_stays}
-use Rattle.tp_step.proofs.SpellingLemmas.{at, HasBytesAt, instruction_runs}
-use Rattle.tpw_occam_core.specs.declared.arithmetic.Answer.{Answer}
 use Rattle.tpw_occam_code.specs.declared.code.Step.{Step}
 use Rattle.tpw_occam_code.specs.declared.code.Step.TheVariants.{Plain, Load, Store, Pointer, JumpTo, CjTo, Distance}
-use Rattle.tpw_occam_code.specs.declared.code.CodeLine.{CodeLine}
-use Rattle.tpw_occam_code.specs.Symbolic.{Machine, number_in, pair_answer, pair_effect, effect, performed, at_place, step, Leads, nowhere, onward}
-use Rattle.tpw_occam_code.specs.Carried.{Site, address_of, instr_of, GoesOn, LiesIn, Corresponds}
-use Rattle.tpw_occam_code.proofs.Carrying.{Carries, bind_machine, with_place}
+use Rattle.tpw_occam_code.specs.Symbolic.{Machine, number_in, pair_answer, pair_effect, effect, performed}
+use Rattle.tpw_occam_code.specs.Carried.{Site, instr_of, GoesOn, LiesIn, Corresponds}
+use Rattle.tpw_occam_code.proofs.Carrying.{Carries, bind_machine}
 use Rattle.tpw_occam_code.proofs.CarryingNumbers.{add_carries, sub_carries, mul_carries, sum_carries, diff_carries, prod_carries, bitand_carries, bitor_carries, bitxor_carries, gt_carries, div_carries, rem_carries, shl_carries, shr_carries, ldc_carries, adc_carries, eqc_carries, not_carries, rev_carries, csub0_carries, seterr_carries}
 use Rattle.tpw_occam_code.proofs.CarryingMemory.{load_carries, store_carries, pointer_carries, ldnl_carries, stnl_carries, lb_carries, sb_carries, bsub_carries, wsub_carries, move_carries}
 use Rattle.tpw_occam_code.proofs.CarryingControl.{jump_carries, cj_carries, distance_carries, stopp_carries, input_carries, output_carries}

@@ -1,23 +1,23 @@
 -- The end of a turn carries over.
-use Rattle.std.proofs.Common.{◌≡◌, ◌⊎◌, inl, inr, ℕ, zero, suc, ◌+◌, ◌-◌, ◌*◌, ◌%◌, ◌^◌, ◌<◌, ◌≤◌, Bool, true, false, nat_le, nat_eq, w32}
-use Rattle.std.proofs.Common.{if◌then◌else◌, ℤ, pos, Option, Some, None, refl, ap, sym, subst, ◌∙◌, arith}
-use Rattle.std.specs.Prelude.{option_and_then, ◌+ℤ◌, ◌-ℤ◌, int_lt}
+use Rattle.std.proofs.Common.{◌≡◌, ℕ, ◌+◌, ◌-◌, ◌%◌, ◌^◌, ◌<◌, ◌≤◌, Bool, true, false, nat_le, nat_eq, w32}
+use Rattle.std.proofs.Common.{if◌then◌else◌, pos, Option, Some, None, refl, ap, sym, subst, ◌∙◌, arith}
+use Rattle.std.specs.Prelude.{◌+ℤ◌, ◌-ℤ◌, int_lt}
 use Rattle.std.proofs.lemmas.Bool.Decides.{nat_tests}
 use Rattle.std.proofs.lemmas.Int.{to_z_pos}
 use Rattle.std.proofs.lemmas.Option.{same_Some}
 use Rattle.tp_decode.specs.Words.{signed, low_word}
 use Rattle.tp_decode.specs.declared.instr.Instr.TheVariants.{Lend}
 use Rattle.tp_image.specs.Image.{ImageValue}
-use Rattle.tp_step.specs.Maybe.{◌>>=◌, ◌>>◌, only_if}
+use Rattle.tp_step.specs.Maybe.{◌>>=◌}
 use Rattle.tp_step.specs.Numbers.{words_on}
 use Rattle.tp_step.specs.Memory.{undefined, with_word as with_word_at}
 use Rattle.tp_step.specs.State.{State, load, store, descheduled, no_registers}
 use Rattle.tp_step.specs.Effects.{effect as effect_in, go, turn_ended as turn_ended_in}
 use Rattle.tpw_occam_code.specs.declared.items.Item.{Item}
-use Rattle.tpw_occam_code.specs.Blocks.{Blocks, word_at, with_word}
+use Rattle.tpw_occam_code.specs.Blocks.{word_at, with_word}
 use Rattle.tpw_occam_code.specs.Symbolic.{Machine, Contents, number, address, distance, address_in, distance_to, effect, at_place, with_blocks, has_bytes, turn_ended}
-use Rattle.tpw_occam_code.specs.Carried.{Site, address_of, base_of, LiesIn, IsHeld, Agrees, Corresponds}
-use Rattle.tpw_occam_code.proofs.Carrying.{Carries, both_carry, none_carries, bind_machine, when_machine, bind_state, with_memory, with_place, agrees_undefined}
+use Rattle.tpw_occam_code.specs.Carried.{Site, address_of, base_of, LiesIn, IsHeld, Corresponds}
+use Rattle.tpw_occam_code.proofs.Carrying.{Carries, both_carry, bind_machine, when_machine, bind_state, with_memory, with_place, agrees_undefined}
 use Rattle.tpw_occam_code.proofs.CarryingMemory.{address_held, descheduled_state, store_state, word_there, word_stored, words_further}
 use Rattle.tpw_occam_code.proofs.CarryingControl.{rested, back_is}
 

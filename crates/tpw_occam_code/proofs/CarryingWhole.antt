@@ -1,5 +1,5 @@
 -- What the image gives that a program of code is assembled to.
-use Rattle.std.proofs.Common.{◌≡◌, ℕ, ◌+◌, ◌*◌, ◌≤◌, true, List, map, refl}
+use Rattle.std.proofs.Common.{◌≡◌, ℕ, ◌+◌, ◌*◌, ◌≤◌, true, List, refl}
 use Rattle.tp_image.specs.Image.{ImageValue}
 use Rattle.tp_step.specs.State.{mem_start}
 use Rattle.tp_step.specs.Runs.{Run, RunsAlone}

@@ -1,7 +1,7 @@
 -- What carries a symbolic machine: the states of a worker, once items and places have addresses.
 --
 -- A byte or a register that is undefined carries anything.
-use Rattle.std.specs.Prelude.{◌≡◌, ℕ, ◌+◌, ◌-◌, ◌*◌, ◌%◌, ◌^◌, ◌<◌, ◌≤◌, pos, List, length, slice_get, slice_index}
+use Rattle.std.specs.Prelude.{◌≡◌, ℕ, ◌+◌, ◌-◌, ◌*◌, ◌%◌, ◌^◌, ◌<◌, ◌≤◌, pos, List, slice_get, slice_index}
 use Rattle.std.specs.Prelude.{Option, Some, None}
 use Rattle.tp_decode.specs.Spelling.{IsSpelledAt}
 use Rattle.tp_decode.specs.Table.{entry}
