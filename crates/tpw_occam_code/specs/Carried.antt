@@ -92,7 +92,8 @@ IsHeld site contents (Some word) = StandsFor site contents word
 
 -- defined bytes of memory are those of items
 abbrev pub Agrees : Site → Blocks → Memory → Type 0
-Agrees site blocks memory = (item : Item) (k byte : ℕ) → k < site.sizes item → memory (base_of site item + k) ≡ Some byte
+Agrees site blocks memory =
+    (item : Item) (k byte : ℕ) → k < site.sizes item → memory (base_of site item + k) ≡ Some byte
     → byte ≡ blocks item k
 
 -- a state carries a symbolic machine
