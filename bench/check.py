@@ -22,7 +22,7 @@ import running  # noqa: E402
 
 # How often an image is judged that is too quick to be judged once.
 TIMES = {"increment": 20_000, "straight": 200, "jumps": 20}
-MOST_SECONDS, MOST_KIB = 0.5, 25 * 1024
+MAX_SECONDS, MAX_KIB = 0.5, 25 * 1024
 
 
 def judged(bench, image, times):
@@ -45,9 +45,9 @@ def main():
         print(f"{name}: {seconds * 1e6:.1f} microseconds of processor time, peak {peak} KiB", flush=True)
     slowest, largest = (max(it) for it in zip(*found.values()))
     print(f"the slowest {slowest:.3f} seconds, the largest peak {largest} KiB")
-    if slowest > MOST_SECONDS:
+    if slowest > MAX_SECONDS:
         sys.exit("an image takes too long")
-    if largest > MOST_KIB:
+    if largest > MAX_KIB:
         sys.exit("too much memory")
 
 

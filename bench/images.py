@@ -18,7 +18,7 @@ PICK = bytes.fromhex("10fa")
 # ldc 1, and, add
 ADD_BIT = bytes.fromhex("4124f6f5")
 
-MOST_CODE = 8192
+MAX_CODE = 8192
 WORKSPACE = 512
 # Wptr is at this word.
 START = 8
@@ -106,7 +106,7 @@ def nest(code, rows, depth, end, first=0, each=MOVED, filling=jumps_up_to):
 def moving(in_a_row, depth):
     """Loops one behind the other, each in as many others as wanted: each pass knows less of one word more."""
     code, rows = TAKE, []
-    each, room = MOVED // in_a_row, (MOST_CODE - len(SEND)) // in_a_row
+    each, room = MOVED // in_a_row, (MAX_CODE - len(SEND)) // in_a_row
     for number in range(in_a_row):
         code = nest(code, rows, depth, room * (number + 1), each * number, each)
     return image(code + SEND, rows)
@@ -114,7 +114,7 @@ def moving(in_a_row, depth):
 
 def filled(filling):
     rows = []
-    code = nest(TAKE, rows, 1, MOST_CODE - len(SEND), filling=filling)
+    code = nest(TAKE, rows, 1, MAX_CODE - len(SEND), filling=filling)
     return image(code + SEND, rows)
 
 
@@ -126,7 +126,7 @@ def behind():
     """One loop that moves the words on, and the conditional jumps behind it."""
     rows = []
     code = nest(TAKE, rows, 1, 0)
-    return image(code + jumps_up_to(code, MOST_CODE - len(SEND)) + SEND, rows)
+    return image(code + jumps_up_to(code, MAX_CODE - len(SEND)) + SEND, rows)
 
 
 def refused():
@@ -134,7 +134,7 @@ def refused():
     is refused when the last pass no longer knows the word."""
     rows = []
     pick = spelled(LDL, MOVED) + PICK
-    code = nest(TAKE, rows, 1, MOST_CODE - len(SEND) - len(pick))
+    code = nest(TAKE, rows, 1, MAX_CODE - len(SEND) - len(pick))
     return image(code + SEND[:5] + pick + SEND[5:], rows)
 
 

@@ -24,7 +24,7 @@ INCREMENT = "5450573110000C000800010001000000" + RECEIVE + "7081D0" + SEND
 # 900 times `ldc 0`, `cj 0`: 1,813 code bytes.
 JUMPS = "5450573115070C000800010001000000" + RECEIVE + "40A0" * 900 + SEND
 # Of listing: the processor time of an instruction in a long line by that in a short one, the seconds, and the memory.
-MOST_RATIO, MOST_SECONDS, MOST_KIB = 1.3, 1.0, 4 * 1024
+MAX_RATIO, MAX_SECONDS, MAX_KIB = 1.3, 1.0, 4 * 1024
 
 
 def kept(name):
@@ -113,9 +113,9 @@ def main(others):
     *_, short, long = [measure(programs, *it) for it in WORKS]
     peak = max(peak_of_listing(programs[0], *listed(it)) for it in (4000, 16_000))
     print(f"listing: peak {peak} KiB of the program alone")
-    if long.seconds > MOST_RATIO * short.seconds:
+    if long.seconds > MAX_RATIO * short.seconds:
         sys.exit("serve.py: the time of an instruction that is listed grows with its line")
-    if max(short.seconds, long.seconds) > MOST_SECONDS or peak > MOST_KIB:
+    if max(short.seconds, long.seconds) > MAX_SECONDS or peak > MAX_KIB:
         sys.exit("serve.py: listing takes too long, or too much memory")
 
 

@@ -12,7 +12,7 @@ import sys
 INT, BOOL, BYTE = 'INT', 'BOOL', 'BYTE'
 BITS = 0xFFFFFFFF
 LEAST, MOST = -0x80000000, 0x7FFFFFFF
-MOST_TRACED = 256
+MAX_TRACED = 256
 CHAINED = {'+', '*', 'PLUS', 'TIMES', '/\\', '\\/', '><', 'AND', 'OR'}
 SAME = {'REM': '\\', 'BITAND': '/\\', 'BITOR': '\\/', 'BITNOT': '~'}
 DYADIC = CHAINED | {'-', '/', '\\', 'MINUS', '<<', '>>', '=', '<>', '<', '>', '<=', '>=', 'AFTER'}
@@ -707,7 +707,7 @@ def run(tree, packet):
         own[name] = (role, of)
     machine.flag = False
     machine.block(body, own)
-    if len(machine.traced) > MOST_TRACED:
+    if len(machine.traced) > MAX_TRACED:
         return None
     return machine.result, machine.flag, bytes(machine.traced)
 

@@ -3,7 +3,7 @@
 use crate::asserts::unwrap;
 use std::alloc::Global;
 use std::process::Abort;
-use tpw_occam_syntax::{Fault, FaultKind, MOST_FAULTS, Wanted, parse};
+use tpw_occam_syntax::{Fault, FaultKind, MAX_FAULTS, Wanted, parse};
 
 /// A worker with each construct.
 const SAMPLE: &str = "-- a sample
@@ -50,7 +50,7 @@ fn is_placed(text: &str, fault: &Fault) -> bool {
 /// Asserts that a text is answered, whether or not it has faults.
 fn assert_answered(rt: &impl Abort, alloc: Global, text: &str) {
     let source = unwrap(rt, parse(alloc, text));
-    assert!(rt; source.faults.len() <= MOST_FAULTS, "{text}");
+    assert!(rt; source.faults.len() <= MAX_FAULTS, "{text}");
     for fault in &source.faults {
         assert!(rt; is_placed(text, fault), "{text}\n{fault:?}");
     }
@@ -166,7 +166,7 @@ fn levels(rt: HostRuntime) {
 fn twenty(rt: HostRuntime) {
     let text = repeated(&rt, rt.alloc(), "", "VAL x IS 1 2:\n", 30, "");
     let source = unwrap(&rt, parse(rt.alloc(), text.as_str()));
-    assert!(&rt; source.faults.len() == MOST_FAULTS);
+    assert!(&rt; source.faults.len() == MAX_FAULTS);
     for (index, fault) in source.faults.iter().enumerate() {
         assert!(&rt; fault.span.line == index.saturating_add(1));
     }

@@ -183,7 +183,7 @@ fn put_value(
 }
 
 /// The most levels of processes that are shown.
-pub(crate) const MOST_LEVELS: u32 = 100;
+pub(crate) const MAX_LEVELS: u32 = 100;
 
 /// A declaration, in brackets, of so many levels at most.
 #[cycle(processes)]

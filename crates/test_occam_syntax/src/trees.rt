@@ -1,7 +1,7 @@
 //! What each construct is read as.
 
 use crate::asserts::unwrap;
-use crate::shown::{MOST_LEVELS, put_declaration, put_expression};
+use crate::shown::{MAX_LEVELS, put_declaration, put_expression};
 use std::alloc::Global;
 use std::process::Abort;
 use tpw_occam_syntax::{Declaration, parse};
@@ -12,7 +12,7 @@ pub(crate) fn assert_read(rt: &impl Abort, alloc: Global, text: &str, shown: &st
     assert!(rt; source.faults.is_empty() && source.is_laid_out, "{text}");
     let mut found = String::new(alloc);
     for declaration in &source.declarations {
-        unwrap(rt, put_declaration(&mut found, declaration, MOST_LEVELS));
+        unwrap(rt, put_declaration(&mut found, declaration, MAX_LEVELS));
     }
     assert_eq!(rt; found.as_str(), shown, "{text}");
 }

@@ -17,7 +17,7 @@ use std::io::Read;
 use test_samples::answers::{number_in, spend_all_but};
 
 /// The most allocations that `spend_all_but` makes.
-const MOST_SPENT: u64 = 1000;
+const MAX_SPENT: u64 = 1000;
 
 /// How often it makes as many up to the one that is refused.
 const PARTS: u64 = 4;
@@ -28,7 +28,7 @@ fn main(rt: HostRuntime) -> io::Result<()> {
     let text = bytes.get(..count).unwrap_or(&[]);
     let number = number_in(text);
     for part in 0..PARTS {
-        spend_all_but(rt.alloc(), number.saturating_sub(MOST_SPENT * part));
+        spend_all_but(rt.alloc(), number.saturating_sub(MAX_SPENT * part));
     }
     let tally = if text.first() == Some(&b't') {
         tools::all(&rt, rt.alloc())

@@ -1,15 +1,15 @@
 //! What loops may do.
 
-use tp_image::limits::LOOP_ROWS;
+use tp_image::limits::MAX_LOOP_ROWS;
 
 /// The most loops of a code: the rows of an image.
-pub const MOST_LOOPS: usize = LOOP_ROWS as usize;
+pub const MAX_LOOPS: usize = MAX_LOOP_ROWS as usize;
 
 /// The most turns of a loop.
-pub const MOST_TURNS: u32 = 10_000;
+pub const MAX_TURNS: u32 = 10_000;
 
 /// The greatest index of a turn: the greatest signed word.
-pub const MOST_INDEX: u32 = 2_147_483_647;
+pub const MAX_INDEX: u32 = 2_147_483_647;
 
 /// The most loops that lie within one another.
-pub const MOST_DEPTH: usize = 4;
+pub const MAX_DEPTH: usize = 4;

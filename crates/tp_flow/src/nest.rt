@@ -8,7 +8,7 @@ ghost use Rattle.tp_flow.specs.Edges.{target};
 ghost use Rattle.tp_flow.specs.Stretches.{IsStretch};
 
 use crate::edge::{Edge, has_edge, jump_operand, jump_target};
-use crate::limits::MOST_LOOPS;
+use crate::limits::MAX_LOOPS;
 use crate::range::LoopRange;
 use arrayvec::ArrayVec;
 use std::marker::Model;
@@ -18,7 +18,7 @@ use tp_image::LoopRow;
 /// The loops of a code: a contract sees their ranges, in the order of the loop rows.
 #[derive(Debug, Drop)]
 pub struct Nest {
-    loops: ArrayVec<LoopRange, MOST_LOOPS>,
+    loops: ArrayVec<LoopRange, MAX_LOOPS>,
 }
 
 /// Addresses in a row that lie in the same loops.
@@ -126,7 +126,7 @@ impl Nest {
     }
 
     /// The numbers of the rows whose loops contain an address, rising: in a nest that passed, at most four.
-    pub fn around(&self, at: usize) -> ArrayVec<usize, MOST_LOOPS>
+    pub fn around(&self, at: usize) -> ArrayVec<usize, MAX_LOOPS>
         ensures { result.items ≡ rows_around self.now at }
     {
         let mut rows = ArrayVec::new();

@@ -7,7 +7,7 @@ ghost use Rattle.tp_flow.specs.RowRules.{crosses_earlier, shares_with_earlier, l
 ghost use Rattle.tp_flow.specs.FlowFaults.{bad_row};
 
 use crate::jumps::is_start;
-use crate::limits::{MOST_DEPTH, MOST_INDEX, MOST_TURNS};
+use crate::limits::{MAX_DEPTH, MAX_INDEX, MAX_TURNS};
 use crate::nest::Nest;
 use crate::range::LoopRange;
 use tp_decode::{Instr, Listing};
@@ -66,14 +66,14 @@ fn has_no_block(image: &Image, row: &LoopRow) -> bool
 fn turns_badly(row: &LoopRow) -> bool
     ensures { result ≡ turns_badly row.now }
 {
-    row.count < 1 || MOST_TURNS < row.count
+    row.count < 1 || MAX_TURNS < row.count
 }
 
 /// Whether the index of the last turn is not a word.
 fn counts_too_far(row: &LoopRow) -> bool
     ensures { result ≡ counts_too_far row.now }
 {
-    i64::from(MOST_INDEX) < i64::from(row.start) + i64::from(row.count) - 1
+    i64::from(MAX_INDEX) < i64::from(row.start) + i64::from(row.count) - 1
 }
 
 /// Whether a row's range is bad among those of all rows.
@@ -107,5 +107,5 @@ fn lies_too_deep(earlier: &[LoopRange], later: &[LoopRange], range: LoopRange) -
     ensures { result ≡ lies_too_deep (earlier.now ++ later.now) range }
 {
     let others = earlier.iter().chain(later.iter());
-    MOST_DEPTH <= others.filter(|other| range.lies_within(**other)).count()
+    MAX_DEPTH <= others.filter(|other| range.lies_within(**other)).count()
 }

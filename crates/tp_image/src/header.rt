@@ -121,19 +121,19 @@ impl Header {
         if !(1..=most_code as usize).contains(&self.code) {
             return refused(ImageCode::F3, CODE_AT);
         }
-        if is_outside(LEAST_WORKSPACE, most_workspace, self.workspace) {
+        if is_outside(MIN_WORKSPACE, most_workspace, self.workspace) {
             return refused(ImageCode::F4, WORKSPACE_AT);
         }
-        if self.start < LEAST_START || self.workspace <= self.start {
+        if self.start < MIN_START || self.workspace <= self.start {
             return refused(ImageCode::F5, START_AT);
         }
-        if is_outside(1, MESSAGE_WORDS, self.packet) {
+        if is_outside(1, MAX_MESSAGE_WORDS, self.packet) {
             return refused(ImageCode::F6, PACKET_AT);
         }
-        if is_outside(1, MESSAGE_WORDS, self.result) {
+        if is_outside(1, MAX_MESSAGE_WORDS, self.result) {
             return refused(ImageCode::F7, RESULT_AT);
         }
-        if self.loops > LOOP_ROWS as usize {
+        if self.loops > MAX_LOOP_ROWS as usize {
             return refused(ImageCode::F8, LOOPS_AT);
         }
         if self.initial > self.most_initial() as usize {

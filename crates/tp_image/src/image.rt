@@ -4,7 +4,7 @@ ghost use Rattle.std.specs.Prelude.{◌≡◌};
 ghost use Rattle.tp_image.specs.Image.{InRange, number_of};
 
 use crate::layout::{HEADER_BYTES_1, HEADER_BYTES_2};
-use crate::limits::{CODE_BYTES_1, CODE_BYTES_2, WORKSPACE_WORDS_1, WORKSPACE_WORDS_2};
+use crate::limits::{MAX_CODE_BYTES_1, MAX_CODE_BYTES_2, MAX_WORKSPACE_WORDS_1, MAX_WORKSPACE_WORDS_2};
 use std::marker::Model;
 
 /// A version of the image format.
@@ -36,8 +36,8 @@ impl Version {
         ensures workspace { result.1 ≡ most_workspace self }
     {
         match self {
-            Version::One => (CODE_BYTES_1, WORKSPACE_WORDS_1),
-            Version::Two => (CODE_BYTES_2, WORKSPACE_WORDS_2),
+            Version::One => (MAX_CODE_BYTES_1, MAX_WORKSPACE_WORDS_1),
+            Version::Two => (MAX_CODE_BYTES_2, MAX_WORKSPACE_WORDS_2),
         }
     }
 }

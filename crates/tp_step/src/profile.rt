@@ -22,10 +22,10 @@ pub const LINK1_OUTPUT: u32 = 0x8000_0004;
 pub const LINK0_INPUT: u32 = 0x8000_0010;
 
 /// The most bytes of a trace message.
-pub const TRACE_BYTES: u32 = 256;
+pub const MAX_TRACE_BYTES: u32 = 256;
 
 /// The most bytes of a move.
-pub const MOVE_BYTES: u32 = 2048;
+pub const MAX_MOVE_BYTES: u32 = 2048;
 
 /// The words below Wptr that are undefined after a place to deschedule.
 pub const FRAME_WORDS: u32 = 5;

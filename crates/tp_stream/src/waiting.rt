@@ -16,7 +16,7 @@ use std::time::Duration;
 const WAKE_EVERY: u32 = CAPACITY as u32 / 2;
 
 /// The longest sleep, in microseconds: no wait depends on a wake.
-const LONGEST_SLEEP: u64 = 1000;
+const MAX_SLEEP: u64 = 1000;
 
 /// Where the feeder and the members sleep.
 #[derive(Drop)]
@@ -52,13 +52,13 @@ impl Waiting {
 
     /// A member sleeps until it is woken, or does not where a member was woken since it read `wakes`.
     pub fn sleep_as_member<R: Wait>(&self, rt: &R, wakes: u32) {
-        let longest = Duration::from_micros(LONGEST_SLEEP);
+        let longest = Duration::from_micros(MAX_SLEEP);
         self.wakes.park_timeout(rt, wakes, longest);
     }
 
     /// The feeder sleeps until it is woken, or does not where it was woken since it slept last.
     pub fn sleep_as_feeder<R: Wait>(&self, rt: &R) {
-        let longest = Duration::from_micros(LONGEST_SLEEP);
+        let longest = Duration::from_micros(MAX_SLEEP);
         self.feeder.park_timeout(rt, longest);
     }
 

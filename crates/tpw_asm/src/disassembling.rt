@@ -6,7 +6,7 @@ ghost use Rattle.tpw_asm.specs.Labelling.{IsDisassembly};
 
 use crate::code_lines::lines_of;
 use crate::labelling::{labelled_lines, loops_of};
-use crate::layout::{MOST_BYTES, least_layout};
+use crate::layout::{MAX_BYTES, least_layout};
 use crate::program::Program;
 use std::alloc::{AllocError, Global};
 use tp_image::Image;
@@ -19,7 +19,7 @@ pub fn disassemble(alloc: Global, image: &Image) -> Result<Program, AllocError>
     ensures assembled { IfOk result (λ program. IsAssembly program image.now) }
 {
     let unlabelled = lines_of(alloc, &image.code)?;
-    let Ok(layout) = least_layout(alloc, &unlabelled, MOST_BYTES) else {
+    let Ok(layout) = least_layout(alloc, &unlabelled, MAX_BYTES) else {
         return Err(AllocError);
     };
     let lines = labelled_lines(alloc, &layout.addresses, &unlabelled)?;

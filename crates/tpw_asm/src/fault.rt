@@ -6,7 +6,7 @@ ghost use Rattle.tpw_asm.specs.declared.fault.AssemblyFault.TheVariants.{Memory}
 use std::alloc::{AllocError, AllocFailed};
 use thiserror::Error;
 use tp_image::ImageCode;
-use tp_image::limits::{CODE_BYTES_1, CODE_BYTES_2};
+use tp_image::limits::{MAX_CODE_BYTES_1, MAX_CODE_BYTES_2};
 
 /// What is wrong with a line by itself.
 #[derive(Clone, Copy, Debug, PartialEq, Eq, Error)]
@@ -32,7 +32,7 @@ pub enum AssemblyFault {
     #[error("loop {0}: its label is no place of the program")]
     Row(usize),
     /// In every layout there are more code bytes than an image of the version has.
-    #[error("the code is too long: at most {one} bytes in version 1, {two} in version 2", one = CODE_BYTES_1, two = CODE_BYTES_2)]
+    #[error("the code is too long: at most {one} bytes in version 1, {two} in version 2", one = MAX_CODE_BYTES_1, two = MAX_CODE_BYTES_2)]
     TooLong,
     /// This is the first line whose spelling is longer than is stated, in the least layout.
     #[error("line {0}: its operand needs a longer spelling")]

@@ -15,7 +15,7 @@ use tp_decode::Instr;
 pub const PFIX_0: u8 = 0x20;
 
 /// The most bytes of a code that is laid out.
-pub const MOST_BYTES: usize = 0xFFFF;
+pub const MAX_BYTES: usize = 0xFFFF;
 
 /// The lengths and the places of lines.
 #[derive(Drop)]
@@ -28,7 +28,7 @@ pub struct Layout {
 
 /// The addresses of the places of lines of these lengths.
 fn addresses_of(alloc: Global, lengths: &[u8]) -> Result<Vec<u32>, AllocError>
-    requires { length lengths.now ≤ MOST_BYTES }
+    requires { length lengths.now ≤ MAX_BYTES }
     ensures { IfOk result (λ addresses. addresses.items ≡ addresses_from 0 lengths.now) }
 {
     let mut addresses = Vec::with_capacity(alloc, lengths.len() + 1)?;
@@ -96,7 +96,7 @@ fn lengths_of(alloc: Global, addresses: &[u32], lines: &[Line]) -> Result<Vec<u8
 /// The least layout of lines, if its code has at most so many bytes. It begins with a byte for each line, and lines
 /// only grow.
 pub fn least_layout(alloc: Global, lines: &[Line], most: usize) -> Result<Layout, AssemblyFault>
-    requires most { most ≤ MOST_BYTES }
+    requires most { most ≤ MAX_BYTES }
     requires sound { AreSound lines.now }
     ensures laid_out { IfOk result (λ layout. IsLaidOut lines.now most layout) }
     ensures fault { IfErr result (λ e. IsTooLong lines.now most e) }

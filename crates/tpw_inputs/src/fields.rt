@@ -8,7 +8,7 @@ use crate::assembly::assembled;
 use crate::failure::Failure;
 use crate::fault::InputFault;
 use std::alloc::Global;
-use tp_image::limits::WORKSPACE_WORDS_1;
+use tp_image::limits::MAX_WORKSPACE_WORDS_1;
 use tp_image::{ImageCode, Version};
 use tpw_asm::{AssemblyFault, Program};
 use tpw_text::{Position, Source, statement_of};
@@ -62,7 +62,7 @@ const NO_CODE: &str = "the text has no instruction";
 
 /// The statement that makes a workspace large that none states: `start` where it is beyond any by itself, else `local`.
 fn larger(program: &Program) -> &'static str {
-    if program.start >= WORKSPACE_WORDS_1 {
+    if program.start >= MAX_WORKSPACE_WORDS_1 {
         "start"
     } else {
         "local"

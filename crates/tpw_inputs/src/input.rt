@@ -176,16 +176,16 @@ impl fmt::Display for Input {
 }
 
 /// The most bytes of an input: 16 MB.
-const MOST_BYTES: usize = 16_000_000;
+const MAX_BYTES: usize = 16_000_000;
 
 /// Reads all that there is, where it is not too long.
 fn read_all<R: Read>(alloc: Global, reader: &mut R) -> Result<Vec<u8>, Failure>
     ensures { IfOk result (λ text. length text.items ≤ 16000000) }
 {
     let mut text = Vec::new(alloc);
-    let mut limited = reader.by_ref().take(MOST_BYTES as u64 + 1);
+    let mut limited = reader.by_ref().take(MAX_BYTES as u64 + 1);
     match limited.read_to_end(&mut text) {
-        Ok(_) if text.len() > MOST_BYTES => Err(Failure::Input(InputFault::TooLong)),
+        Ok(_) if text.len() > MAX_BYTES => Err(Failure::Input(InputFault::TooLong)),
         Ok(_) => Ok(text),
         Err(error) if error.kind() == ErrorKind::OutOfMemory => Err(Failure::Memory),
         Err(error) => Err(Failure::Input(InputFault::Unread(error))),

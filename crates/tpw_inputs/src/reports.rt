@@ -11,13 +11,13 @@ use tpw_source::{Reported, Spot, write_report};
 use tpw_text::{Position, SourceFault, TextFault, read_source};
 
 /// The most faults of a text that are reported.
-const MOST_FAULTS: usize = 20;
+const MAX_FAULTS: usize = 20;
 
 /// How often a text is read for its faults, each time without the lines of those before.
-const MOST_READS: usize = 60;
+const MAX_READS: usize = 60;
 
 /// The longest text of which more than one fault is looked for, in bytes.
-const MOST_BYTES: usize = 1 << 20;
+const MAX_BYTES: usize = 1 << 20;
 
 /// The line of a text that has a number.
 pub fn line_of(text: &str, number: usize) -> &str {
@@ -217,13 +217,13 @@ fn write_faults<E: Write>(
     let mut left_out = Vec::new(alloc);
     let mut fault = first;
     let mut reported = 0usize;
-    for _ in 0..MOST_READS {
+    for _ in 0..MAX_READS {
         if !is_caused(text, &left_out, fault) {
             write_fault(alloc, errors, name, text, fault)?;
             reported = reported.saturating_add(1);
         }
         left_out.push(fault.line)?;
-        if reported >= MOST_FAULTS || text.len() > MOST_BYTES {
+        if reported >= MAX_FAULTS || text.len() > MAX_BYTES {
             return Ok(());
         }
         match next_fault(alloc, text, &left_out)? {

@@ -18,7 +18,7 @@ use crate::turn::Turn;
 use tp_image::Image;
 use tp_link::{DeviceFault, Link, LinkDevice, LinkFault, Links};
 use tp_step::profile::{
-    LINK0_INPUT, LINK0_OUTPUT, LINK1_OUTPUT, MEM_START, MOVE_BYTES, TRACE_BYTES, has_move,
+    LINK0_INPUT, LINK0_OUTPUT, LINK1_OUTPUT, MEM_START, MAX_MOVE_BYTES, MAX_TRACE_BYTES, has_move,
 };
 
 /// Whether these are the channel and the length of a trace message.
@@ -26,7 +26,7 @@ fn is_trace(channel: u32, n: u32) -> bool
     ensures value { result ≡ is_trace channel n }
     ensures some { result ≡ true → 0 < n }
 {
-    channel == LINK1_OUTPUT && n % 4 == 0 && 4 <= n && n <= TRACE_BYTES
+    channel == LINK1_OUTPUT && n % 4 == 0 && 4 <= n && n <= MAX_TRACE_BYTES
 }
 
 /// Whether these are the channel and the length of the packet, in its phase.
@@ -60,7 +60,7 @@ fn may_move(image: &Image, n: u32, target: u32, source: u32) -> bool
     has_move(image)
         && n % 4 == 0
         && 4 <= n
-        && n <= MOVE_BYTES
+        && n <= MAX_MOVE_BYTES
         && in_workspace(image, target, n)
         && in_workspace(image, source, n)
         && (target + n <= source || source + n <= target)

@@ -8,7 +8,7 @@ use tpw_occam_elaboration::{Fault, Note};
 use tpw_occam_syntax::{Span, placed};
 
 /// The most messages that a text is refused with.
-const MOST_MESSAGES: usize = 20;
+const MAX_MESSAGES: usize = 20;
 
 /// What is said of a text, and where.
 #[derive(Debug, Drop)]
@@ -28,7 +28,7 @@ pub(crate) fn messages_of(
 {
     let mut messages = Vec::new(alloc);
     for fault in faults {
-        if messages.len() >= MOST_MESSAGES {
+        if messages.len() >= MAX_MESSAGES {
             break;
         }
         let kind = fault.kind;

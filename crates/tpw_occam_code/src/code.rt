@@ -12,7 +12,7 @@ use std::marker::Model;
 use tp_decode::Instr;
 
 /// The most lines that a code may have: no line has less than a byte.
-const MOST_LINES: usize = 8192;
+const MAX_LINES: usize = 8192;
 
 /// A step of code: a line of a program whose words are not placed yet. Places are those of lines, counted from the
 /// first of the whole code.
@@ -85,7 +85,7 @@ impl Code {
         ensures { IfOk result (λ code. code ≡ none_at (place_behind self.now + 1)) }
     {
         let here = self.here();
-        if here >= MOST_LINES {
+        if here >= MAX_LINES {
             return Err(CodeFault::Code { line: source });
         }
         Ok(Code {
@@ -119,7 +119,7 @@ impl Code {
     pub(crate) fn emit(&mut self, source: u32, step: Step) -> Result<(), CodeFault>
         ensures { OnOk result (self.new ≡ followed_by self.old (line_of source step ∷ [])) }
     {
-        if self.here() >= MOST_LINES {
+        if self.here() >= MAX_LINES {
             return Err(CodeFault::Code { line: source });
         }
         self.lines.push(CodeLine { step, source })?;
@@ -137,7 +137,7 @@ impl Code {
     pub(crate) fn append(&mut self, source: u32, code: &Code) -> Result<(), CodeFault>
         ensures { OnOk result (self.new ≡ joined self.old code.now) }
     {
-        if code.lines.len() > MOST_LINES - self.here() {
+        if code.lines.len() > MAX_LINES - self.here() {
             return Err(CodeFault::Code { line: source });
         }
         self.lines.extend_from_slice(&code.lines)?;

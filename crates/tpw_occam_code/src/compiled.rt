@@ -15,7 +15,7 @@ use crate::loops::check_loops;
 use crate::uses::{Used, uses_of};
 use std::alloc::Global;
 use tp_image::Version;
-use tp_image::limits::{LEAST_WORKSPACE, WORKSPACE_WORDS_2};
+use tp_image::limits::{MIN_WORKSPACE, MAX_WORKSPACE_WORDS_2};
 use tpw_asm::{AssemblyFault, Program, addresses};
 use tpw_occam_core::{Message, Place, Worker};
 
@@ -68,7 +68,7 @@ fn check_workspace(uses: &[Used]) -> Result<(), CodeFault> {
     let mut words = START;
     for used in uses {
         words = words.saturating_add(used.words);
-        if words > WORKSPACE_WORDS_2 {
+        if words > MAX_WORKSPACE_WORDS_2 {
             return Err(CodeFault::Workspace { line: used.line });
         }
     }
@@ -104,7 +104,7 @@ pub fn compile(alloc: Global, worker: &Worker) -> Result<Compiled, CodeFault>
     let sources = sources_of(alloc, code.lines())?;
     let program = Program {
         version: Version::Two,
-        workspace: START.saturating_add(words_of(&placed)).max(LEAST_WORKSPACE),
+        workspace: START.saturating_add(words_of(&placed)).max(MIN_WORKSPACE),
         start: START,
         packet: packet_words(worker),
         result: result_words(worker),

@@ -16,12 +16,12 @@ use crate::range::{BYTE, FULL, Range};
 use std::alloc::{AllocError, Global};
 use std::marker::Model;
 use tp_decode::Instr;
-use tp_image::limits::WORKSPACE_WORDS_2;
+use tp_image::limits::MAX_WORKSPACE_WORDS_2;
 use tp_prefix::encode;
 use tpw_occam_core::{Expression, Kind, Storage, Worker};
 
 /// The most bytes of `ldc` for a constant that is not an initial word.
-const MOST_BYTES: usize = 2;
+const MAX_BYTES: usize = 2;
 
 /// What is known of a name: the numbers that its value may be, those that the verifier knows of, and its value where
 /// that is one constant, which then has no word.
@@ -117,7 +117,7 @@ impl Room {
     pub(crate) fn beside(self) -> Result<Room, CodeFault>
         ensures { IfOk result (λ room. room ≡ record self { kept = self.kept + 1 }) }
     {
-        if self.kept >= WORKSPACE_WORDS_2 as usize {
+        if self.kept >= MAX_WORKSPACE_WORDS_2 as usize {
             return Err(CodeFault::Workspace { line: self.line });
         }
         Ok(Room {
@@ -240,7 +240,7 @@ impl<'a> Emitter<'a> {
 pub(crate) fn is_short(c: u32) -> bool
     ensures { result ≡ short c }
 {
-    encode(4, c.cast_signed()).len() <= MOST_BYTES
+    encode(4, c.cast_signed()).len() <= MAX_BYTES
 }
 
 /// The step that pushes a constant: `ldc` where that is short, else an initial word.

@@ -2,10 +2,10 @@
 
 use crate::code::Turns;
 use crate::fault::CodeFault;
-use tp_image::limits::LOOP_ROWS;
+use tp_image::limits::MAX_LOOP_ROWS;
 
 /// How many loops a loop may lie within.
-const MOST_AROUND: usize = 3;
+const MAX_AROUND: usize = 3;
 
 /// Whether a loop lies within another.
 fn is_within(inner: Turns, outer: Turns) -> bool {
@@ -23,10 +23,10 @@ fn around(loops: &[Turns], inner: Turns) -> usize {
 /// Refuses more loops than an image has rows for, and loops that lie within four others. Rows go by the ends of loops.
 pub(crate) fn check_loops(loops: &[Turns]) -> Result<(), CodeFault> {
     for (number, turns) in loops.iter().enumerate() {
-        if number >= LOOP_ROWS as usize {
+        if number >= MAX_LOOP_ROWS as usize {
             return Err(CodeFault::Loops { line: turns.source });
         }
-        if around(loops, *turns) > MOST_AROUND {
+        if around(loops, *turns) > MAX_AROUND {
             return Err(CodeFault::Depth { line: turns.source });
         }
     }

@@ -13,7 +13,7 @@ use tpw_occam_core::{Expression, Process};
 /// The most words that are cleared one by one, and the most that one `move` clears.
 const FEW_WORDS: u32 = 2;
 
-pub(crate) const MOST_WORDS: u32 = 32;
+pub(crate) const MAX_WORDS: u32 = 32;
 
 /// Whether a process does nothing.
 fn is_skip(p: &Process) -> bool {
@@ -54,9 +54,9 @@ fn move_words(
 
 /// Makes the words of an array 0 by copies of words that stay 0.
 fn clear_by_moves(code: &mut Code, line: u32, a: usize, words: u32) -> Result<(), CodeFault> {
-    for part in 0..words.div_ceil(MOST_WORDS) {
-        let first = part.saturating_mul(MOST_WORDS);
-        let count = words.saturating_sub(first).min(MOST_WORDS);
+    for part in 0..words.div_ceil(MAX_WORDS) {
+        let first = part.saturating_mul(MAX_WORDS);
+        let count = words.saturating_sub(first).min(MAX_WORDS);
         move_words(code, line, Item::Zeros, (Item::Array(a), first), count)?;
     }
     Ok(())

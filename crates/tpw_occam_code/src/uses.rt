@@ -2,7 +2,7 @@
 
 use crate::code::{Code, CodeLine, Step, Turns};
 use crate::items::Item;
-use crate::processes::MOST_WORDS;
+use crate::processes::MAX_WORDS;
 use std::alloc::{AllocError, Global};
 use tpw_occam_core::{Storage, Worker};
 
@@ -34,7 +34,7 @@ fn zeros(worker: &Worker) -> u32 {
             words = words.max(storage.bytes().div_ceil(4));
         }
     }
-    words.min(MOST_WORDS)
+    words.min(MAX_WORDS)
 }
 
 /// How many words an item has.

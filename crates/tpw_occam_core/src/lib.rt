@@ -25,5 +25,5 @@ pub use kind::Kind;
 pub use process::{Assignment, Message, Process, Target};
 pub use scope::Entry;
 pub use sound::is_sound;
-pub use state::MOST_TRACED;
+pub use state::MAX_TRACED;
 pub use worker::{Place, Storage, Worker};

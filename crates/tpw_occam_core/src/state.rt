@@ -10,7 +10,7 @@ use std::alloc::{AllocError, Global};
 use std::marker::Model;
 
 /// The most bytes that a worker may trace.
-pub const MOST_TRACED: usize = 256;
+pub const MAX_TRACED: usize = 256;
 
 /// The words of variables, the bytes of arrays, the error flag and what was traced.
 #[derive(Drop)]
@@ -67,7 +67,7 @@ impl State {
     pub(crate) fn has_traced_too_much(&self) -> bool
         ensures { result ≡ nat_lt most_traced (length self.now.traced) }
     {
-        self.traced.len() > MOST_TRACED
+        self.traced.len() > MAX_TRACED
     }
 
     /// The word of a variable.

@@ -3,7 +3,7 @@
 use crate::elaborator::{Elaborator, Frame};
 use crate::environment::{Access, View};
 use crate::fault::{FaultKind, Stop};
-use crate::limits::{MOST_ARRAY_BYTES, MOST_MESSAGE_WORDS};
+use crate::limits::{MAX_ARRAY_BYTES, MAX_MESSAGE_WORDS};
 use crate::syntax::{bytes_of, element_kind, element_type, name, span_of};
 use crate::typed::Typed;
 use std::alloc::AllocError;
@@ -21,7 +21,7 @@ impl Shape {
     /// Whether so many elements make a message: 1 to 64 words.
     pub(crate) fn is_message(self, elements: u32) -> bool {
         let bytes = bytes_of(self.kind, elements);
-        bytes > 0 && bytes % 4 == 0 && bytes / 4 <= MOST_MESSAGE_WORDS
+        bytes > 0 && bytes % 4 == 0 && bytes / 4 <= MAX_MESSAGE_WORDS
     }
 }
 
@@ -40,7 +40,7 @@ fn put_element(bytes: &mut Vec<u8>, kind: Kind, word: u32) -> Result<(), AllocEr
 impl<'a> Elaborator<'a> {
     /// The number of elements of an array that is declared, where it may have so many.
     pub(crate) fn elements(&mut self, kind: Kind, word: u32, span: Span) -> Result<u32, Stop> {
-        if word > 0 && word.cast_signed() > 0 && bytes_of(kind, word) <= MOST_ARRAY_BYTES {
+        if word > 0 && word.cast_signed() > 0 && bytes_of(kind, word) <= MAX_ARRAY_BYTES {
             Ok(word)
         } else {
             let elements = i64::from(word.cast_signed());

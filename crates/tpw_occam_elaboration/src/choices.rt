@@ -3,7 +3,7 @@
 use crate::elaborator::{Elaborator, Frame};
 use crate::environment::Atom;
 use crate::fault::{FaultKind, Limit, Stop};
-use crate::limits::{MOST_GUARDS, levels_within};
+use crate::limits::{MAX_GUARDS, levels_within};
 use crate::operators::combined;
 use crate::sequences::at;
 use crate::syntax::span_of;
@@ -113,7 +113,7 @@ impl<'a> Elaborator<'a> {
     ) -> Result<u32, Stop> {
         let word = self.constant(frame, e, of)?;
         let span = span_of(e);
-        if seen.len() >= MOST_GUARDS {
+        if seen.len() >= MAX_GUARDS {
             return self.fault(span, FaultKind::Limit(Limit::Guards));
         }
         if let Some(first) = seen.iter().find(|other| other.word == word).copied() {

@@ -2,7 +2,7 @@
 
 use crate::elaborator::{Elaborator, Frame};
 use crate::fault::{FaultKind, Stop};
-use crate::limits::MOST_DEPTH;
+use crate::limits::MAX_DEPTH;
 use crate::syntax::span_of;
 use crate::typed::{Typed, Worth};
 use tpw_occam_syntax::{Expression, Primitive, Span};
@@ -24,7 +24,7 @@ impl<'a> Elaborator<'a> {
         e: &'a Expression<'a>,
         of: Primitive,
     ) -> Result<u32, Stop> {
-        let typed = self.expression(frame, e, Some(of), MOST_DEPTH)?;
+        let typed = self.expression(frame, e, Some(of), MAX_DEPTH)?;
         self.constant_of(&typed, span_of(e))
     }
 }

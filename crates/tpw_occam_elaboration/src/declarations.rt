@@ -5,7 +5,7 @@ use crate::bindings::Binding;
 use crate::elaborator::{Elaborator, Frame, or_else};
 use crate::environment::{Access, Atom, Meaning, View};
 use crate::fault::{FaultKind, Stop};
-use crate::limits::{MOST_DEPTH, levels_within};
+use crate::limits::{MAX_DEPTH, levels_within};
 use crate::signatures::Callee;
 use crate::syntax::{bytes_of, element_type, span_of};
 use crate::typed::{Typed, Worth};
@@ -104,7 +104,7 @@ impl<'a> Elaborator<'a> {
         shape: Shape,
     ) -> Result<Meaning<'a>, Stop> {
         if matches!(e, Tree::Text { .. } | Tree::List { .. }) {
-            let view = self.array(frame, e, name, shape, MOST_DEPTH)?;
+            let view = self.array(frame, e, name, shape, MAX_DEPTH)?;
             Ok(Meaning::Array(view))
         } else {
             self.fault(span_of(e), FaultKind::TableWanted)
@@ -116,7 +116,7 @@ impl<'a> Elaborator<'a> {
         let kind = match e {
             Tree::List { items, .. } => match items.first() {
                 Some(first) => {
-                    let typed = self.expression(frame, first, None, MOST_DEPTH)?;
+                    let typed = self.expression(frame, first, None, MAX_DEPTH)?;
                     self.kind_of(typed.of, span_of(first))?
                 }
                 None => Kind::Word,

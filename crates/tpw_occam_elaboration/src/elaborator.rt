@@ -2,12 +2,12 @@
 
 use crate::environment::{Environment, Scope};
 use crate::fault::{Fault, FaultKind, Limit, Stop};
-use crate::limits::{MOST_CALLS, MOST_IN_LINE};
+use crate::limits::{MAX_CALLS, MAX_IN_LINE};
 use crate::note::{Note, NoteKind};
 use crate::signatures::Parameter;
 use std::alloc::{AllocError, Global};
 use tpw_occam_core::{Kind, Storage};
-use tpw_occam_syntax::{MOST_FAULTS, Name, Primitive, Span};
+use tpw_occam_syntax::{MAX_FAULTS, Name, Primitive, Span};
 
 /// The names in scope, and how many calls may still lie within one another.
 #[derive(Clone, Copy)]
@@ -20,7 +20,7 @@ impl Frame {
     /// Nothing is in scope, and no call is entered.
     pub(crate) const OUTERMOST: Frame = Frame {
         scope: Scope::EMPTY,
-        calls: MOST_CALLS,
+        calls: MAX_CALLS,
     };
 
     /// The same call with other names in scope.
@@ -137,7 +137,7 @@ impl<'a> Elaborator<'a> {
             tables: Vec::new(alloc),
             faults: Vec::new(alloc),
             notes: Vec::new(alloc),
-            left: MOST_IN_LINE,
+            left: MAX_IN_LINE,
         }
     }
 
@@ -147,7 +147,7 @@ impl<'a> Elaborator<'a> {
             return Ok(());
         }
         self.faults.push(Fault { span, kind })?;
-        if self.faults.len() >= MOST_FAULTS {
+        if self.faults.len() >= MAX_FAULTS {
             return Err(Stop::Ended);
         }
         Ok(())

@@ -5,7 +5,7 @@ ghost use Rattle.std.specs.Prelude.{◌≤◌};
 /// How deep expressions and processes lie within one another at the most, those put in line among them: so deep do the
 /// calls go that make a worker, run it and compile it. A guard lies within those before it, a process within the names
 /// that are declared in front of it, and a step within the halves of its SEQ.
-pub(crate) const MOST_DEPTH: u32 = 500;
+pub(crate) const MAX_DEPTH: u32 = 500;
 
 /// The levels that are left within so many others.
 pub(crate) fn levels_within(levels: u32, others: usize) -> u32
@@ -32,25 +32,25 @@ pub(crate) fn halves(steps: usize) -> usize {
 }
 
 /// The most calls within one another.
-pub(crate) const MOST_CALLS: u32 = 40;
+pub(crate) const MAX_CALLS: u32 = 40;
 
 /// The most expressions and processes of a worker, with its calls in line.
-pub(crate) const MOST_IN_LINE: u32 = 300_000;
+pub(crate) const MAX_IN_LINE: u32 = 300_000;
 
 /// The most guards of an IF, and the most constants of a CASE.
-pub(crate) const MOST_GUARDS: usize = 2_000;
+pub(crate) const MAX_GUARDS: usize = 2_000;
 
 /// The most turns of a replicated SEQ.
-pub(crate) const MOST_TURNS: u32 = 10_000;
+pub(crate) const MAX_TURNS: u32 = 10_000;
 
 /// The most bytes of an array: all words of a workspace.
-pub(crate) const MOST_ARRAY_BYTES: u64 = 2_048;
+pub(crate) const MAX_ARRAY_BYTES: u64 = 2_048;
 
 /// The most words of a message.
-pub(crate) const MOST_MESSAGE_WORDS: u64 = 64;
+pub(crate) const MAX_MESSAGE_WORDS: u64 = 64;
 
 /// The most names that are compared with one, to find the nearest.
-pub(crate) const MOST_NEIGHBOURS: usize = 1_000;
+pub(crate) const MAX_NEIGHBOURS: usize = 1_000;
 
 /// The longest name that others are compared with, to find the nearest.
-pub(crate) const MOST_COMPARED: usize = 40;
+pub(crate) const MAX_COMPARED: usize = 40;

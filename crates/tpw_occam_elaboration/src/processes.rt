@@ -8,7 +8,7 @@ use crate::declarations::Level;
 use crate::elaborator::{Elaborator, Frame, or_else, recovered};
 use crate::environment::{Atom, Meaning};
 use crate::fault::{FaultKind, Limit, Stop};
-use crate::limits::{MOST_GUARDS, MOST_TURNS, halves, levels_within};
+use crate::limits::{MAX_GUARDS, MAX_TURNS, halves, levels_within};
 use crate::note::NoteKind;
 use crate::sequences::{at, sequence};
 use crate::sort::Role;
@@ -43,7 +43,7 @@ impl<'a> Elaborator<'a> {
         let first = self.constant(frame, start, Primitive::Int);
         let turns = self.constant(frame, count, Primitive::Int);
         let (first, turns) = (first?, turns?);
-        if turns > MOST_TURNS {
+        if turns > MAX_TURNS {
             let kind = FaultKind::Turns {
                 count: i64::from(turns.cast_signed()),
             };
@@ -142,7 +142,7 @@ impl<'a> Elaborator<'a> {
         span: Span,
         depth: u32,
     ) -> Result<Process, Stop> {
-        if choices.len() > MOST_GUARDS {
+        if choices.len() > MAX_GUARDS {
             return self.fault(span, FaultKind::Limit(Limit::Guards));
         }
         let mut list = Vec::new(self.alloc);

@@ -6,7 +6,7 @@ use tpw_occam_core::Process;
 use tpw_occam_syntax::Span;
 
 /// How often a list can be halved.
-const MOST_HALVES: u32 = 64;
+const MAX_HALVES: u32 = 64;
 
 /// Processes two by two, each pair as one.
 fn paired(alloc: Global, list: Vec<Process>) -> Result<Vec<Process>, AllocError> {
@@ -32,7 +32,7 @@ fn paired(alloc: Global, list: Vec<Process>) -> Result<Vec<Process>, AllocError>
 /// One process after another, as a balanced tree.
 pub(crate) fn sequence(alloc: Global, list: Vec<Process>) -> Result<Process, AllocError> {
     let mut list = list;
-    for _ in 0..MOST_HALVES {
+    for _ in 0..MAX_HALVES {
         if list.len() < 2 {
             break;
         }

@@ -10,7 +10,7 @@ use crate::declarations::{Declared, Level};
 use crate::elaborator::{Elaborator, Frame, Named, recovered};
 use crate::environment::{Channel, Meaning, Protocol, Scope};
 use crate::fault::{Fault, FaultKind, Stop};
-use crate::limits::MOST_DEPTH;
+use crate::limits::MAX_DEPTH;
 use crate::note::{Note, NoteKind};
 use crate::reports::{FIRST, reported_faults, reported_notes};
 use crate::sequences::{at, sequence};
@@ -208,7 +208,7 @@ impl<'a> Elaborator<'a> {
 
     /// A packet that is a number.
     fn received_value(&mut self, frame: Frame, e: &'a Tree<'a>) -> Result<Received, Stop> {
-        let (target, found) = self.target(frame, e, MOST_DEPTH)?;
+        let (target, found) = self.target(frame, e, MAX_DEPTH)?;
         if found != Primitive::Int {
             let kind = FaultKind::Type {
                 name: name_of(e),
@@ -324,7 +324,7 @@ impl<'a> Elaborator<'a> {
         if found != Channel::Output {
             return self.fault(channel.span, FaultKind::NoSend);
         }
-        let message = self.message(frame, *channel, protocol, value, MOST_DEPTH)?;
+        let message = self.message(frame, *channel, protocol, value, MAX_DEPTH)?;
         self.note_result(&message, value)?;
         Ok(message)
     }
@@ -376,7 +376,7 @@ impl<'a> Elaborator<'a> {
         };
         let received = self.received(frame, first, parts, channels.packet);
         let received = recovered(received)?;
-        let steps = self.steps(frame, steps, MOST_DEPTH);
+        let steps = self.steps(frame, steps, MAX_DEPTH);
         let steps = recovered(steps)?;
         let message = self.sent(frame, last, parts, channels.output)?;
         let (Some(received), Some(steps)) = (received, steps) else {
@@ -429,7 +429,7 @@ impl<'a> Elaborator<'a> {
             return Err(Stop::Reported);
         };
         let frame = frame.with_scope(channels.scope);
-        let declared = self.declared(frame, parts.declarations, Level::Worker, MOST_DEPTH)?;
+        let declared = self.declared(frame, parts.declarations, Level::Worker, MAX_DEPTH)?;
         let made = self.with_steps(declared, parts, channels, line_of(worker.span))?;
         self.judged(worker, made)
     }
@@ -448,7 +448,7 @@ impl<'a> Elaborator<'a> {
             self.report(FIRST, FaultKind::NoWorker)?;
             return Err(Stop::Reported);
         };
-        let declared = self.declared(Frame::OUTERMOST, others, Level::Text, MOST_DEPTH)?;
+        let declared = self.declared(Frame::OUTERMOST, others, Level::Text, MAX_DEPTH)?;
         match last {
             Declaration::Procedure {
                 name,

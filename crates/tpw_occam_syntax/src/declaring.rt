@@ -7,7 +7,7 @@ use crate::phrases::{
     around, front_type, keyword_of, name, name_of, names, parameters, position_of,
     position_of_keyword, symbol_of,
 };
-use crate::reading::{MOST_DEPTH, expression, place, primitive, span_of, trees_behind, wanted};
+use crate::reading::{MAX_DEPTH, expression, place, primitive, span_of, trees_behind, wanted};
 use crate::span::Span;
 use crate::stop::Stop;
 use crate::symbol::Symbol;
@@ -21,7 +21,7 @@ pub(crate) fn value<'a>(
     trees: &[Tree<'a>],
     end: Span,
 ) -> Result<Expression<'a>, Stop> {
-    expression(alloc, trees, end, MOST_DEPTH)
+    expression(alloc, trees, end, MAX_DEPTH)
 }
 
 /// The trees in front of the colon that ends a declaration, and the colon's place.

@@ -206,7 +206,7 @@ impl fmt::Display for FaultKind {
 }
 
 /// The most faults that are told of a text.
-pub const MOST_FAULTS: usize = 20;
+pub const MAX_FAULTS: usize = 20;
 
 /// Something wrong, and where.
 #[derive(Clone, Copy, Debug, PartialEq, Eq)]
@@ -215,7 +215,7 @@ pub struct Fault {
     pub kind: FaultKind,
 }
 
-/// The first faults of a text by their places, at most [`MOST_FAULTS`].
+/// The first faults of a text by their places, at most [`MAX_FAULTS`].
 #[derive(Drop)]
 pub(crate) struct Faults {
     first: Vec<Fault>,
@@ -238,7 +238,7 @@ impl Faults {
             Some(at) => self.first.insert(at, fault)?,
             None => self.first.push(fault)?,
         }
-        self.first.truncate(MOST_FAULTS);
+        self.first.truncate(MAX_FAULTS);
         Ok(())
     }
 

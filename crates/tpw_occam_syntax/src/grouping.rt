@@ -7,7 +7,7 @@ use crate::token::{Bracket, Item, Token, Tree};
 use std::alloc::{AllocError, Global};
 
 /// The most brackets within one another.
-const MOST_BRACKETS: usize = 60;
+const MAX_BRACKETS: usize = 60;
 
 /// What stands within a bracket that is still open.
 #[derive(Drop)]
@@ -39,7 +39,7 @@ impl<'a> Trees<'a> {
     }
 
     fn open(&mut self, alloc: Global, bracket: Bracket, span: Span) -> Result<(), Stop> {
-        if self.open.len() >= MOST_BRACKETS {
+        if self.open.len() >= MAX_BRACKETS {
             return fault(FaultKind::TooDeep, span);
         }
         self.open.push(Open {

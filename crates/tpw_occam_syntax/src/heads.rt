@@ -8,7 +8,7 @@ use crate::layout::Block;
 use crate::phrases::{
     around, keyword_of, name, name_of, position_of, position_of_keyword, symbol_of,
 };
-use crate::reading::{ListKind, MOST_DEPTH, listed, place, span_of, trees_behind, wanted};
+use crate::reading::{ListKind, MAX_DEPTH, listed, place, span_of, trees_behind, wanted};
 use crate::span::Span;
 use crate::stop::Stop;
 use crate::symbol::Symbol;
@@ -112,14 +112,14 @@ fn assignment<'a>(
 ) -> Result<Process<'a>, Stop> {
     let (front, behind) = around(trees, at);
     let sign = place(trees_behind(trees, at), block.end);
-    let targets = listed(alloc, ListKind::Expressions, front, sign, MOST_DEPTH)?;
+    let targets = listed(alloc, ListKind::Expressions, front, sign, MAX_DEPTH)?;
     if targets.is_empty() {
         return wanted(Wanted::Variable, sign);
     }
     for target in &targets {
         variable(target)?;
     }
-    let values = listed(alloc, ListKind::Expressions, behind, block.end, MOST_DEPTH)?;
+    let values = listed(alloc, ListKind::Expressions, behind, block.end, MAX_DEPTH)?;
     if values.is_empty() {
         return wanted(Wanted::Expression, block.end);
     }
@@ -337,7 +337,7 @@ pub(crate) fn constants<'a>(alloc: Global, block: &Block<'a>) -> Result<Vec<Expr
         ListKind::Expressions,
         &block.trees,
         block.end,
-        MOST_DEPTH,
+        MAX_DEPTH,
     )
 }
 

@@ -10,7 +10,7 @@ use crate::token::Tree;
 use std::alloc::{AllocError, Global};
 
 /// The most lines that stand below one another, below the first.
-const MOST_LEVELS: usize = 60;
+const MAX_LEVELS: usize = 60;
 
 /// A line with what stands below it.
 #[derive(Drop)]
@@ -166,7 +166,7 @@ impl<'a> Layout<'a> {
     fn put(&mut self, alloc: Global, line: Line<'a>) -> Result<(), AllocError> {
         let span = line.span();
         let is_sibling = self.nest.close(line.indent)?;
-        if self.nest.chain.len() > MOST_LEVELS {
+        if self.nest.chain.len() > MAX_LEVELS {
             if !self.is_deep {
                 self.fault(FaultKind::TooDeep, span)?;
             }

@@ -24,7 +24,7 @@ mod token;
 mod tree;
 
 pub use expression::{Dyadic, Expression, Monadic, Primitive};
-pub use fault::{Fault, FaultKind, MOST_FAULTS, Wanted};
+pub use fault::{Fault, FaultKind, MAX_FAULTS, Wanted};
 pub use keyword::Unsupported;
 pub use lexing::text_bytes;
 pub use parsing::{Source, parse};

@@ -1,6 +1,6 @@
 //! A line, which may go on over several lines of the text.
 
-use crate::fault::{Fault, FaultKind, MOST_FAULTS};
+use crate::fault::{Fault, FaultKind, MAX_FAULTS};
 use crate::keyword::Keyword;
 use crate::lexing::{behind, token};
 use crate::span::Span;
@@ -91,7 +91,7 @@ impl<'a> Line<'a> {
 
     /// Records what is wrong with its characters.
     pub(crate) fn put_fault(&mut self, kind: FaultKind, span: Span) -> Result<(), AllocError> {
-        if self.faults.len() < MOST_FAULTS {
+        if self.faults.len() < MAX_FAULTS {
             self.faults.push(Fault { span, kind })?;
         }
         Ok(())

@@ -17,7 +17,7 @@ use std::alloc::{AllocError, Global};
 use std::mem;
 
 /// More than the levels of lines.
-const MOST_DEPTH: usize = 64;
+const MAX_DEPTH: usize = 64;
 
 /// Whether a colon is to end what stands above it.
 #[derive(Clone, Copy)]
@@ -423,7 +423,7 @@ impl Parser {
                 continue;
             }
             self.no_colon(end)?;
-            let entry = self.entry(block, MOST_DEPTH)?;
+            let entry = self.entry(block, MAX_DEPTH)?;
             end = end_behind(block, &entry);
             match entry {
                 Entry::Declaration(declaration) => declarations.push(declaration)?,
@@ -454,7 +454,7 @@ fn procedure<'a>(
 #[derive(Debug, Drop)]
 pub struct Source<'a> {
     pub declarations: Vec<Declaration<'a>>,
-    /// In the order of their places, at most [`MOST_FAULTS`](crate::MOST_FAULTS).
+    /// In the order of their places, at most [`MAX_FAULTS`](crate::MAX_FAULTS).
     pub faults: Vec<Fault>,
     /// Whether each line's indentation is right. Else it is not known what stands below what.
     pub is_laid_out: bool,

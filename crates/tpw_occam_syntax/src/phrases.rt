@@ -4,7 +4,7 @@ use crate::expression::Primitive;
 use crate::fault::Wanted;
 use crate::keyword::Keyword;
 use crate::reading::{
-    MOST_DEPTH, expression, place, primitive, span_of, trees_behind, up_to_comma, wanted,
+    MAX_DEPTH, expression, place, primitive, span_of, trees_behind, up_to_comma, wanted,
 };
 use crate::span::Span;
 use crate::stop::Stop;
@@ -115,7 +115,7 @@ fn size<'a>(alloc: Global, within: &[Tree<'a>], close: Span) -> Result<Size<'a>,
     if within.is_empty() {
         return Ok(Size::Open);
     }
-    Ok(Size::Of(expression(alloc, within, close, MOST_DEPTH)?))
+    Ok(Size::Of(expression(alloc, within, close, MAX_DEPTH)?))
 }
 
 /// A type at the front of trees, and how many it has: `INT`, `[]INT`, `[k]BYTE`. None where there is none.

@@ -10,7 +10,7 @@ ghost use Rattle.tpw_occam_syntax.specs.Places.{
   AreInOrder,
 };
 
-use crate::fault::{Fault, MOST_FAULTS};
+use crate::fault::{Fault, MAX_FAULTS};
 use crate::span::Span;
 use std::alloc::{AllocError, Global};
 
@@ -125,7 +125,7 @@ pub fn placed(text: &str, span: Span) -> Span
     stretch(bytes, from, span.width)
 }
 
-/// Faults that are in the order of their places, at most [`MOST_FAULTS`], at these places in a text.
+/// Faults that are in the order of their places, at most [`MAX_FAULTS`], at these places in a text.
 pub(crate) fn placed_faults(
     alloc: Global,
     text: &str,
@@ -139,7 +139,7 @@ pub(crate) fn placed_faults(
     let mut all = Vec::new(alloc);
     let mut from = first();
     for fault in faults {
-        if all.len() >= MOST_FAULTS {
+        if all.len() >= MAX_FAULTS {
             break;
         }
         from = reach(bytes, from, fault.span);

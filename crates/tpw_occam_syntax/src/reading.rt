@@ -10,7 +10,7 @@ use crate::token::{Bracket, Item, Token, Tree};
 use std::alloc::Global;
 
 /// The most operators and brackets within one another, where an operator of a chain lies within the next.
-pub(crate) const MOST_DEPTH: usize = 501;
+pub(crate) const MAX_DEPTH: usize = 501;
 
 /// Fails with what is wanted at a place.
 pub(crate) fn wanted<T>(what: Wanted, span: Span) -> Result<T, Stop> {

@@ -4,7 +4,7 @@ use crate::fault::ShowFault;
 use std::io::Write;
 
 /// The longest line that is quoted, in bytes.
-const MOST_QUOTED: usize = 160;
+const MAX_QUOTED: usize = 160;
 
 /// Where a fault of a text is: its line and its column, from 1, and its width. Columns and widths are bytes.
 #[derive(Clone, Copy, Debug, PartialEq, Eq)]
@@ -43,7 +43,7 @@ fn write_quoted<W: Write>(line: &str, spot: Spot, writer: &mut W) -> Result<(), 
     write!(writer, "      | ").map_err(|_| ShowFault::Write)?;
     let before = line.get(..spot.column.saturating_sub(1)).unwrap_or("");
     write_margin(before, writer)?;
-    for _ in 0..spot.width.max(1).min(MOST_QUOTED) {
+    for _ in 0..spot.width.max(1).min(MAX_QUOTED) {
         write!(writer, "^").map_err(|_| ShowFault::Write)?;
     }
     writeln!(writer).map_err(|_| ShowFault::Write)
@@ -77,7 +77,7 @@ pub fn write_report<W: Write>(
     }
     writeln!(writer).map_err(|_| ShowFault::Write)?;
     match text.lines().nth(line.saturating_sub(1)) {
-        Some(quoted) if quoted.len() <= MOST_QUOTED => write_quoted(quoted, spot, writer),
+        Some(quoted) if quoted.len() <= MAX_QUOTED => write_quoted(quoted, spot, writer),
         _ => Ok(()),
     }
 }

@@ -4,7 +4,7 @@ ghost use Rattle.std.specs.Prelude.{◌≡◌, ◌+◌, ◌<◌, ◌^◌, ℕ, I
 ghost use Rattle.tpw_step.specs.Profiles.{AddsUp, sums};
 
 use crate::prefixes::prefixes_at;
-use crate::run::{MOST_INSTRUCTIONS, ROOM};
+use crate::run::{MAX_INSTRUCTIONS, ROOM};
 use crate::stepper::Stepper;
 use std::alloc::{AllocError, Global};
 use tp_image::Image;
@@ -134,7 +134,7 @@ pub fn count_run(
     let mut links = media.wires();
     let _ = links.source.send(packet);
     stepper.restart();
-    for _ in 0..MOST_INSTRUCTIONS {
+    for _ in 0..MAX_INSTRUCTIONS {
         if let Some(end) = count_one(stepper, &mut links, profile) {
             return Ok(end);
         }

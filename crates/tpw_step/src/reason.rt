@@ -7,7 +7,7 @@ use tp_decode::Instr;
 use tp_image::{Image, Version};
 use tp_prefix::read_one;
 use tp_step::profile::{
-    FRAME_WORDS, LINK0_INPUT, LINK0_OUTPUT, LINK1_OUTPUT, MOVE_BYTES, TRACE_BYTES, WORD_BYTES,
+    FRAME_WORDS, LINK0_INPUT, LINK0_OUTPUT, LINK1_OUTPUT, MAX_MOVE_BYTES, MAX_TRACE_BYTES, WORD_BYTES,
 };
 use tpw_machine::{Phase, Registers};
 
@@ -123,7 +123,7 @@ fn output_reason(snapshot: Snapshot<'_>, bytes: u32, channel: u32, address: u32)
     let is_trace = channel == LINK1_OUTPUT
         && bytes % WORD_BYTES == 0
         && 0 < bytes
-        && bytes <= TRACE_BYTES;
+        && bytes <= MAX_TRACE_BYTES;
     if !is_result && !is_trace {
         Reason::NotAMessage
     } else if !snapshot.workspace.holds(address, bytes) {
@@ -140,7 +140,7 @@ fn output_reason(snapshot: Snapshot<'_>, bytes: u32, channel: u32, address: u32)
 
 /// Why no words can be moved so.
 fn move_reason(snapshot: Snapshot<'_>, bytes: u32, target: u32, source: u32) -> Reason {
-    let is_length = bytes % WORD_BYTES == 0 && 0 < bytes && bytes <= MOVE_BYTES;
+    let is_length = bytes % WORD_BYTES == 0 && 0 < bytes && bytes <= MAX_MOVE_BYTES;
     let image = snapshot.image;
     if image.version == Version::One {
         Reason::NoMove

@@ -22,7 +22,7 @@ pub(crate) const ROOM: usize = 256;
 const WORD_BYTES: i32 = profile::WORD_BYTES as i32;
 
 /// The most instructions that are run.
-pub(crate) const MOST_INSTRUCTIONS: u64 = 16_777_216;
+pub(crate) const MAX_INSTRUCTIONS: u64 = 16_777_216;
 
 /// How a run was left.
 #[derive(Clone, Copy, Debug, PartialEq, Eq)]
@@ -294,7 +294,7 @@ fn write_end<W: Write>(
         End::Unended => {
             writeln!(
                 writer,
-                "not ended after {MOST_INSTRUCTIONS} instructions, at {at}"
+                "not ended after {MAX_INSTRUCTIONS} instructions, at {at}"
             )
         }
     };
@@ -331,7 +331,7 @@ pub fn show_run<W: Write>(
         is_shown: false,
     };
     let mut end = End::Unended;
-    for _ in 0..MOST_INSTRUCTIONS {
+    for _ in 0..MAX_INSTRUCTIONS {
         if progress.comes_to(shown.span, stepper.registers().iptr) {
             end = End::Left;
             break;

@@ -9,14 +9,14 @@ use crate::fault::{SourceFault, TextFault};
 use crate::words::{Position, Word};
 use std::alloc::Global;
 use tp_image::Version;
-use tp_image::limits::LOOP_ROWS;
+use tp_image::limits::MAX_LOOP_ROWS;
 use tpw_asm::Line;
 
 /// The most lines, names and words that are read: more than a worker can have.
 pub const MOST: usize = 16_384;
 
 /// The most words of a workspace that are read.
-pub const MOST_WORDS: u16 = 4096;
+pub const MAX_WORDS: u16 = 4096;
 
 /// A label, and its place.
 #[derive(Clone, Copy)]
@@ -218,7 +218,7 @@ impl<'a> Draft<'a> {
         }
         let first = self.words;
         let after = u32::from(first) + u32::from(size);
-        if after > u32::from(MOST_WORDS) {
+        if after > u32::from(MAX_WORDS) {
             return Err(word.fault(TextFault::TooMany));
         }
         if self.locals.len() >= MOST {
@@ -276,7 +276,7 @@ impl<'a> Draft<'a> {
     pub fn check_loops(&self, word: &Word<'_>) -> Result<(), SourceFault>
         ensures { result ≡ room_for_loop word.now (said self.now) }
     {
-        if self.rows.len() + self.begun.len() >= LOOP_ROWS as usize {
+        if self.rows.len() + self.begun.len() >= MAX_LOOP_ROWS as usize {
             return Err(word.fault(TextFault::TooManyLoops));
         }
         Ok(())

@@ -15,7 +15,7 @@ use crate::draft::{
 use crate::fault::{SourceFault, TextFault};
 use crate::words::{Position, Word};
 use std::alloc::{AllocError, Global};
-use tp_image::limits::LEAST_WORKSPACE;
+use tp_image::limits::MIN_WORKSPACE;
 use tpw_asm::{Line, Loop, Operation, Program, Spot};
 
 /// A label of a text, and its place.
@@ -211,7 +211,7 @@ fn workspace_of(draft: &Draft<'_>) -> u32
     let needed = u32::from(draft.start) + u32::from(draft.words);
     draft
         .workspace
-        .map_or(needed.max(LEAST_WORKSPACE), u32::from)
+        .map_or(needed.max(MIN_WORKSPACE), u32::from)
 }
 
 /// Whether words of a name lie behind a workspace of so many words, in a worker that begins at a workspace word.

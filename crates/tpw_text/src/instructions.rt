@@ -16,7 +16,7 @@ use tp_decode::Instr;
 use tpw_asm::{Line, Operation};
 
 /// The most bytes of a spelling.
-const MOST_BYTES: u32 = 8;
+const MAX_BYTES: u32 = 8;
 
 /// How many bytes are stated behind a `/`, and which word is the operand.
 #[tactic(auto, unfolding(crate::specs::Grammar::length_said))]
@@ -27,7 +27,7 @@ fn length_of(words: &[Word<'_>]) -> Result<(Option<u8>, usize), SourceFault>
     match words.get(1) {
         Some(mark) if mark.is("/") => {
             let word = word_at(words, 2, mark)?;
-            let bytes = count_of(&word, MOST_BYTES)?;
+            let bytes = count_of(&word, MAX_BYTES)?;
             if bytes == 0 {
                 return Err(word.fault(TextFault::NoLength));
             }

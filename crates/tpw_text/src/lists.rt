@@ -5,7 +5,7 @@ ghost use Rattle.tpw_text.specs.Faults.{IsRefusal};
 ghost use Rattle.tpw_text.specs.Lists.{part, parts, list_said, one_word_said, no_more_said, size_said, new_local_said};
 ghost use Rattle.tpw_text.specs.Lists.{initial_word_said, byte_line_said};
 
-use crate::draft::{DraftLine, MOST_WORDS};
+use crate::draft::{DraftLine, MAX_WORDS};
 use crate::fault::{SourceFault, TextFault};
 use crate::number::{count_of, number_of};
 use crate::statement::{InitialWord, NewLine, NewLocal};
@@ -119,7 +119,7 @@ fn size_of<'a>(name: &Word<'a>, words: &[Word<'a>]) -> Result<u16, SourceFault>
     }
     expect(words, 1, name, "[")?;
     let word = word_at(words, 2, name)?;
-    let size = count_of(&word, u32::from(MOST_WORDS))? as u16;
+    let size = count_of(&word, u32::from(MAX_WORDS))? as u16;
     if size == 0 {
         return Err(word.fault(TextFault::NoWords));
     }

@@ -6,7 +6,7 @@ ghost use Rattle.tpw_text.specs.Grammar.{statement_kept, field_said, version_sai
 ghost use Rattle.tpw_text.specs.Grammar.{initial_of, initial_said, one_name_said, element_said, new_loop_said};
 ghost use Rattle.tpw_text.specs.Grammar.{row_said, keyword_said, statement_said};
 
-use crate::draft::{Control, MOST_WORDS, Row};
+use crate::draft::{Control, MAX_WORDS, Row};
 use crate::fault::{SourceFault, TextFault};
 use crate::instructions::instruction_of;
 use crate::keyword::{Keyword, keyword_of};
@@ -19,13 +19,13 @@ use std::alloc::Global;
 use tp_image::Version;
 
 /// The largest number of 16 bits.
-const MOST_COUNT: u32 = 0xFFFF;
+const MAX_COUNT: u32 = 0xFFFF;
 
 /// The one number of a statement, of 16 bits.
 fn field(words: &[Word<'_>], first: &Word<'_>) -> Result<u16, SourceFault>
     ensures { result ≡ field_said words.now first.now }
 {
-    Ok(one_number(words, first, MOST_COUNT)? as u16)
+    Ok(one_number(words, first, MAX_COUNT)? as u16)
 }
 
 /// `version N`
@@ -78,7 +78,7 @@ fn initial_at<'a>(
     ensures said { IfOk result (λ s. initial_at words.now at.now ≡ Ok (statement_kept s)) }
     ensures refused { IfErr result (IsRefusal (initial_at words.now at.now)) }
 {
-    let from = count_of(at, u32::from(MOST_WORDS))? as u16;
+    let from = count_of(at, u32::from(MAX_WORDS))? as u16;
     let values = values_of(alloc, words, at)?;
     Ok(Statement::Initial(*at, from, values))
 }
@@ -147,7 +147,7 @@ fn new_loop<'a>(words: &[Word<'a>], first: &Word<'a>) -> Result<NewLoop<'a>, Sou
     expect(words, 2, &name, "=")?;
     let start = number_of(&word_at(words, 3, &name)?)?;
     expect(words, 4, &name, "for")?;
-    let count = count_of(&word_at(words, 5, &name)?, MOST_COUNT)? as u16;
+    let count = count_of(&word_at(words, 5, &name)?, MAX_COUNT)? as u16;
     expect_end(words, 6)?;
     Ok(NewLoop {
         word: *first,
@@ -167,9 +167,9 @@ fn row<'a>(words: &[Word<'a>], first: &Word<'a>) -> Result<Row<'a>, SourceFault>
     expect(words, 3, first, "lend")?;
     let lend = target_of(&word_at(words, 4, first)?)?;
     expect(words, 5, first, "control")?;
-    let control = count_of(&word_at(words, 6, first)?, MOST_COUNT)? as u16;
+    let control = count_of(&word_at(words, 6, first)?, MAX_COUNT)? as u16;
     expect(words, 7, first, "turns")?;
-    let count = count_of(&word_at(words, 8, first)?, MOST_COUNT)? as u16;
+    let count = count_of(&word_at(words, 8, first)?, MAX_COUNT)? as u16;
     expect(words, 9, first, "start")?;
     let start = number_of(&word_at(words, 10, first)?)?;
     expect_end(words, 11)?;

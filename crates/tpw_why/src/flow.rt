@@ -6,7 +6,7 @@ use std::alloc::Global;
 use std::io::Write;
 use tp_decode::{Instr, Listing};
 use tp_flow::FlowCode;
-use tp_flow::limits::MOST_TURNS;
+use tp_flow::limits::MAX_TURNS;
 use tp_image::{Image, LoopRow};
 use tpw_source::{ShowFault, SourceText};
 
@@ -40,7 +40,7 @@ fn fault_alone(image: &Image, listing: &Listing, row: &LoopRow) -> Option<&'stat
         Some("no lend stands at its lend")
     } else if row.control.saturating_add(1) >= image.workspace {
         Some("its control word, or the word behind it, lies outside the workspace")
-    } else if row.count == 0 || row.count > MOST_TURNS {
+    } else if row.count == 0 || row.count > MAX_TURNS {
         Some("its turns are not 1 to 10000")
     } else if last_index > i64::from(i32::MAX) {
         Some("the index of its last turn is above 2147483647")

@@ -15,7 +15,7 @@ use crate::kind::Kind;
 use crate::places::message_in;
 use crate::state::State;
 use tp_image::Image;
-use tp_step::profile::{LINK0_INPUT, LINK0_OUTPUT, LINK1_OUTPUT, TRACE_BYTES, has_move};
+use tp_step::profile::{LINK0_INPUT, LINK0_OUTPUT, LINK1_OUTPUT, MAX_TRACE_BYTES, has_move};
 
 /// Whether what is known of a register is that it has this channel.
 fn is_channel(known: Kind, address: u32) -> bool
@@ -42,7 +42,7 @@ fn is_one_length(length: (i32, i32)) -> bool
 fn is_trace_length(bytes: u32) -> bool
     ensures { result ≡ is_trace_length bytes }
 {
-    bytes % 4 == 0 && 4 <= bytes && bytes <= TRACE_BYTES
+    bytes % 4 == 0 && 4 <= bytes && bytes <= MAX_TRACE_BYTES
 }
 
 /// How many words a result or a trace message has, by its channel.
