@@ -4,7 +4,9 @@ ghost use Rattle.std.specs.Prelude.{◌≡◌};
 ghost use Rattle.tp_image.specs.Image.{InRange, number_of};
 
 use crate::layout::{HEADER_BYTES_1, HEADER_BYTES_2};
-use crate::limits::{MAX_CODE_BYTES_1, MAX_CODE_BYTES_2, MAX_WORKSPACE_WORDS_1, MAX_WORKSPACE_WORDS_2};
+use crate::limits::{
+    MAX_CODE_BYTES_1, MAX_CODE_BYTES_2, MAX_WORKSPACE_WORDS_1, MAX_WORKSPACE_WORDS_2,
+};
 use std::marker::Model;
 
 /// A version of the image format.

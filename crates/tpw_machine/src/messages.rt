@@ -18,7 +18,7 @@ use crate::turn::Turn;
 use tp_image::Image;
 use tp_link::{DeviceFault, Link, LinkDevice, LinkFault, Links};
 use tp_step::profile::{
-    LINK0_INPUT, LINK0_OUTPUT, LINK1_OUTPUT, MEM_START, MAX_MOVE_BYTES, MAX_TRACE_BYTES, has_move,
+    LINK0_INPUT, LINK0_OUTPUT, LINK1_OUTPUT, MAX_MOVE_BYTES, MAX_TRACE_BYTES, MEM_START, has_move,
 };
 
 /// Whether these are the channel and the length of a trace message.

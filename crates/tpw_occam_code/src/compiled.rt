@@ -15,7 +15,7 @@ use crate::loops::check_loops;
 use crate::uses::{Used, uses_of};
 use std::alloc::Global;
 use tp_image::Version;
-use tp_image::limits::{MIN_WORKSPACE, MAX_WORKSPACE_WORDS_2};
+use tp_image::limits::{MAX_WORKSPACE_WORDS_2, MIN_WORKSPACE};
 use tpw_asm::{AssemblyFault, Program, addresses};
 use tpw_occam_core::{Message, Place, Worker};
 

@@ -7,7 +7,8 @@ use tp_decode::Instr;
 use tp_image::{Image, Version};
 use tp_prefix::read_one;
 use tp_step::profile::{
-    FRAME_WORDS, LINK0_INPUT, LINK0_OUTPUT, LINK1_OUTPUT, MAX_MOVE_BYTES, MAX_TRACE_BYTES, WORD_BYTES,
+    FRAME_WORDS, LINK0_INPUT, LINK0_OUTPUT, LINK1_OUTPUT, MAX_MOVE_BYTES, MAX_TRACE_BYTES,
+    WORD_BYTES,
 };
 use tpw_machine::{Phase, Registers};
 

@@ -9,7 +9,7 @@ ghost use Rattle.tpw_text.specs.Meaning.{local_initials_added, line_added, lines
 ghost use Rattle.tpw_text.specs.Meaning.{local_instr_added, instruction_added, message_added, accessing, access_added};
 ghost use Rattle.tpw_text.specs.Meaning.{loop_begun, loop_named, innermost, loop_ended, row_added, added};
 
-use crate::draft::{Begun, Control, Draft, DraftLine, LocalName, MOST, MAX_WORDS, Row, Target};
+use crate::draft::{Begun, Control, Draft, DraftLine, LocalName, MAX_WORDS, MOST, Row, Target};
 use crate::fault::{SourceFault, TextFault};
 use crate::instructions::number_line;
 use crate::statement::{

@@ -209,9 +209,7 @@ fn workspace_of(draft: &Draft<'_>) -> u32
     ensures { result ≡ workspace_said (said draft.now) }
 {
     let needed = u32::from(draft.start) + u32::from(draft.words);
-    draft
-        .workspace
-        .map_or(needed.max(MIN_WORKSPACE), u32::from)
+    draft.workspace.map_or(needed.max(MIN_WORKSPACE), u32::from)
 }
 
 /// Whether words of a name lie behind a workspace of so many words, in a worker that begins at a workspace word.
