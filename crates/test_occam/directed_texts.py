@@ -71,6 +71,8 @@ def subscripts():
         worker(f'masked by {mask}', ['SEQ i = 0 FOR 8', '  a[i] := i TIMES 11', f'r := a[p[0] /\\ {mask}]'],
                [packet(a, 0) for a in ENDS], declared=['[8]INT a:'])
     worker('a remainder as a subscript', ['SEQ i = 0 FOR 7', '  a[i] := i', 'r := a[p[0] \\ 7]'], [packet(a, 0) for a in ENDS], declared=['[7]INT a:'])
+    worker('an index below the first', ['SEQ i = 0 FOR 3', '  a[i] := 10 + i', 'SEQ i = -1 FOR 3', '  r := (r TIMES 7) PLUS a[i]'], pairs()[:1],
+           declared=['[3]INT a:'])
     worker('words of bytes', ['SEQ i = 0 FOR 8', '  m[i] := BYTE i', 'w[p[0] /\\ 1] := p[1]', 'r := (w[0] >< w[1]) PLUS (INT m[3])'],
            pairs(), declared=['[8]BYTE m:', '[2]INT w RETYPES m:'])
 
@@ -109,6 +111,8 @@ def choices():
     worker('the first guard that is true', ['IF', '  p[0] > 1', '    r := 1', '  p[0] > 0', '    r := 2', '  TRUE', '    r := 3'], pairs()[::14])
     worker('a case', ['CASE p[0]', '  0, 7', '    r := 1', '  #FF', '    r := 2', '  -1', '    r := 3', '  MOSTNEG INT', '    r := 4'], pairs()[::14])
     worker('a case with ELSE', ['CASE BYTE (p[0] /\\ 255)', '  0, 7', '    r := 1', '  ELSE', '    r := 9', "  'a', 255", '    r := 2'], pairs()[::14])
+    worker('assigned on one way alone', ['SEQ i = 0 FOR 4', '  INT x:', '  SEQ', '    IF', '      i = p[0]', '        x := p[1]', '      TRUE',
+           '        SKIP', '    r := (r TIMES 3) PLUS x'], pairs())
     worker('STOP goes on', ['IF', '  p[0] = 0', '    STOP', '  TRUE', '    SKIP', 'r := 4'], pairs()[::14])
     for start, count in ((0, 0), (0, 1), (5, 1), (-3, 7), (2147483640, 8), (-2147483648, 3), (0, 40)):
         worker(f'{count} turns from {start}', [f'SEQ i = {start if start >= -2147483647 else "MOSTNEG INT"} FOR {count}', '  r := (r TIMES 7) PLUS i'], pairs()[:1])
