@@ -9,3 +9,4 @@ pub mod Ranges
 pub mod Values
 pub mod Agreement
 pub mod Computing
+pub mod Executing

@@ -1,5 +1,8 @@
 //! Code of assignments.
 
+ghost use Rattle.std.specs.Prelude.{◌≡◌, OnOk};
+ghost use Rattle.tpw_occam_code.specs.Executing.{Assigns};
+
 use crate::code::{Code, Step};
 use crate::emitter::{Emitter, Room};
 use crate::fault::CodeFault;
@@ -36,7 +39,10 @@ impl Emitter<'_> {
         code: &mut Code,
         all: &[Assignment],
         line: u32,
-    ) -> Result<(), CodeFault> {
+    ) -> Result<(), CodeFault>
+        ensures knowledge { OnOk result (self.new ≡ self.old) }
+        ensures assigns { OnOk result (Assigns self.old code.old code.new all.now) }
+    {
         match moves(self.alloc, all)? {
             Some(moves) if !keep_any(&moves) || !self.fit_in_registers(all) => {
                 self.make_moves(code, all, &moves, line)

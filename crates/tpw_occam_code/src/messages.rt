@@ -1,5 +1,8 @@
 //! Code of messages.
 
+ghost use Rattle.std.specs.Prelude.{◌≡◌, OnOk};
+ghost use Rattle.tpw_occam_code.specs.Executing.{Traces};
+
 use crate::code::{Code, Step};
 use crate::emitter::{Emitter, Room};
 use crate::fault::CodeFault;
@@ -79,7 +82,10 @@ impl Emitter<'_> {
         code: &mut Code,
         m: &Message,
         line: u32,
-    ) -> Result<(), CodeFault> {
+    ) -> Result<(), CodeFault>
+        ensures knowledge { OnOk result (self.new ≡ self.old) }
+        ensures traces { OnOk result (Traces self.old code.old code.new m.now) }
+    {
         self.output(code, m, LINK1_OUTPUT, line)
     }
 

@@ -1,5 +1,9 @@
 //! Code of processes. No register is in use between processes, and no word is kept.
 
+ghost use Rattle.std.specs.Prelude.{◌≡◌, OnOk};
+ghost use Rattle.tpw_occam_core.specs.declared.process.Process.TheVariants as process;
+ghost use Rattle.tpw_occam_code.specs.Executing.{Clears, Executes};
+
 use crate::analysis::{First, first_use};
 use crate::code::{Code, Step, Turns};
 use crate::emitter::{Emitter, Room, constant, counted, fact_of};
@@ -62,15 +66,6 @@ fn clear_by_moves(code: &mut Code, line: u32, a: usize, words: u32) -> Result<()
     Ok(())
 }
 
-/// Makes the bytes of an array of so many words 0.
-fn clear_array(code: &mut Code, line: u32, a: usize, words: u32) -> Result<(), CodeFault> {
-    if words <= FEW_WORDS {
-        clear_words(code, line, a, words)
-    } else {
-        clear_by_moves(code, line, a, words)
-    }
-}
-
 /// Appends code for where Areg is not 0, and where it is.
 fn choose(code: &mut Code, line: u32, yes: &Code, no: &Code) -> Result<(), CodeFault> {
     code.emit(line, Step::CjTo(yes.here() + 1))?;
@@ -115,7 +110,10 @@ impl Emitter<'_> {
         code: &mut Code,
         p: &Process,
         line: u32,
-    ) -> Result<(), CodeFault> {
+    ) -> Result<(), CodeFault>
+        ensures knowledge { OnOk result (self.new ≡ self.old) }
+        ensures executes { OnOk result (Executes self.old code.old code.new p.now) }
+    {
         match p {
             Process::Skip => Ok(()),
             Process::Stop => code.instr(line, Instr::Seterr),
@@ -154,7 +152,7 @@ impl Emitter<'_> {
                 Ok(())
             }
             Process::Array { name, body } => {
-                clear_array(code, line, *name, self.words(*name))?;
+                self.clear_array(code, *name, line)?;
                 self.process(code, body, line)
             }
             Process::Trace(m) => self.trace(code, m, line),
@@ -162,8 +160,22 @@ impl Emitter<'_> {
         }
     }
 
+    /// Makes the bytes of an array 0.
+    fn clear_array(&self, code: &mut Code, a: usize, line: u32) -> Result<(), CodeFault>
+        ensures { OnOk result (Clears self.now code.old code.new a) }
+    {
+        let words = self.words(a);
+        if words <= FEW_WORDS {
+            clear_words(code, line, a, words)
+        } else {
+            clear_by_moves(code, line, a, words)
+        }
+    }
+
     /// Copies an array.
-    fn copy(&self, code: &mut Code, to: usize, from: usize, line: u32) -> Result<(), CodeFault> {
+    fn copy(&self, code: &mut Code, to: usize, from: usize, line: u32) -> Result<(), CodeFault>
+        ensures { OnOk result (Executes self.now code.old code.new (process.Copy to from)) }
+    {
         if to == from {
             return Ok(());
         }

@@ -1,0 +1,176 @@
+-- What the code of a process does.
+use Rattle.std.specs.Prelude.{◌≡◌, ◌≢◌, ℕ, ◌+◌, ◌*◌, ◌/◌, ◌≤◌, Bool, true, false, ◌||◌, ◌&&◌, if◌then◌else◌, nat_le}
+use Rattle.std.specs.Prelude.{List, [], ◌∷◌, ◌++◌, length, map, replicate, slice_index, slice_get, Some, IsTrue}
+use Rattle.std.specs.List.{list_all, list_any}
+use Rattle.tpw_occam_core.specs.declared.worker.Storage.{Storage}
+use Rattle.tpw_occam_core.specs.declared.scope.Entry.{Entry}
+use Rattle.tpw_occam_core.specs.declared.scope.Entry.TheVariants as entry
+use Rattle.tpw_occam_core.specs.declared.expression.Expression.{Expression}
+use Rattle.tpw_occam_core.specs.declared.process.Target.{Target}
+use Rattle.tpw_occam_core.specs.declared.process.Target.TheVariants as target
+use Rattle.tpw_occam_core.specs.declared.process.Assignment.{Assignment}
+use Rattle.tpw_occam_core.specs.declared.process.Message.{Message}
+use Rattle.tpw_occam_core.specs.declared.process.Message.TheVariants as message
+use Rattle.tpw_occam_core.specs.declared.process.Process.{Process}
+use Rattle.tpw_occam_core.specs.declared.process.Process.TheVariants as process
+use Rattle.tpw_occam_core.specs.Meaning.{Store, array_of, with_array, kind_of, assigned, traced, run}
+use Rattle.tpw_occam_core.specs.Sound.{is_variable, is_name, is_new_array, is_sized, is_sound_assignment, is_sound_message}
+use Rattle.tpw_occam_core.specs.Sound.{is_sound_process}
+use Rattle.tpw_occam_code.specs.declared.analysis.First.{First}
+use Rattle.tpw_occam_code.specs.declared.analysis.First.TheVariants.{Nothing, Assigned, Read}
+use Rattle.tpw_occam_code.specs.declared.items.Item.TheVariants.{Variable, Zeros}
+use Rattle.tpw_occam_code.specs.declared.code.Step.TheVariants.{Pointer}
+use Rattle.tpw_occam_code.specs.declared.code.CodeLine.{CodeLine}
+use Rattle.tpw_occam_code.specs.Code.{Lines}
+use Rattle.tpw_occam_code.specs.Symbolic.{Machine}
+use Rattle.tpw_occam_code.specs.Leading.{Does, word_bytes}
+use Rattle.tpw_occam_code.specs.Agreement.{Knowledge, fact_at, fact_of_kind, Knows, Agrees}
+use Rattle.tpw_occam_code.specs.Computing.{IsPlace, reads}
+
+-- ---- what happens first to a variable
+
+-- here, or else in what follows
+abbrev pub then_first : First → First → First
+then_first Nothing next = next
+then_first found next = found
+
+-- on either of two ways: where they differ it counts as read
+abbrev pub either_first : First → First → First
+either_first Nothing Nothing = Nothing
+either_first Assigned Assigned = Assigned
+either_first one other = Read
+
+abbrev pub first_in : Expression → ℕ → First
+first_in e x = if reads e x then Read else Nothing
+
+abbrev pub first_in_message : Message → ℕ → First
+first_in_message (message.Value e) x = first_in e x
+first_in_message (message.Array a) x = Nothing
+
+-- the value or the subscript of an assignment reads a variable
+abbrev pub subscript_reads : Target → ℕ → Bool
+subscript_reads (target.Variable y) x = false
+subscript_reads (target.Element a kind e) x = reads e x
+
+abbrev pub sources_read : ℕ → Assignment → Bool
+sources_read x a = reads a.value x || subscript_reads a.target x
+
+-- a target is this variable
+abbrev pub is_target : ℕ → Target → Bool
+is_target x (target.Variable y) = y == x
+is_target x (target.Element a kind e) = false
+
+abbrev pub first_in_assignments : List Assignment → ℕ → First
+first_in_assignments all x =
+    if list_any (sources_read x) all then Read
+    else if list_any (λ a. is_target x a.target) all then Assigned
+    else Nothing
+
+abbrev pub first_use : Process → ℕ → First
+first_use process.Skip x = Nothing
+first_use process.Stop x = Nothing
+first_use (process.Assign list) x = first_in_assignments list.items x
+first_use (process.Copy to from) x = Nothing
+first_use (process.Sequence' p first q second) x = then_first (first_use first x) (first_use second x)
+first_use (process.Repeat' y start count p body) x = if count == 0 then Nothing else first_use body x
+first_use (process.If' e p guarded q rest) x = then_first (first_in e x) (either_first (first_use guarded x) (first_use rest x))
+first_use (process.Variable' y p body) x = first_use body x
+first_use (process.Value' y e p body) x = then_first (first_in e x) (first_use body x)
+first_use (process.Array' a p body) x = first_use body x
+first_use (process.Trace m) x = first_in_message m x
+first_use (process.At' line p body) x = first_use body x
+
+abbrev pub is_nothing : First → Bool
+is_nothing Nothing = true
+is_nothing found = false
+
+-- the variables that are not assigned yet, behind a process
+abbrev pub unset_after : (ℕ → First) → (ℕ → Bool) → ℕ → Bool
+unset_after first unset x = unset x && is_nothing (first x)
+
+-- ---- states
+
+-- Where processes stand: as expressions; what is known of a variable is what its kind says; every array has 1 to 2,048
+-- bytes.
+pub record IsProcessPlace (k : Knowledge) (storages : List Storage) (scope : List Entry) : Type 0 where
+  pub place : IsPlace k storages scope
+  pub variables : (x : ℕ) → IsTrue (list_any (is_variable x) scope) → fact_at k x ≡ fact_of_kind (kind_of k.kinds x)
+  pub sized : IsTrue (list_all is_sized storages)
+
+-- A process may run there: it is sound, and reads no variable that is not assigned yet.
+pub record MayRun (scope : List Entry) (unset : ℕ → Bool) (sound : Bool) (first : ℕ → First) : Type 0 where
+  pub sound : IsTrue sound
+  pub assigned : (x : ℕ) → unset x ≡ true → first x ≢ Read
+  pub declared : (x : ℕ) → unset x ≡ true → IsTrue (list_any (is_variable x) scope)
+
+abbrev pub none_unset : ℕ → Bool
+none_unset x = false
+
+-- What is known holds of a state, and every array has its size.
+pub record KnowsState (k : Knowledge) (scope : List Entry) (s : Store) : Type 0 where
+  pub knows : Knows k scope none_unset s
+  pub sizes : map length s.arrays ≡ k.arrays
+
+-- how many words one `move` clears at most
+abbrev pub most_cleared : ℕ
+most_cleared = 32
+
+-- the bytes that one `move` clears of an array of so many
+abbrev pub cleared_bytes : ℕ → ℕ
+cleared_bytes bytes = if nat_le (word_bytes bytes) (4 * most_cleared) then word_bytes bytes else 4 * most_cleared
+
+-- A machine between processes: it agrees with a state, with its flag and its traces. The zeros are zeros, and where
+-- code points at them they are enough for each array that may be declared.
+pub record Matches (k : Knowledge) (storages : List Storage) (scope : List Entry) (unset : ℕ → Bool) (s : Store) (m : Machine)
+    : Type 0 where
+  pub agrees : Agrees k scope unset s m
+  pub flag : m.error ≡ s.flag
+  pub traced : m.traced ≡ s.traced
+  pub zeros : (i : ℕ) → m.blocks Zeros i ≡ 0
+  pub room : (place word : ℕ) (line : CodeLine) → slice_get m.code place ≡ Some line → line.step ≡ Pointer Zeros word
+      → (a : ℕ) → IsTrue (is_new_array storages scope a) → cleared_bytes (slice_index k.arrays a) ≤ m.sizes Zeros
+
+-- What the code of a process leaves: the counts of loops, which lie behind their indices; the packet and the result.
+pub record LeavesCounts (scope : List Entry) (m end : Machine) : Type 0 where
+  pub counts : (x i : ℕ) → IsTrue (list_any (is_name x) scope) → end.blocks (Variable x) (4 + i) ≡ m.blocks (Variable x) (4 + i)
+  pub to_come : end.to_come ≡ m.to_come
+  pub sent : end.sent ≡ m.sent
+
+-- ---- processes
+
+-- the state in which an array is zeros
+abbrev pub cleared : ℕ → Store → Store
+cleared a s = with_array a (replicate (length (array_of s a)) 0) s
+
+-- Where something sound may run that does something first to each variable, code makes of a machine that matches a
+-- state one that matches what is made of the state.
+abbrev pub ExecutesTo : Knowledge → (old new : Lines) → (ℕ → List Storage → List Entry → Bool) → (ℕ → First)
+    → (Store → Store) → Type 0
+ExecutesTo k old new sound first made =
+    (storages : List Storage) (scope : List Entry) (unset : ℕ → Bool) (s : Store) → IsProcessPlace k storages scope
+    → MayRun scope unset (sound (length k.kinds) storages scope) first → KnowsState k scope s
+    → Does k.arrays old new (Matches k storages scope unset s)
+    (λ m end. Matches k storages scope (unset_after first unset) (made s) end × LeavesCounts scope m end)
+
+-- the code of assignments that are made together, of a trace, ..
+abbrev pub Assigns : Knowledge → (old new : Lines) → List Assignment → Type 0
+Assigns k old new all =
+    ExecutesTo k old new (λ count storages scope. list_all (is_sound_assignment count storages scope) all)
+    (first_in_assignments all) (assigned k.kinds all)
+
+abbrev pub Traces : Knowledge → (old new : Lines) → Message → Type 0
+Traces k old new m =
+    ExecutesTo k old new (λ count storages scope. is_sound_message count storages scope m) (first_in_message m) (traced m)
+
+-- .. of an array's bytes, which are made 0 where it is declared, ..
+abbrev pub Clears : Knowledge → (old new : Lines) → ℕ → Type 0
+Clears k old new a =
+    (storages : List Storage) (scope : List Entry) (unset : ℕ → Bool) (s : Store) → IsProcessPlace k storages scope
+    → IsTrue (is_new_array storages scope a) → KnowsState k scope s
+    → Does k.arrays old new (Matches k storages scope unset s)
+    (λ m end. Matches k storages (scope ++ entry.Array a ∷ []) unset (cleared a s) end × LeavesCounts scope m end)
+
+-- .. and of a process
+abbrev pub Executes : Knowledge → (old new : Lines) → Process → Type 0
+Executes k old new p =
+    ExecutesTo k old new (λ count storages scope. is_sound_process count storages scope p) (first_use p) (run k.kinds p)
