@@ -1,8 +1,9 @@
 //! Code of processes. No register is in use between processes, and no word is kept.
 
-ghost use Rattle.std.specs.Prelude.{◌≡◌, OnOk};
+ghost use Rattle.std.specs.Prelude.{◌≡◌, ◌≤◌, ◌*◌, OnOk};
 ghost use Rattle.tpw_occam_core.specs.declared.process.Process.TheVariants as process;
 ghost use Rattle.tpw_occam_code.specs.Executing.{Clears, Executes};
+ghost use Rattle.tpw_occam_code.specs.Moving.{ClearsWord, ClearsWords, Moves};
 
 use crate::analysis::{First, first_use};
 use crate::code::{Code, Step, Turns};
@@ -29,13 +30,17 @@ fn is_skip(p: &Process) -> bool {
 }
 
 /// Makes a word 0.
-fn clear(code: &mut Code, line: u32, item: Item, word: u32) -> Result<(), CodeFault> {
+fn clear(code: &mut Code, line: u32, item: Item, word: u32) -> Result<(), CodeFault>
+    ensures { OnOk result (ClearsWord code.old code.new item word) }
+{
     code.constant(line, 0)?;
     code.emit(line, Step::Store(item, word))
 }
 
 /// Makes the words of an array 0 one by one.
-fn clear_words(code: &mut Code, line: u32, a: usize, words: u32) -> Result<(), CodeFault> {
+fn clear_words(code: &mut Code, line: u32, a: usize, words: u32) -> Result<(), CodeFault>
+    ensures { OnOk result (ClearsWords code.old code.new a words words) }
+{
     for word in 0..words {
         clear(code, line, Item::Array(a), word)?;
     }
@@ -49,7 +54,9 @@ fn move_words(
     from: Item,
     to: (Item, u32),
     words: u32,
-) -> Result<(), CodeFault> {
+) -> Result<(), CodeFault>
+    ensures { OnOk result (words ≤ 512 → Moves code.old code.new from to.0 to.1 (4 * words)) }
+{
     code.emit(line, Step::Pointer(from, 0))?;
     code.emit(line, Step::Pointer(to.0, to.1))?;
     code.constant(line, words.saturating_mul(4))?;
@@ -57,7 +64,9 @@ fn move_words(
 }
 
 /// Makes the words of an array 0 by copies of words that stay 0.
-fn clear_by_moves(code: &mut Code, line: u32, a: usize, words: u32) -> Result<(), CodeFault> {
+fn clear_by_moves(code: &mut Code, line: u32, a: usize, words: u32) -> Result<(), CodeFault>
+    ensures { OnOk result (words ≤ 512 → ClearsWords code.old code.new a words words) }
+{
     for part in 0..words.div_ceil(MAX_WORDS) {
         let first = part.saturating_mul(MAX_WORDS);
         let count = words.saturating_sub(first).min(MAX_WORDS);
