@@ -161,8 +161,12 @@ clears k old new a words whole clear storages scope unset s place is_new knows =
     let long = array_long k scope s a knows in
     let all : 4 * words ≡ word_bytes (slice_index k.arrays a) = whole sized.1 in
     does_within k.arrays old new _ _ _ _ (clear (omega (arith, all, sized.1)) k.arrays (omega (arith, all)))
-    (λ m matches. (matches.agrees.constants, matches.zeros, (λ step served.
-    rw all (rw (whole_again (slice_index k.arrays a)) (matches.room step.place 0 step.line step.there step.is a is_new)))))
+    (λ m matches. (
+      matches.agrees.constants,
+      matches.zeros,
+      (λ step served.
+          rw all (rw (whole_again (slice_index k.arrays a)) (matches.room step.place 0 step.line step.there step.is a is_new))),
+    ))
     (λ m end code sizes matches cleared.
     let taken : HasTaken a (replicate {A = ℕ} (length (array_of s a)) 0) m end = record {
       has = λ i h. cleared.zero i (omega (arith, h, length-replicate {A = ℕ} (length (array_of s a)) 0, long, all))
@@ -172,10 +176,11 @@ clears k old new a words whole clear storages scope unset s place is_new knows =
       to_come = cleared.to_come;
       sent = cleared.sent;
       traced = cleared.traced;
-    } in
-    (matches_taken k storages scope (scope ++ entry.Array a ∷ []) unset unset s m end a _ (array_there k scope s a knows (is_within k.arrays a sized.0)) matches taken code sizes
-    (last_name scope a) (last_array scope a) (last_new storages scope a) (λ x e. e),
-    taken_leaves scope a _ m end taken))
+    } in (
+      matches_taken k storages scope (scope ++ entry.Array a ∷ []) unset unset s m end a _ (array_there k scope s a knows (is_within k.arrays a sized.0)) matches taken code sizes
+          (last_name scope a) (last_array scope a) (last_new storages scope a) (λ x e. e),
+      taken_leaves scope a _ m end taken,
+    ))
   where
     whole_again : (n : ℕ) → cleared_bytes (word_bytes n) ≡ cleared_bytes n
     whole_again n = let same : word_bytes (word_bytes n) ≡ word_bytes n = omega arith in ap (λ b. if nat_le b 128 then b else 128) same
@@ -214,11 +219,12 @@ copies k old new to from words whole move storages scope unset s place may knows
       to_come = writes.to_come;
       sent = writes.sent;
       traced = writes.traced;
-    } in
-    (matches_taken k storages scope scope unset _ s m end to (array_of s from)
-    (array_there k scope s to knows (is_within k.arrays to (place.place.least to to_there))) matches taken code sizes
-    (λ x h. h) (λ b h other. h) (λ b h. h) (λ x e. sym (and-true (unset x)) ∙ e),
-    taken_leaves scope to _ m end taken))
+    } in (
+      matches_taken k storages scope scope unset _ s m end to (array_of s from)
+          (array_there k scope s to knows (is_within k.arrays to (place.place.least to to_there))) matches taken code sizes
+          (λ x h. h) (λ b h other. h) (λ b h. h) (λ x e. sym (and-true (unset x)) ∙ e),
+      taken_leaves scope to _ m end taken,
+    ))
 
 -- fewer names are not assigned yet
 pub matches_set : (k : Knowledge) (storages : List Storage) (scope : List Entry) (before after : ℕ → Bool) (s : Store) (m : Machine)
@@ -241,10 +247,11 @@ same_array s a = ap (λ arrays. record s { arrays = arrays }) (set-get_or s.arra
 pub copies_nothing : (k : Knowledge) (code : Lines) (a : ℕ) → Executes k code code (process.Copy a a)
 copies_nothing k code a storages scope unset s place may knows =
     does_less k.arrays code code _ _ _ _ (does_nothing k.arrays code) (λ m matches. tt)
-    (λ m end matches is.
-    (rw (same_array s a) (rw is (matches_set k storages scope unset _ s m (λ x e. sym (and-true (unset x)) ∙ e) matches)),
-    record {
-      counts = λ x i there. ap (λ (e : Machine). e.blocks (Variable x) (4 + i)) is;
-      to_come = ap (λ (e : Machine). e.to_come) is;
-      sent = ap (λ (e : Machine). e.sent) is;
-    }))
+    (λ m end matches is. (
+      rw (same_array s a) (rw is (matches_set k storages scope unset _ s m (λ x e. sym (and-true (unset x)) ∙ e) matches)),
+      record {
+        counts = λ x i there. ap (λ (e : Machine). e.blocks (Variable x) (4 + i)) is;
+        to_come = ap (λ (e : Machine). e.to_come) is;
+        sent = ap (λ (e : Machine). e.sent) is;
+      },
+    ))

@@ -86,8 +86,11 @@ does_placed w old new source made Before f is performs code_stays sizes_stay sto
         running = stopped_stays m ∙ before.running;
         same_code = code_stays m;
         same_sizes = sizes_stay m;
-        after = (ap (λ p. at_place p (f m)) next, before.served m.place line at,
-        record { place = m.place; line = line; there = at; is = refl });
+        after = (
+          ap (λ p. at_place p (f m)) next,
+          before.served m.place line at,
+          record { place = m.place; line = line; there = at; is = refl },
+        );
       };
 }
 

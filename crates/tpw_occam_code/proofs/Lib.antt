@@ -16,3 +16,4 @@ pub mod Conditions
 pub mod Naming
 pub mod Moving
 pub mod Copying
+pub mod Sending

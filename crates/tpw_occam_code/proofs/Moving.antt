@@ -106,9 +106,10 @@ module _ (old one two three new : Lines) (line : ℕ) (source target : Item) (wo
       (λ m middle said at.
       subst (λ x. Provides arrays x (Pointer target word) target (4 * word + bytes)) (sym at.0)
       (λ step served. said.2 (same_step m _ _ _ step) served))
-      (λ m middle end said at at2.
-      (at2.0 ∙ ap (λ x. at_place (place_behind two) (push (address target (4 * word)) x)) at.0,
-      record { from = at.1; to = subst (λ n. 4 * word + bytes ≤ n) (ap (λ x. x.sizes target) at.0) at2.1 }))
+      (λ m middle end said at at2. (
+        at2.0 ∙ ap (λ x. at_place (place_behind two) (push (address target (4 * word)) x)) at.0,
+        record { from = at.1; to = subst (λ n. 4 * word + bytes ≤ n) (ap (λ x. x.sizes target) at.0) at2.1 },
+      ))
 
   counts : (arrays : List ℕ) → Does arrays old three (Ready arrays)
       (λ m end. (end ≡ at_place (place_behind three) (push (number bytes) (pointed m))) × HasRoom m)
@@ -211,10 +212,15 @@ clears_part old between new a words done count inside few first next arrays long
     (first arrays long) (λ m said. said) (λ m end code sizes said cleared. (cleared, code, sizes)))
     (next arrays)
     (λ m middle said at. (
-    constants_stay m middle (λ c i. at.0.others (Constant c) i refl) said.0,
-    (λ step served. omega (arith, few, subst (λ n. cleared_bytes (4 * words) ≤ n) (ap (λ f. f Zeros) (sym at.2))
-    (said.2 (step_before m middle at.1 step) tt))),
-    (λ step served. omega (arith, inside, long, served))))
+      constants_stay m middle (λ c i. at.0.others (Constant c) i refl) said.0,
+      (λ step served. omega (
+        arith,
+        few,
+        subst (λ n. cleared_bytes (4 * words) ≤ n) (ap (λ f. f Zeros) (sym at.2))
+            (said.2 (step_before m middle at.1 step) tt),
+      )),
+      (λ step served. omega (arith, inside, long, served)),
+    ))
     (λ m middle end said at writes.
     subst (λ n. HasCleared a n m end) (omega arith)
     (cleared_more a (4 * done) (4 * count) (bytes_at middle.blocks Zeros 0 (4 * count)) m middle end (length_bytes_at middle.blocks Zeros 0 (4 * count))
