@@ -222,7 +222,7 @@ room_stays k storages scope m end room code sizes place word line at is a new =
     subst (λ z. cleared_bytes (slice_index k.arrays a) ≤ z item.Zeros) (sym sizes)
     (room place word line (ap (λ c. slice_get c place) (sym code) ∙ at) is a new)
 
-room_taken : (k : Knowledge) (storages : List Storage) (scope : List Entry) (e : Entry) (x : ℕ) (fact : Fact) (m : Machine) → Declares e x
+pub room_taken : (k : Knowledge) (storages : List Storage) (scope : List Entry) (e : Entry) (x : ℕ) (fact : Fact) (m : Machine) → Declares e x
     → HasRoom k storages scope m → HasRoom (with_fact x fact k) storages (scope ++ e ∷ []) m
 room_taken k storages scope e x fact m declares room place word line at is a new =
     room place word line at is a

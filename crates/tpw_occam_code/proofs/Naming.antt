@@ -203,7 +203,7 @@ value_binds k x e value known storages scope unset s place stands knows new =
     knows_name k scope unset s x (value_of e s).word (valued_fact value.source) knows new place.facts
     (value_fits value (value_of e s).word (known storages scope unset s place stands knows))
 
-variable_differs : (count : ℕ) (scope : List Entry) (kept x : ℕ) → IsTrue (is_new_name count scope x) → (i : Item) → Stays scope kept i
+pub variable_differs : (count : ℕ) (scope : List Entry) (kept x : ℕ) → IsTrue (is_new_name count scope x) → (i : Item) → Stays scope kept i
     → is_item (item.Variable x) i ≡ false
 variable_differs count scope kept x new (item.Variable y) stays = new_name count scope x y new stays
 variable_differs count scope kept x new (item.Temporary t) stays = refl

@@ -1,6 +1,6 @@
 //! Code of processes. No register is in use between processes, and no word is kept.
 
-ghost use Rattle.std.specs.Prelude.{◌≡◌, [], ◌∷◌, OnOk};
+ghost use Rattle.std.specs.Prelude.{◌≡◌, ◌+◌, [], ◌∷◌, OnOk};
 ghost use Rattle.std.specs.Global.{Global};
 ghost use Rattle.tpw_occam_core.specs.declared.expression.Expression.TheVariants as expression;
 ghost use Rattle.tpw_occam_core.specs.declared.process.Process.TheVariants as process;

@@ -1,0 +1,261 @@
+-- The code of processes.
+use Rattle.std.proofs.Common.{◌≡◌, ◌⊎◌, inl, inr, ◌+◌, ◌*◌, ◌^◌, ◌≤◌, ◌<◌, [], ◌∷◌, ◌++◌, ℕ, zero, suc, List, length, map, Option, Some, None, Bool, false, true, nat_eq, refl, ap, sym, subst, ◌∙◌, arith, w32, Box, Global, append_assoc, length-append}
+use Rattle.std.specs.Prelude.{slice_index, slice_get, ◌||◌, ◌&&◌, ◌==◌, nat_lt, IsTrue, ◌≢◌, if◌then◌else◌}
+use Rattle.std.specs.Int.{to_le_bytes}
+use Rattle.std.specs.List.{list_any}
+use Rattle.std.proofs.Math.Bool.{or_assoc, or-false}
+use Rattle.std.proofs.lemmas.Bool.{eqb-true, eq-eqb}
+use Rattle.tp_decode.specs.declared.instr.Instr.TheVariants.{Seterr}
+use Rattle.tpw_occam_core.specs.declared.worker.Storage.{Storage}
+use Rattle.tpw_occam_core.specs.declared.scope.Entry.{Entry}
+use Rattle.tpw_occam_core.specs.declared.scope.Entry.TheVariants as entry
+use Rattle.tpw_occam_core.specs.declared.expression.Expression.{Expression}
+use Rattle.tpw_occam_core.specs.declared.process.Process.{Process}
+use Rattle.tpw_occam_core.specs.declared.process.Process.TheVariants as process
+use Rattle.tpw_occam_core.specs.Arithmetic.{plain}
+use Rattle.tpw_occam_core.specs.Meaning.{Store, value_of, with_value, kind_of, flagged, run, chosen}
+use Rattle.tpw_occam_core.specs.Sound.{is_name, is_variable, is_new_name, is_sound_expression, is_sound_process}
+use Rattle.tpw_occam_code.specs.declared.emitter.Fact.{Fact}
+use Rattle.tpw_occam_code.specs.declared.analysis.First.{First}
+use Rattle.tpw_occam_code.specs.declared.analysis.First.TheVariants.{Nothing, Assigned, Read}
+use Rattle.tpw_occam_code.specs.declared.items.Item.{Item}
+use Rattle.tpw_occam_code.specs.declared.items.Item.TheVariants as item
+use Rattle.tpw_occam_code.specs.declared.code.Step.TheVariants.{Plain, JumpTo, CjTo}
+use Rattle.tpw_occam_code.specs.declared.code.CodeLine.{CodeLine}
+use Rattle.tpw_occam_code.specs.Code.{Lines, followed_by, joined, none_at, line_of, place_behind}
+use Rattle.tpw_occam_code.specs.Blocks.{Blocks, is_item, bytes_at, with_word}
+use Rattle.tpw_occam_code.specs.Symbolic.{Machine, Leads, nowhere, onward, performed, effect, at_place, number, pop, raised}
+use Rattle.tpw_occam_code.specs.Leading.{Does, IsBefore, Arrives, HasLines, Makes, HasConstants, HasWord}
+use Rattle.tpw_occam_code.specs.Agreement.{Knowledge, constant_in, with_fact, fact_of_kind, Knows, Agrees, LeavesItems, Stays}
+use Rattle.tpw_occam_code.specs.Computing.{IsPlace, MayStand, reads, Binds, Binding, ComputesBinding, Decided, Decides}
+use Rattle.tpw_occam_code.specs.Executing.{IsProcessPlace, MayRun, none_unset, KnowsState, Matches, LeavesCounts, ExecutesTo, Executes, Clears, Chooses, Starts, with_item_word, chosen_lines, is_skip, first_use, first_in, then_first, either_first, is_nothing, unset_after}
+use Rattle.tpw_occam_code.proofs.Leading.{does_both, does_less, does_step, does_nothing, step_is, leads_then, has_first}
+use Rattle.tpw_occam_code.proofs.Computing.{agrees_after}
+use Rattle.tpw_occam_code.proofs.Constructs.{constant_value}
+use Rattle.tpw_occam_code.proofs.Keeping.{word_written, word_elsewhere}
+use Rattle.tpw_occam_code.proofs.Naming.{new_name, variable_differs}
+use Rattle.tpw_occam_code.proofs.Conditions.{does_branch, Branches, has_behind, jump_stands, cj_jumps, cj_passes}
+use Rattle.tpw_occam_code.proofs.Standing.{Place, and_first, and_second, or_first, or_second, suffices_two}
+use Rattle.tpw_occam_code.proofs.Knowing.{Follows, Remains, knows_fewer, knows_flagged, in_longer, last_in, Takes, value_takes, variable_takes, place_taken, knows_taken, HasRoom, room_stays, room_taken, matches_taken, matches_outside, matches_fewer, counts_then, counts_outside, counts_of_items}
+
+false_true : ◌≡◌ {A = Bool} false true → ⊥
+false_true e = cc
+
+-- ---- code that stays
+
+pub does_kept : (w : List ℕ) (old new : Lines) (Before : Machine → Type 0) (After : Machine → Machine → Type 0)
+    → Does w old new Before After → Does w old new Before (λ m end. After m end × (end.code ≡ m.code) × (end.sizes ≡ m.sizes))
+does_kept w old new Before After one = record {
+  base = one.base;
+  more = one.more;
+  lines = one.lines;
+  arrives = λ m at said.
+      let a = one.arrives m at said in
+      record {
+        end = a.end;
+        way = a.way;
+        place = a.place;
+        running = a.running;
+        same_code = a.same_code;
+        same_sizes = a.same_sizes;
+        after = (a.after, a.same_code, a.same_sizes);
+      };
+}
+
+-- code that is lengthened twice, where it counts that code and sizes stay
+pub does_in_turn : (w : List ℕ) (old between new : Lines)
+    (Before : Machine → Type 0) (After : Machine → Machine → Type 0)
+    (Before2 : Machine → Type 0) (After2 : Machine → Machine → Type 0) (AfterBoth : Machine → Machine → Type 0)
+    → Does w old between Before After → Does w between new Before2 After2
+    → ((m middle : Machine) → Before m → After m middle → middle.code ≡ m.code → middle.sizes ≡ m.sizes → Before2 middle)
+    → ((m middle end : Machine) → Before m → After m middle → After2 middle end → end.code ≡ m.code → end.sizes ≡ m.sizes → AfterBoth m end)
+    → Does w old new Before AfterBoth
+does_in_turn w old between new Before After Before2 After2 AfterBoth one two before_two both =
+    does_both w old between new _ _ _ _ _ (does_kept w old between Before After one) (does_kept w between new Before2 After2 two)
+    (λ m middle said after. before_two m middle said after.0 after.1 after.2)
+    (λ m middle end said after after2. both m middle end said after.0 after2.0 (after2.1 ∙ after.1) (after2.2 ∙ after.2))
+
+-- ---- machines that match
+
+-- what is in use stays; the flag may be set
+pub matches_leaves : (k : Knowledge) (storages : List Storage) (scope : List Entry) (unset : ℕ → Bool) (s : Store) (flag : Bool) (m end : Machine)
+    → Matches k storages scope unset s m → LeavesItems scope 0 m end → end.error ≡ flag → end.code ≡ m.code → end.sizes ≡ m.sizes
+    → Matches k storages scope unset (record s { flag = flag }) end
+matches_leaves k storages scope unset s flag m end matches leaves error code sizes =
+    let agrees = agrees_after k scope unset 0 s m end matches.agrees leaves in
+    record {
+      agrees = record { words = agrees.words; arrays = agrees.arrays; constants = agrees.constants };
+      flag = error;
+      traced = leaves.traced ∙ matches.traced;
+      zeros = λ i. leaves.blocks item.Zeros i tt ∙ matches.zeros i;
+      room = room_stays k storages scope m end matches.room code sizes;
+    }
+
+leaves_all : (scope : List Entry) (m end : Machine) → end.blocks ≡ m.blocks → end.to_come ≡ m.to_come → end.sent ≡ m.sent → end.traced ≡ m.traced
+    → LeavesItems scope 0 m end
+leaves_all scope m end blocks to_come sent traced = record {
+  blocks = λ i at stays. ap (λ (b : Blocks). b i at) blocks;
+  to_come = to_come;
+  sent = sent;
+  traced = traced;
+}
+
+-- ---- what is read first
+
+and_true : (u : Bool) → (u && true) ≡ false → u ≡ false
+and_true true e = e
+and_true false e = refl
+
+then_nothing : (a b : First) → is_nothing a ≡ true → then_first a b ≢ Read → b ≢ Read
+then_nothing Nothing b h n = n
+then_nothing Assigned b h n = cc
+then_nothing Read b h n = cc
+
+then_read : (a b : First) → then_first a b ≢ Read → a ≢ Read
+then_read Nothing b n = λ e. cc
+then_read Assigned b n = n
+then_read Read b n = n
+
+unset_both : (u : Bool) (a b : First) → (u && is_nothing (then_first a b)) ≡ false → ((u && is_nothing a) && is_nothing b) ≡ false
+unset_both false a b h = refl
+unset_both true Nothing b h = h
+unset_both true Assigned b h = refl
+unset_both true Read b h = refl
+
+not_read : (r : Bool) (b : First) → then_first (if r then Read else Nothing) b ≢ Read → r ≡ false
+not_read true b n = absurd (n refl)
+not_read false b n = refl
+
+unset_behind : (u r : Bool) (b : First) → (u ≡ true → r ≡ false) → (u && is_nothing (then_first (if r then Read else Nothing) b)) ≡ false
+    → (u && is_nothing b) ≡ false
+unset_behind false r b unread h = refl
+unset_behind true r b unread h = subst (λ r. is_nothing (then_first (if r then Read else Nothing) b) ≡ false) (unread refl) h
+
+behind_read : (r : Bool) (b : First) → r ≡ false → then_first (if r then Read else Nothing) b ≢ Read → b ≢ Read
+behind_read true b h n = absurd (false_true (sym h))
+behind_read false b h n = n
+
+-- ---- SKIP and STOP
+
+pub skip_executes : (k : Knowledge) (code : Lines) → Executes k code code process.Skip
+skip_executes k code storages scope unset s place may known =
+    does_less k.arrays code code _ _ _ _ (does_nothing k.arrays code) (λ m said. tt)
+    (λ m end matches is. (
+      matches_fewer k storages scope unset (unset_after (first_use process.Skip) unset) s end (λ y h. and_true (unset y) h)
+          (subst (Matches k storages scope unset s) (sym is) matches),
+      record { counts = λ x i there. ap (λ z. z.blocks (item.Variable x) (4 + i)) is; to_come = ap (λ z. z.to_come) is; sent = ap (λ z. z.sent) is },
+    ))
+
+pub stop_executes : (k : Knowledge) (old new : Lines) (source : ℕ) → new ≡ followed_by old (line_of source (Plain Seterr) ∷ [])
+    → Executes k old new process.Stop
+unfolding performed effect
+stop_executes k old new source is storages scope unset s place may known =
+    does_less k.arrays old new _ _ _ _
+    (does_kept k.arrays old new _ _
+    (does_step k.arrays old new source (Plain Seterr) (λ m. Unit {0}) (raised true) is (λ m said served. refl) (λ m. refl) (λ m. refl) (λ m. refl)))
+    (λ m said. tt)
+    (λ m end matches after.
+    let at = after.0 in
+    let leaves : LeavesItems scope 0 m end = leaves_all scope m end (ap (λ z. z.blocks) at) (ap (λ z. z.to_come) at) (ap (λ z. z.sent) at) (ap (λ z. z.traced) at) in (
+      matches_fewer k storages scope unset (unset_after (first_use process.Stop) unset) (flagged true s) end (λ y h. and_true (unset y) h)
+          (matches_leaves k storages scope unset s (s.flag || true) m end matches leaves
+          (ap (λ z. z.error) at ∙ ap (λ f. f || true) matches.flag) after.1 after.2),
+      counts_of_items scope 0 m end leaves,
+    ))
+
+-- ---- one process after another
+
+pub sequence_executes : (k : Knowledge) (old between new : Lines) (p : Place) (first : Process) (q : Place) (second : Process) → Remains k first
+    → Executes k old between first → Executes k between new second → Executes k old new (process.Sequence' p first q second)
+sequence_executes k old between new p first q second remains one two storages scope unset s place may known =
+    let unset2 = unset_after (first_use first) unset in
+    let may1 : MayRun scope unset (is_sound_process (length k.kinds) storages scope first) (first_use first) = record {
+      sound = and_first _ _ may.sound;
+      assigned = λ x h. then_read (first_use first x) (first_use second x) (may.assigned x h);
+      declared = may.declared;
+    } in
+    let may2 : MayRun scope unset2 (is_sound_process (length k.kinds) storages scope second) (first_use second) = record {
+      sound = and_second (is_sound_process (length k.kinds) storages scope first) _ may.sound;
+      assigned = λ x h. then_nothing (first_use first x) (first_use second x) (and_second (unset x) _ h) (may.assigned x (and_first _ _ h));
+      declared = λ x h. may.declared x (and_first _ _ h);
+    } in
+    does_both k.arrays old between new _ _ _ _ _ (one storages scope unset s place may1 known)
+    (two storages scope unset2 (run k.kinds first s) place may2 (remains storages scope s place may1.sound known).knows)
+    (λ m middle matches after. after.0)
+    (λ m middle end matches after after2. (
+      matches_fewer k storages scope (unset_after (first_use second) unset2) (unset_after (first_use (process.Sequence' p first q second)) unset)
+          (run k.kinds second (run k.kinds first s)) end (λ y h. unset_both (unset y) (first_use first y) (first_use second y) h) after2.0,
+      counts_then scope m middle end after.1 after2.1,
+    ))
+
+-- ---- a name with a value
+
+none_true : {A : Type 0} → none_unset 0 ≡ true → A
+none_true e = absurd (false_true e)
+
+pub value_executes : (k : Knowledge) (fact : Fact) (old between new_code : Lines) (x : ℕ) (e : Expression) (p : Place) (body : Process)
+    → Binds k (with_fact x fact k) x e → ComputesBinding k (with_fact x fact k) old between x e 3 0
+    → Executes (with_fact x fact k) between new_code body → Executes k old new_code (process.Value' x e p body)
+value_executes k fact old between new_code x e p body binds binding within storages scope unset s place may known =
+    let count = length k.kinds in
+    let v = value_of e s in
+    let t = with_value x v.word (flagged v.flag s) in
+    let wide = scope ++ entry.Value x ∷ [] in
+    let sound = and_first (is_sound_expression count storages scope e) _ (and_first _ _ may.sound) in
+    let new : IsTrue (is_new_name count scope x) = and_second (is_sound_expression count storages scope e) _ (and_first _ _ may.sound) in
+    let unread : (y : ℕ) → unset y ≡ true → reads e y ≡ false = λ y h. not_read (reads e y) (first_use body y) (may.assigned y h) in
+    let stands : MayStand k storages scope unset e = record { sound = sound; assigned = unread } in
+    let takes = value_takes k scope x fact new in
+    let bound = binds storages scope none_unset s place.place (record { sound = sound; assigned = λ y h. absurd (false_true h) }) known.knows new in
+    let known2 : KnowsState (with_fact x fact k) wide t = record {
+      knows = record { names = bound.names; lengths = bound.lengths; count = bound.count; bytes = bound.bytes };
+      sizes = known.sizes;
+    } in
+    let may2 : MayRun wide unset (is_sound_process count storages wide body) (first_use body) = record {
+      sound = and_second (is_sound_expression count storages scope e && is_new_name count scope x) _ may.sound;
+      assigned = λ y h. behind_read (reads e y) (first_use body y) (unread y h) (may.assigned y h);
+      declared = λ y h. in_longer (is_variable y) scope (entry.Value x) (may.declared y h);
+    } in
+    does_in_turn k.arrays old between new_code _ _ _ _ _
+    (does_less k.arrays old between _ _ (Matches k storages scope unset s) _
+    (binding storages scope unset s place.place stands (suffices_two k 3 e (omega arith) (omega arith)) (knows_fewer k scope unset s known.knows) new)
+    (λ m matches. matches.agrees) (λ m end matches after. after))
+    (within storages wide unset t (place_taken k storages scope (entry.Value x) x fact takes place) may2 known2)
+    (λ m middle matches after code sizes. record {
+      agrees = record { words = after.1.words; arrays = after.1.arrays; constants = after.1.constants };
+      flag = after.0.error ∙ ap (λ f. f || v.flag) matches.flag;
+      traced = after.0.leaves.traced ∙ matches.traced;
+      zeros = λ i. after.0.leaves.blocks item.Zeros i tt ∙ matches.zeros i;
+      room = room_taken k storages scope (entry.Value x) x fact middle takes.declares (room_stays k storages scope m middle matches.room code sizes);
+    })
+    (λ m middle end matches after after2 code sizes. (
+      matches_outside k storages scope (entry.Value x) x fact (unset_after (first_use body) unset) (unset_after (first_use (process.Value' x e p body)) unset)
+          (run k.kinds body t) m end takes (λ y there h. unset_behind (unset y) (reads e y) (first_use body y) (unread y) h) matches.room code sizes after2.0,
+      counts_then scope m middle end (counts_of_items scope 0 m middle after.0.leaves) (counts_outside scope (entry.Value x) middle end after2.1),
+    ))
+
+-- ---- a variable
+
+-- a word of an item that is not in use
+pub leaves_word : (count : ℕ) (scope : List Entry) (x place value : ℕ) (m end : Machine) → IsTrue (is_new_name count scope x)
+    → end ≡ at_place place (with_item_word (item.Variable x) 0 value m) → LeavesItems scope 0 m end
+leaves_word count scope x place value m end new at = record {
+  blocks = λ i k stays. ap (λ z. z.blocks i k) at ∙ word_elsewhere (item.Variable x) i k value m.blocks (variable_differs count scope 0 x new i stays);
+  to_come = ap (λ z. z.to_come) at;
+  sent = ap (λ z. z.sent) at;
+  traced = ap (λ z. z.traced) at;
+}
+
+or_either : (a b : Bool) → (a || b) ≡ true → (a ≡ true) ⊎ (b ≡ true)
+or_either true b h = inl refl
+or_either false b h = inr h
+
+or_none : (u n : Bool) (f : First) → n ≡ false → (u && is_nothing f) ≡ false → ((u || n) && is_nothing f) ≡ false
+or_none u n f none h = rw none (rw (or-false u) h)
+
+same_name : (x : ℕ) → nat_eq x x ≡ true
+same_name x = eq-eqb x x refl
+
+module _ (k : Knowledge) (old between new_code : Lines) (x : ℕ) (p : Place) (body : Process) where
+  fact : Fact
+  fact = fact_of_kind (kind_of k.kinds x)
