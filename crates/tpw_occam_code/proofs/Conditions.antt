@@ -248,7 +248,7 @@ pub cj_jumps : (to p : ℕ) (m : Machine) → m.areg ≡ number 0 → performed 
 unfolding performed
 cj_jumps to p m areg = rw areg refl
 
-suc_not_zero : (n : ℕ) → nat_eq (suc n) 0 ≡ false
+pub suc_not_zero : (n : ℕ) → nat_eq (suc n) 0 ≡ false
 suc_not_zero n = grind (arith, nat_tests)
 
 pub cj_passes : (to p n : ℕ) (m : Machine) → m.areg ≡ number (suc n) → performed (CjTo to) (at_place p m) ≡ Some (at_place p (pop m))

@@ -4,6 +4,8 @@ use Rattle.std.specs.Prelude.{slice_index, slice_set, slice_index_or, slice_get,
 use Rattle.std.specs.List.{list_any, list_all}
 use Rattle.std.proofs.Math.Bool.{or_assoc, or-false}
 use Rattle.std.proofs.lemmas.Bool.{ltb-true, leb-true, eqb-true, eq-eqb}
+use Rattle.tpw_occam_core.specs.declared.kind.Kind.{Kind}
+use Rattle.tpw_occam_core.specs.declared.kind.Kind.TheVariants as kinds
 use Rattle.tpw_occam_core.specs.declared.worker.Storage.{Storage}
 use Rattle.tpw_occam_core.specs.declared.scope.Entry.{Entry}
 use Rattle.tpw_occam_core.specs.declared.scope.Entry.TheVariants as entry
@@ -22,11 +24,15 @@ use Rattle.tpw_occam_code.specs.Leading.{HasWord, HasConstants}
 use Rattle.tpw_occam_code.specs.Agreement.{Knowledge, any_word, fact_at, with_fact, fact_of_kind, FitsFact, Knows, Agrees, LeavesItems}
 use Rattle.tpw_occam_code.specs.Computing.{IsPlace, MayStand, reads}
 use Rattle.tpw_occam_code.specs.Executing.{IsProcessPlace, MayRun, none_unset, KnowsState, cleared_bytes, Matches, LeavesCounts, cleared}
+use Rattle.tpw_occam_code.proofs.Ranges.{full_contains, byte_contains}
 use Rattle.tpw_occam_code.proofs.Naming.{any_last, new_name, slice_same, slice_other, slice_length}
 use Rattle.tpw_occam_code.proofs.Standing.{and_first, and_second, or_first, or_second}
 
 false_true : ◌≡◌ {A = Bool} false true → ⊥
 false_true e = cc
+
+none_some : {c : ℕ} → ◌≡◌ {A = Option ℕ} None (Some c) → ⊥
+none_some e = cc
 
 -- ---- what processes keep
 
@@ -317,4 +323,124 @@ counts_of_items scope kept m end leaves = record {
   counts = λ x i there. leaves.blocks (item.Variable x) (4 + i) there;
   to_come = leaves.to_come;
   sent = leaves.sent;
+}
+
+-- 0 is a value of each kind
+pub zero_fits : (kind : Kind) → FitsFact (fact_of_kind kind) 0
+zero_fits kinds.Word = record {
+  small = omega arith;
+  source = full_contains 0 (omega arith);
+  known = full_contains 0 (omega arith);
+  constant = λ c is. absurd (none_some is);
+}
+zero_fits kinds.Byte = record {
+  small = omega arith;
+  source = byte_contains 0 (omega arith);
+  known = full_contains 0 (omega arith);
+  constant = λ c is. absurd (none_some is);
+}
+
+-- ---- arrays
+
+sized_at : (storages : List Storage) (a : ℕ) → IsTrue (list_all is_sized storages) → a < length storages
+    → (0 < slice_index (map bytes_of storages) a) × (slice_index (map bytes_of storages) a ≤ 2048)
+sized_at [] a sized h = absurd (omega (arith, h))
+sized_at (storage ∷ storages) zero sized h =
+    let one = and_first (is_sized storage) _ sized in (ltb-true 0 _ (and_first _ _ one), leb-true _ 2048 (and_second (nat_lt 0 (bytes_of storage)) _ one))
+sized_at (storage ∷ storages) (suc a) sized h = sized_at storages a (and_second (is_sized storage) _ sized) (omega (arith, h))
+
+pub length_at : (arrays : List (List ℕ)) (a : ℕ) → length (slice_index_or arrays a []) ≡ slice_index (map length arrays) a
+length_at [] a = refl
+length_at (bytes ∷ arrays) zero = refl
+length_at (bytes ∷ arrays) (suc a) = length_at arrays a
+
+pub lengths_set : (arrays : List (List ℕ)) (a : ℕ) (bytes : List ℕ) → length bytes ≡ length (slice_index_or arrays a [])
+    → map length (slice_set arrays a bytes) ≡ map length arrays
+lengths_set [] a bytes same = refl
+lengths_set (one ∷ arrays) zero bytes same = ap (λ n. n ∷ map length arrays) same
+lengths_set (one ∷ arrays) (suc a) bytes same = ap (λ ns. length one ∷ ns) (lengths_set arrays a bytes same)
+
+-- what is so of what is written and of all that was there is so of all that is there
+pub set_holds : {A : Type 0} (P : A → Type 0) (xs : List A) (a b : ℕ) (v d : A) → P v → P (slice_index_or xs b d) → P (slice_index_or (slice_set xs a v) b d)
+set_holds P [] a b v d one other = other
+set_holds P (x ∷ xs) zero zero v d one other = one
+set_holds P (x ∷ xs) zero (suc b) v d one other = other
+set_holds P (x ∷ xs) (suc a) zero v d one other = other
+set_holds P (x ∷ xs) (suc a) (suc b) v d one other = set_holds P xs a b v d one other
+
+zeros_small : (n i : ℕ) → slice_index (replicate n 0) i < 256
+zeros_small zero i = omega arith
+zeros_small (suc n) zero = omega arith
+zeros_small (suc n) (suc i) = zeros_small n i
+
+zeros_long : (n : ℕ) → length {A = ℕ} (replicate n 0) ≡ n
+zeros_long zero = refl
+zeros_long (suc n) = ap suc (zeros_long n)
+
+-- an array takes other bytes, as many
+pub knows_bytes : (k : Knowledge) (scope : List Entry) (a : ℕ) (bytes : List ℕ) (s : Store) → length bytes ≡ length (array_of s a)
+    → ((i : ℕ) → slice_index bytes i < 256) → KnowsState k scope s → KnowsState k scope (with_array a bytes s)
+knows_bytes k scope a bytes s long small known =
+    let sizes = lengths_set s.arrays a bytes long ∙ known.sizes in
+    record {
+      knows = record {
+        names = known.knows.names;
+        lengths = λ b there. length_at (slice_set s.arrays a bytes) b ∙ ap (λ ns. slice_index ns b) sizes;
+        count = known.knows.count;
+        bytes = λ b i. set_holds (λ bytes. slice_index bytes i < 256) s.arrays a b bytes [] (small i) (known.knows.bytes b i);
+      };
+      sizes = sizes;
+    }
+
+pub knows_array : (k : Knowledge) (scope : List Entry) (a : ℕ) (s : Store) → KnowsState k scope s
+    → KnowsState k (scope ++ entry.Array a ∷ []) (cleared a s)
+knows_array k scope a s known =
+    let bytes = replicate (length (array_of s a)) 0 in
+    let after = knows_bytes k scope a bytes s (zeros_long (length (array_of s a))) (zeros_small (length (array_of s a))) known in
+    record {
+      knows = record {
+        names = λ x there set. after.knows.names x (sym (same_any (is_name x) scope (entry.Array a) refl) ∙ there) refl;
+        lengths = λ b there. length_at (slice_set s.arrays a bytes) b ∙ ap (λ ns. slice_index ns b) after.sizes;
+        count = after.knows.count;
+        bytes = after.knows.bytes;
+      };
+      sizes = after.sizes;
+    }
+
+pub place_array : (k : Knowledge) (storages : List Storage) (scope : List Entry) (a : ℕ) → IsTrue (is_new_array storages scope a)
+    → IsProcessPlace k storages scope → IsProcessPlace k storages (scope ++ entry.Array a ∷ [])
+place_array k storages scope a new place =
+    let within : a < length storages = ltb-true a _ (and_first _ _ (and_first _ _ new)) in
+    let sized = sized_at storages a place.sized within in
+    record {
+      place = record {
+        arrays = place.place.arrays;
+        least = λ b there. elim (either_in (is_array b) scope (entry.Array a) there) [
+          | inl before ↦ place.place.least b before
+          | inr last ↦ subst (λ c. 0 < slice_index k.arrays c) (eqb-true a b last) (rw place.place.arrays sized.0)
+        ];
+        most = λ b there. elim (either_in (is_array b) scope (entry.Array a) there) [
+          | inl before ↦ place.place.most b before
+          | inr last ↦ subst (λ c. slice_index k.arrays c ≤ 2048) (eqb-true a b last) (rw place.place.arrays sized.1)
+        ];
+        facts = place.place.facts;
+      };
+      declared = λ x there. place.declared x (sym (same_any (is_variable x) scope (entry.Array a) refl) ∙ there);
+      variables = λ x there. place.variables x (sym (same_any (is_variable x) scope (entry.Array a) refl) ∙ there);
+      sized = place.sized;
+    }
+
+pub array_outside : (k : Knowledge) (storages : List Storage) (scope : List Entry) (a : ℕ) (unset : ℕ → Bool) (s : Store) (m end : Machine)
+    → HasRoom k storages scope m → end.code ≡ m.code → end.sizes ≡ m.sizes
+    → Matches k storages (scope ++ entry.Array a ∷ []) unset s end → Matches k storages scope unset s end
+array_outside k storages scope a unset s m end room code sizes matches = record {
+  agrees = record {
+    words = λ y there set none. matches.agrees.words y (in_longer (is_name y) scope (entry.Array a) there) set none;
+    arrays = λ b there. matches.agrees.arrays b (in_longer (is_array b) scope (entry.Array a) there);
+    constants = matches.agrees.constants;
+  };
+  flag = matches.flag;
+  traced = matches.traced;
+  zeros = matches.zeros;
+  room = room_stays k storages scope m end room code sizes;
 }
