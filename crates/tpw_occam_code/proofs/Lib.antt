@@ -17,3 +17,5 @@ pub mod Naming
 pub mod Moving
 pub mod Copying
 pub mod Sending
+pub mod Knowing
+pub mod Executing

@@ -14,8 +14,8 @@ use Rattle.tpw_occam_code.specs.Blocks.{Blocks, is_item, with_bytes, bytes_at, w
 use Rattle.tpw_occam_code.specs.Symbolic.{Machine, Contents, effect, performed, at_place, number, address, push, pop, with_blocks}
 use Rattle.tpw_occam_code.specs.Leading.{Does, Makes, Serves, HasConstants, word_bytes}
 use Rattle.tpw_occam_code.specs.Values.{HasNumber}
-use Rattle.tpw_occam_code.specs.Executing.{cleared_bytes}
-use Rattle.tpw_occam_code.specs.Moving.{HasStep, Provides, Writes, ClearsWord, Moves, HasCleared, ClearsWords}
+use Rattle.tpw_occam_code.specs.Executing.{cleared_bytes, with_item_word}
+use Rattle.tpw_occam_code.specs.Moving.{HasStep, Provides, Writes, Moves, HasCleared, ClearsWords}
 use Rattle.tpw_occam_code.proofs.Leading.{does_placed, does_within, does_step, does_both, does_less, does_nothing}
 use Rattle.tpw_occam_code.proofs.Keeping.{is_item-self, other_item}
 use Rattle.tpw_occam_code.proofs.Computing.{word_same}
@@ -40,20 +40,16 @@ index_bytes_at blocks i at (suc n) (suc k) h = index_bytes_at blocks i (at + 1) 
 
 -- ---- a word
 
-pub clears_word : (old between new : Lines) (source : ℕ) (i : Item) (word : ℕ) → Makes old between HasConstants (push (number 0))
-    → new ≡ followed_by between (line_of source (Store i word) ∷ []) → ClearsWord old new i word
-unfolding performed
-clears_word old between new source i word zeros is arrays =
-    does_both arrays old between new _ _ _ _ _ (zeros arrays)
-    (does_step arrays between new source (Store i word) (HasNumber 0) (λ m. pop (with_blocks (with_word i (4 * word) 0 m.blocks) m)) is
-    (λ m areg served. rw areg (rw (le-leb (4 * word + 4) _ served) refl)) (λ m. refl) (λ m. refl) (λ m. refl))
-    (λ m middle said at. ap (λ x. x.areg) at)
-    (λ m middle end said at at2. record {
-      blocks = ap (λ x. x.blocks) at2 ∙ ap (λ x. with_word i (4 * word) 0 x.blocks) at;
-      error = ap (λ x. x.error) at2 ∙ ap (λ x. x.error) at;
-      to_come = ap (λ x. x.to_come) at2 ∙ ap (λ x. x.to_come) at;
-      sent = ap (λ x. x.sent) at2 ∙ ap (λ x. x.sent) at;
-      traced = ap (λ x. x.traced) at2 ∙ ap (λ x. x.traced) at;
+clears_word : (arrays : List ℕ) (old new : Lines) (i : Item) (word : ℕ) → Makes old new HasConstants (with_item_word i word 0)
+    → Does arrays old new HasConstants (Writes (with_word i (4 * word) 0))
+clears_word arrays old new i word makes =
+    does_less arrays old new _ _ _ _ (makes arrays) (λ m said. said)
+    (λ m end said at. record {
+      blocks = ap (λ (x : Machine). x.blocks) at;
+      error = ap (λ (x : Machine). x.error) at;
+      to_come = ap (λ (x : Machine). x.to_come) at;
+      sent = ap (λ (x : Machine). x.sent) at;
+      traced = ap (λ (x : Machine). x.traced) at;
     })
 
 -- ---- copies
@@ -193,10 +189,10 @@ zero_byte (suc (suc (suc (suc k)))) h = absurd (omega (arith, h))
 
 -- one word more
 pub clears_next : (old between new : Lines) (a words done : ℕ) → ClearsWords old between a words done
-    → ClearsWord between new (Array a) done → ClearsWords old new a words (done + 1)
+    → Makes between new HasConstants (with_item_word (Array a) done 0) → ClearsWords old new a words (done + 1)
 unfolding with_word
 clears_next old between new a words done first next arrays long =
-    does_both arrays old between new _ _ HasConstants _ _ (first arrays long) (next arrays)
+    does_both arrays old between new _ _ HasConstants _ _ (first arrays long) (clears_word arrays between new (Array a) done next)
     (λ m middle said cleared. constants_stay m middle (λ c i. cleared.others (Constant c) i refl) said.0)
     (λ m middle end said cleared writes.
     subst (λ n. HasCleared a n m end) (omega arith)

@@ -6,7 +6,7 @@ use Rattle.tpw_occam_code.specs.declared.code.Step.{Step}
 use Rattle.tpw_occam_code.specs.declared.code.Step.TheVariants.{Pointer}
 use Rattle.tpw_occam_code.specs.declared.code.CodeLine.{CodeLine}
 use Rattle.tpw_occam_code.specs.Code.{Lines}
-use Rattle.tpw_occam_code.specs.Blocks.{Blocks, is_item, with_bytes, with_word, bytes_at}
+use Rattle.tpw_occam_code.specs.Blocks.{Blocks, is_item, with_bytes, bytes_at}
 use Rattle.tpw_occam_code.specs.Symbolic.{Machine}
 use Rattle.tpw_occam_code.specs.Leading.{Does, Serves, HasConstants, word_bytes}
 use Rattle.tpw_occam_code.specs.Executing.{cleared_bytes}
@@ -29,11 +29,6 @@ pub record Writes (f : Blocks → Blocks) (m end : Machine) : Type 0 where
   pub to_come : end.to_come ≡ m.to_come
   pub sent : end.sent ≡ m.sent
   pub traced : end.traced ≡ m.traced
-
--- the lines make a word 0
-abbrev pub ClearsWord : (old new : Lines) → Item → ℕ → Type 0
-ClearsWord old new item word =
-    (arrays : List ℕ) → Does arrays old new HasConstants (Writes (with_word item (4 * word) 0))
 
 -- the lines copy so many bytes of an item to the words of another from one on
 abbrev pub Moves : (old new : Lines) (source target : Item) (word bytes : ℕ) → Type 0

@@ -1,9 +1,17 @@
 //! What is read and what is assigned.
 
+ghost use Rattle.std.specs.Prelude.{◌≡◌};
+ghost use Rattle.std.specs.List.{list_any};
+ghost use Rattle.tpw_occam_code.specs.Computing.{reads};
+ghost use Rattle.tpw_occam_code.specs.Executing.{then_first, either_first, first_in, first_in_message, sources_read};
+ghost use Rattle.tpw_occam_code.specs.Executing.{is_target, first_in_assignments, first_use};
+
 use tpw_occam_core::{Assignment, Expression, Message, Process, Target};
 
 /// Whether an expression reads a variable.
-pub(crate) fn reads_variable(e: &Expression, x: usize) -> bool {
+pub(crate) fn reads_variable(e: &Expression, x: usize) -> bool
+    ensures { result ≡ reads e.now x }
+{
     match e {
         Expression::Constant(_) => false,
         Expression::Variable(y) => *y == x,
@@ -109,20 +117,31 @@ pub(crate) enum First {
 
 impl First {
     /// What happens first, here or else in what follows.
-    fn then(self, next: First) -> First {
+    fn then(self, next: First) -> First
+        ensures { result ≡ then_first self next }
+    {
         match self {
             First::Nothing => next,
-            _ => self,
+            First::Assigned => First::Assigned,
+            First::Read => First::Read,
         }
     }
 
     /// What happens first on either of two ways: nothing is assigned where one way leaves that to what follows.
-    fn or(self, other: First) -> First {
-        if self == other { self } else { First::Read }
+    fn or(self, other: First) -> First
+        ensures { result ≡ either_first self other }
+    {
+        match (self, other) {
+            (First::Nothing, First::Nothing) => First::Nothing,
+            (First::Assigned, First::Assigned) => First::Assigned,
+            _ => First::Read,
+        }
     }
 }
 
-fn in_expression(e: &Expression, x: usize) -> First {
+fn in_expression(e: &Expression, x: usize) -> First
+    ensures { result ≡ first_in e.now x }
+{
     if reads_variable(e, x) {
         First::Read
     } else {
@@ -130,53 +149,78 @@ fn in_expression(e: &Expression, x: usize) -> First {
     }
 }
 
-fn in_message(m: &Message, x: usize) -> First {
+fn in_message(m: &Message, x: usize) -> First
+    ensures { result ≡ first_in_message m.now x }
+{
     match m {
         Message::Value(e) => in_expression(e, x),
         Message::Array(_) => First::Nothing,
     }
 }
 
-/// What the values and subscripts of an assignment do.
-fn in_sources(assignment: &Assignment, x: usize) -> First {
-    let value = in_expression(&assignment.value, x);
+/// Whether the value or the subscript of an assignment reads a variable.
+fn sources_read(x: usize, assignment: &Assignment) -> bool
+    ensures { result ≡ sources_read x assignment.now }
+{
     match &assignment.target {
-        Target::Variable(_) => value,
+        Target::Variable(_) => reads_variable(&assignment.value, x),
         Target::Element {
             array: _,
             kind: _,
             subscript,
-        } => value.then(in_expression(subscript, x)),
+        } => reads_variable(&assignment.value, x) || reads_variable(subscript, x),
     }
 }
 
-fn is_target(assignment: &Assignment, x: usize) -> bool {
-    match &assignment.target {
+/// Whether a target is a variable.
+fn is_target(x: usize, target: &Target) -> bool
+    ensures { result ≡ is_target x target.now }
+{
+    match target {
         Target::Variable(y) => *y == x,
-        _ => false,
+        Target::Element {
+            array: _,
+            kind: _,
+            subscript: _,
+        } => false,
     }
 }
 
-fn in_assignments(list: &[Assignment], x: usize) -> First {
-    if list.iter().any(|a| in_sources(a, x) == First::Read) {
-        First::Read
-    } else if list.iter().any(|a| is_target(a, x)) {
-        First::Assigned
-    } else {
-        First::Nothing
+/// Whether any assignment reads a variable.
+fn any_reads(list: &[Assignment], x: usize) -> bool
+    ensures { result ≡ list_any (sources_read x) list.now }
+{
+    list.iter().any(|a| sources_read(x, a))
+}
+
+/// Whether a variable is assigned to.
+fn any_assigns(list: &[Assignment], x: usize) -> bool
+    ensures { result ≡ list_any (λ a. is_target x a.target) list.now }
+{
+    list.iter().any(|a| is_target(x, &a.target))
+}
+
+fn in_assignments(list: &[Assignment], x: usize) -> First
+    ensures { result ≡ first_in_assignments list.now x }
+{
+    if any_reads(list, x) {
+        return First::Read;
     }
+    if any_assigns(list, x) {
+        return First::Assigned;
+    }
+    First::Nothing
 }
 
 /// What a process does first to a variable.
-pub(crate) fn first_use(p: &Process, x: usize) -> First {
+pub(crate) fn first_use(p: &Process, x: usize) -> First
+    ensures { result ≡ first_use p.now x }
+{
     match p {
         Process::Skip | Process::Stop => First::Nothing,
         Process::Assign(list) => in_assignments(list, x),
         Process::Copy { to: _, from: _ } => First::Nothing,
-        Process::Sequence(first, second) => match first_use(first, x) {
-            First::Nothing => first_use(second, x),
-            found => found,
-        },
+        Process::Sequence(first, second) => first_use(first, x).then(first_use(second, x)),
         Process::Repeat {
             index: _,
             start: _,
