@@ -10,3 +10,4 @@ pub mod Values
 pub mod Agreement
 pub mod Computing
 pub mod Executing
+pub mod Assigning

@@ -91,7 +91,9 @@ pub(crate) struct Room {
 
 impl Room {
     /// All registers, and all words from one on.
-    pub(crate) fn from_word(kept: usize, line: u32) -> Room {
+    pub(crate) fn from_word(kept: usize, line: u32) -> Room
+        ensures { result ≡ record { registers = 3; kept = kept; line = line } }
+    {
         Room {
             registers: 3,
             kept,
