@@ -14,3 +14,4 @@ pub mod TwoOperands
 pub mod Inverses
 pub mod Conditions
 pub mod Naming
+pub mod Storing

@@ -1,0 +1,147 @@
+-- What the code of assignments does, part by part.
+use Rattle.std.specs.Prelude.{◌≡◌, ℕ, ◌*◌, ◌%◌, ◌^◌, ◌<◌, ◌≤◌, Bool, true, false, not, ◌||◌, ◌&&◌, List, [], ◌∷◌, length, IsTrue}
+use Rattle.std.specs.Int.{w32, to_le_bytes}
+use Rattle.tpw_occam_core.specs.declared.kind.Kind.{Kind}
+use Rattle.tpw_occam_core.specs.declared.kind.Kind.TheVariants.{Word, Byte}
+use Rattle.tpw_occam_core.specs.declared.worker.Storage.{Storage}
+use Rattle.tpw_occam_core.specs.declared.scope.Entry.{Entry}
+use Rattle.tpw_occam_core.specs.declared.arithmetic.Answer.{Answer}
+use Rattle.tpw_occam_core.specs.declared.expression.Expression.{Expression}
+use Rattle.tpw_occam_core.specs.declared.process.Target.{Target}
+use Rattle.tpw_occam_core.specs.declared.process.Target.TheVariants as target
+use Rattle.tpw_occam_core.specs.declared.process.Assignment.{Assignment}
+use Rattle.tpw_occam_core.specs.Arithmetic.{answer, plain}
+use Rattle.tpw_occam_core.specs.Arrays.{kept}
+use Rattle.tpw_occam_core.specs.Meaning.{Store, value_of, kind_of, subscript_of, stored, flagged}
+use Rattle.tpw_occam_core.specs.Sound.{is_name, is_sound_target, is_sound_assignment}
+use Rattle.tpw_occam_code.specs.declared.items.Item.{Item}
+use Rattle.tpw_occam_code.specs.declared.items.Item.TheVariants as item
+use Rattle.tpw_occam_code.specs.Code.{Lines}
+use Rattle.tpw_occam_code.specs.Blocks.{with_bytes}
+use Rattle.tpw_occam_code.specs.Symbolic.{Machine, number, address}
+use Rattle.tpw_occam_code.specs.Leading.{Does, HasWord}
+use Rattle.tpw_occam_code.specs.Values.{HasNumber, Pushes, scaled}
+use Rattle.tpw_occam_code.specs.Agreement.{Knowledge, Knows, Agrees, LeavesItems, Stays}
+use Rattle.tpw_occam_code.specs.Computing.{IsPlace, MayStand}
+use Rattle.tpw_occam_code.specs.Executing.{subscript_reads, sources_read, is_target, IsProcessPlace, KnowsState, Matches, LeavesCounts}
+
+-- ---- targets
+
+-- what a target takes of a word
+abbrev pub taken : List Kind → Target → ℕ → ℕ
+taken kinds (target.Variable x) word = kept (kind_of kinds x) word
+taken kinds (target.Element a kind e) word = word
+
+-- the bytes by which an element of a kind holds a word
+abbrev pub element_bytes : Kind → ℕ → List ℕ
+element_bytes Word word = to_le_bytes w32 word
+element_bytes Byte word = word % 256 ∷ []
+
+-- where a target is: its item, a place in it, and the bytes by which it holds a word
+abbrev pub item_of : Target → Item
+item_of (target.Variable x) = item.Variable x
+item_of (target.Element a kind e) = item.Array a
+
+abbrev pub place_of : Target → ℕ → ℕ
+place_of (target.Variable x) i = 0
+place_of (target.Element a kind e) i = scaled kind i
+
+abbrev pub held_bytes : Target → ℕ → List ℕ
+held_bytes (target.Variable x) word = to_le_bytes w32 word
+held_bytes (target.Element a kind e) word = element_bytes kind word
+
+-- the variables that are not assigned yet, once a target is
+abbrev pub unset_but : Target → (ℕ → Bool) → ℕ → Bool
+unset_but t unset x = unset x && not (is_target x t)
+
+-- ---- stores
+
+-- Bytes are written in an item, and nothing else is changed but registers.
+pub record Writes (i : Item) (place : ℕ) (bytes : List ℕ) (m end : Machine) : Type 0 where
+  pub blocks : end.blocks ≡ with_bytes i place bytes m.blocks
+  pub error : end.error ≡ m.error
+  pub to_come : end.to_come ≡ m.to_come
+  pub sent : end.sent ≡ m.sent
+  pub traced : end.traced ≡ m.traced
+
+-- .. of which Areg is popped
+pub record WritesPopped (i : Item) (place : ℕ) (bytes : List ℕ) (m end : Machine) : Type 0 where
+  pub areg : end.areg ≡ m.breg
+  pub breg : end.breg ≡ m.creg
+  pub writes : Writes i place bytes m end
+
+-- Breg is a word, and Areg the address of an element of an array of so many bytes, all of which are there.
+pub record IsToStore (kind : Kind) (a i word bytes : ℕ) (m : Machine) : Type 0 where
+  pub areg : m.areg ≡ address (item.Array a) (scaled kind i)
+  pub breg : m.breg ≡ number word
+  pub room : bytes ≤ m.sizes (item.Array a)
+
+-- Bytes are written in an item; the flag may be set, and else all that is in use is left.
+pub record Stores (scope : List Entry) (temporaries : ℕ) (i : Item) (place : ℕ) (bytes : List ℕ) (flag : Bool) (m end : Machine)
+    : Type 0 where
+  pub blocks : (other : Item) (at : ℕ) → Stays scope temporaries other
+      → end.blocks other at ≡ with_bytes i place bytes m.blocks other at
+  pub error : end.error ≡ (m.error || flag)
+  pub to_come : end.to_come ≡ m.to_come
+  pub sent : end.sent ≡ m.sent
+  pub traced : end.traced ≡ m.traced
+
+-- A target may stand there: it is sound, and its subscript reads no name that is not assigned yet.
+pub record MayTake (k : Knowledge) (storages : List Storage) (scope : List Entry) (unset : ℕ → Bool) (t : Target)
+    : Type 0 where
+  pub sound : IsTrue (is_sound_target (length k.kinds) storages scope t)
+  pub assigned : (x : ℕ) → unset x ≡ true → subscript_reads t x ≡ false
+
+-- above a word in Areg the code of an expression pushes what is made of its state
+abbrev pub ComputesOver : Knowledge → (old new : Lines) → Expression → (Store → Answer) → (temporaries : ℕ) → Type 0
+ComputesOver k old new e made temporaries =
+    (storages : List Storage) (scope : List Entry) (unset : ℕ → Bool) (s : Store) (word : ℕ) → IsPlace k storages scope
+    → MayStand k storages scope unset e → Knows k scope unset s → word < 2 ^ 32
+    → Does k.arrays old new (λ m. Agrees k scope unset s m × HasNumber word m)
+    (λ m end. Pushes 2 (made s) m end × LeavesItems scope temporaries m end)
+
+-- the code of a target stores a word in Areg where the target is
+abbrev pub StoresIn : Knowledge → (old new : Lines) → Target → (temporaries : ℕ) → Type 0
+StoresIn k old new t temporaries =
+    (storages : List Storage) (scope : List Entry) (unset : ℕ → Bool) (s : Store) (word : ℕ) → IsProcessPlace k storages scope
+    → MayTake k storages scope unset t → Knows k scope unset s → word < 2 ^ 32
+    → Does k.arrays old new (λ m. Agrees k scope unset s m × HasNumber word m)
+    (Stores scope temporaries (item_of t) (place_of t (subscript_of t s).word) (held_bytes t word) (subscript_of t s).flag)
+
+-- ---- assignments
+
+-- a value as its target takes it
+abbrev pub taken_value : List Kind → Assignment → Store → Answer
+taken_value kinds a s = answer (taken kinds a.target (value_of a.value s).word) (value_of a.value s).flag
+
+-- An assignment may stand there.
+pub record MayMake (k : Knowledge) (storages : List Storage) (scope : List Entry) (unset : ℕ → Bool) (a : Assignment)
+    : Type 0 where
+  pub sound : IsTrue (is_sound_assignment (length k.kinds) storages scope a)
+  pub assigned : (x : ℕ) → unset x ≡ true → sources_read x a ≡ false
+
+-- What the code of assignments leaves: counts of loops, and the words that are kept.
+pub record LeavesKept (scope : List Entry) (temporaries : ℕ) (m end : Machine) : Type 0 where
+  pub counts : LeavesCounts scope m end
+  pub words : (t at : ℕ) → t < temporaries → end.blocks (item.Temporary t) at ≡ m.blocks (item.Temporary t) at
+
+-- the value of an assignment: kept already, or evaluated
+abbrev pub source_of : Assignment → (is_kept : Bool) → ℕ → Store → Answer
+source_of a true word s = plain word
+source_of a false word s = value_of a.value s
+
+-- the state after an assignment with a value that is given
+abbrev pub after_one : List Kind → Assignment → Answer → Store → Store
+after_one kinds a v s =
+    flagged (v.flag || (subscript_of a.target s).flag) (stored kinds a.target (subscript_of a.target s).word v.word s)
+
+-- The code of one assignment makes of a machine that matches a state one that matches what is made of the state. A value
+-- that is kept is in a word, as its target takes it.
+abbrev pub MakesOne : Knowledge → (old new : Lines) → Assignment → (kept_in : ℕ) → (is_kept : Bool) → (temporaries : ℕ) → Type 0
+MakesOne k old new a kept_in is_kept temporaries =
+    (storages : List Storage) (scope : List Entry) (unset : ℕ → Bool) (s : Store) (word : ℕ) → IsProcessPlace k storages scope
+    → MayMake k storages scope unset a → KnowsState k scope s → word < 2 ^ 32
+    → Does k.arrays old new
+    (λ m. Matches k storages scope unset s m × (is_kept ≡ true → HasWord (item.Temporary kept_in) (taken k.kinds a.target word) m))
+    (λ m end. Matches k storages scope (unset_but a.target unset) (after_one k.kinds a (source_of a is_kept word s) s) end
+    × LeavesKept scope temporaries m end)
