@@ -15,3 +15,4 @@ pub mod Inverses
 pub mod Conditions
 pub mod Naming
 pub mod Storing
+pub mod Assigning

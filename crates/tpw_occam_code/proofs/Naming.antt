@@ -81,12 +81,12 @@ new_name count scope x y new there = by_test (nat_eq x y) refl
 
 -- ---- facts and values of names
 
-slice_same : {A : Type 0} (xs : List A) (x : ℕ) (a d : A) → x < length xs → slice_index_or (slice_set xs x a) x d ≡ a
+pub slice_same : {A : Type 0} (xs : List A) (x : ℕ) (a d : A) → x < length xs → slice_index_or (slice_set xs x a) x d ≡ a
 slice_same [] x a d h = absurd (omega (arith, h))
 slice_same (y ∷ xs) zero a d h = refl
 slice_same (y ∷ xs) (suc x) a d h = slice_same xs x a d (omega (arith, h))
 
-slice_other : {A : Type 0} (xs : List A) (x y : ℕ) (a d : A) → nat_eq x y ≡ false → slice_index_or (slice_set xs x a) y d ≡ slice_index_or xs y d
+pub slice_other : {A : Type 0} (xs : List A) (x y : ℕ) (a d : A) → nat_eq x y ≡ false → slice_index_or (slice_set xs x a) y d ≡ slice_index_or xs y d
 slice_other [] x y a d h = refl
 slice_other (z ∷ xs) zero zero a d h = cc
 slice_other (z ∷ xs) zero (suc y) a d h = refl
@@ -96,7 +96,7 @@ slice_other (z ∷ xs) (suc x) (suc y) a d h = slice_other xs x y a d (same_next
     same_next : (x y : ℕ) → nat_eq (suc x) (suc y) ≡ false → nat_eq x y ≡ false
     same_next x y h = grind (arith, nat_tests)
 
-slice_length : {A : Type 0} (xs : List A) (x : ℕ) (a : A) → length (slice_set xs x a) ≡ length xs
+pub slice_length : {A : Type 0} (xs : List A) (x : ℕ) (a : A) → length (slice_set xs x a) ≡ length xs
 slice_length [] x a = refl
 slice_length (y ∷ xs) zero a = refl
 slice_length (y ∷ xs) (suc x) a = ap suc (slice_length xs x a)

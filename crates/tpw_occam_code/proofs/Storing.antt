@@ -2,12 +2,14 @@
 use Rattle.std.proofs.Common.{◌≡◌, ◌⊎◌, inl, inr, ◌+◌, ◌-◌, ◌*◌, ◌/◌, ◌%◌, ◌^◌, ◌≤◌, ◌<◌, [], ◌∷◌, ◌++◌, ℕ, zero, suc, List, length, map, Option, Some, None, Bool, false, true, nat_eq, refl, ap, sym, subst, ◌∙◌, arith, w32}
 use Rattle.std.specs.Prelude.{slice_index, slice_index_or, slice_set, ◌||◌, ◌&&◌, not, nat_le, nat_lt, if◌then◌else◌, IsTrue, ℤ, pos}
 use Rattle.std.specs.Int.{to_le_bytes}
-use Rattle.std.proofs.Math.Bool.{or-false}
-use Rattle.std.proofs.lemmas.Bool.{le-leb}
+use Rattle.std.proofs.Math.Bool.{or_assoc, or-false}
+use Rattle.std.proofs.lemmas.Bool.{le-leb, lt-leb, lt-ltb, le-ltb, cases_lt}
+use Rattle.std.proofs.lemmas.Bool.Decides.{nat_tests}
 use Rattle.tp_decode.specs.declared.instr.Instr.TheVariants.{Stnl, Sb}
 use Rattle.tpw_occam_core.specs.declared.kind.Kind.{Kind}
 use Rattle.tpw_occam_core.specs.declared.kind.Kind.TheVariants.{Word, Byte}
-use Rattle.tpw_occam_core.specs.Arrays.{size}
+use Rattle.tpw_occam_core.specs.declared.scope.Entry.{Entry}
+use Rattle.tpw_occam_core.specs.Arrays.{size, written, with_element}
 use Rattle.tpw_occam_code.specs.declared.items.Item.{Item}
 use Rattle.tpw_occam_code.specs.declared.items.Item.TheVariants as item
 use Rattle.tpw_occam_code.specs.declared.code.Step.TheVariants.{Plain, Store}
@@ -16,8 +18,11 @@ use Rattle.tpw_occam_code.specs.Blocks.{Blocks, is_item, with_bytes, with_word, 
 use Rattle.tpw_occam_code.specs.Symbolic.{Machine, effect, performed, at_place, number, address, pop, pop_two, with_blocks}
 use Rattle.tpw_occam_code.specs.Leading.{Does, HasArray, HasWord, word_bytes}
 use Rattle.tpw_occam_code.specs.Values.{HasNumber, PushesAddress, HasAddress, scaled}
-use Rattle.tpw_occam_code.specs.Assigning.{element_bytes, Writes, WritesPopped, IsToStore}
+use Rattle.tpw_occam_code.specs.Agreement.{LeavesItems}
+use Rattle.tpw_occam_code.specs.Assigning.{element_bytes, Writes, WritesPopped, IsToStore, Stores}
 use Rattle.tpw_occam_code.proofs.Leading.{does_step, does_both, does_less}
+use Rattle.tpw_occam_code.proofs.Keeping.{is_item-self}
+use Rattle.tpw_occam_code.proofs.Naming.{slice_same, slice_other, slice_length}
 
 -- ---- steps that store
 
@@ -125,3 +130,129 @@ does_store_offset arrays bytes old between new source x a v c word n is long h f
       sent = w.sent ∙ after.sent;
       traced = w.traced ∙ after.traced;
     })
+
+-- ---- bytes that are written
+
+pub leaves_self : (scope : List Entry) (temporaries : ℕ) (m : Machine) → LeavesItems scope temporaries m m
+leaves_self scope temporaries m = record { blocks = λ i at stays. refl; to_come = refl; sent = refl; traced = refl }
+
+with_bytes_same : (i other : Item) (place at : ℕ) (bytes : List ℕ) (one two : Blocks) → one other at ≡ two other at
+    → with_bytes i place bytes one other at ≡ with_bytes i place bytes two other at
+unfolding with_bytes
+with_bytes_same i other place at bytes one two same =
+    ap (λ x. if is_item i other && nat_le place at && nat_lt at (place + length bytes) then slice_index bytes (at - place) else x) same
+
+-- what is written once something is in registers
+pub writes_stores : (scope : List Entry) (temporaries : ℕ) (i : Item) (place : ℕ) (bytes : List ℕ) (flag : Bool) (m middle end : Machine)
+    → LeavesItems scope temporaries m middle → middle.error ≡ (m.error || flag) → Writes i place bytes middle end
+    → Stores scope temporaries i place bytes flag m end
+writes_stores scope temporaries i place bytes flag m middle end leaves error writes = record {
+  blocks = λ other at stays. ap (λ b. b other at) writes.blocks
+      ∙ with_bytes_same i other place at bytes middle.blocks m.blocks (leaves.blocks other at stays);
+  error = writes.error ∙ error;
+  to_come = writes.to_come ∙ leaves.to_come;
+  sent = writes.sent ∙ leaves.sent;
+  traced = writes.traced ∙ leaves.traced;
+}
+
+pub leaves_stores : (scope : List Entry) (temporaries : ℕ) (i : Item) (place : ℕ) (bytes : List ℕ) (f g : Bool) (m middle end : Machine)
+    → LeavesItems scope temporaries m middle → middle.error ≡ (m.error || f) → Stores scope temporaries i place bytes g middle end
+    → Stores scope temporaries i place bytes (f || g) m end
+leaves_stores scope temporaries i place bytes f g m middle end leaves error stores = record {
+  blocks = λ other at stays. stores.blocks other at stays
+      ∙ with_bytes_same i other place at bytes middle.blocks m.blocks (leaves.blocks other at stays);
+  error = stores.error ∙ ap (λ e. e || g) error ∙ or_assoc m.error f g;
+  to_come = stores.to_come ∙ leaves.to_come;
+  sent = stores.sent ∙ leaves.sent;
+  traced = stores.traced ∙ leaves.traced;
+}
+
+if_not : (a : Bool) (x y : ℕ) → (if a && false then x else y) ≡ y
+if_not true x y = refl
+if_not false x y = refl
+
+-- bytes behind those that are written, and before them
+pub behind_written : (i other : Item) (place at : ℕ) (bytes : List ℕ) (blocks : Blocks) → place + length bytes ≤ at
+    → with_bytes i place bytes blocks other at ≡ blocks other at
+unfolding with_bytes
+behind_written i other place at bytes blocks h = rw (le-ltb at (place + length bytes) h) (if_not (is_item i other && nat_le place at) _ _)
+
+if_neither : (a b : Bool) (x y : ℕ) → (if a && false && b then x else y) ≡ y
+if_neither true b x y = refl
+if_neither false b x y = refl
+
+pub before_written : (i other : Item) (place at : ℕ) (bytes : List ℕ) (blocks : Blocks) → at < place
+    → with_bytes i place bytes blocks other at ≡ blocks other at
+unfolding with_bytes
+before_written i other place at bytes blocks h = rw (lt-leb place at h) (if_neither (is_item i other) _ _ _)
+
+pub at_written : (i : Item) (place at : ℕ) (bytes : List ℕ) (blocks : Blocks) → place ≤ at → at < place + length bytes
+    → with_bytes i place bytes blocks i at ≡ slice_index bytes (at - place)
+unfolding with_bytes
+at_written i place at bytes blocks h g = rw (is_item-self i) (rw (le-leb place at h) (rw (lt-ltb at (place + length bytes) g) refl))
+
+-- ---- elements that are written
+
+pub written_length : (bytes : List ℕ) (at : ℕ) (more : List ℕ) → length (written bytes at more) ≡ length bytes
+written_length bytes at [] = refl
+written_length bytes at (byte ∷ more) = written_length (slice_set bytes at byte) (at + 1) more ∙ slice_length bytes at byte
+
+written_outside : (bytes : List ℕ) (at : ℕ) (more : List ℕ) (j : ℕ) → (j < at) ⊎ (at + length more ≤ j)
+    → slice_index (written bytes at more) j ≡ slice_index bytes j
+written_outside bytes at [] j h = refl
+written_outside bytes at (byte ∷ more) j h =
+    written_outside (slice_set bytes at byte) (at + 1) more j (next h) ∙ slice_other bytes at j byte 0 (differs h)
+  where
+    next : (j < at) ⊎ (at + suc (length more) ≤ j) → (j < at + 1) ⊎ (at + 1 + length more ≤ j)
+    next (inl less) = inl (omega (arith, less))
+    next (inr more) = inr (omega (arith, more))
+
+    differs : (j < at) ⊎ (at + suc (length more) ≤ j) → nat_eq at j ≡ false
+    differs (inl less) = grind (arith, nat_tests)
+    differs (inr more) = grind (arith, nat_tests)
+
+written_within : (bytes : List ℕ) (at : ℕ) (more : List ℕ) (j : ℕ) → at ≤ j → j < at + length more → at + length more ≤ length bytes
+    → slice_index (written bytes at more) j ≡ slice_index more (j - at)
+written_within bytes at [] j h g room = absurd (omega (arith, h, g))
+written_within bytes at (byte ∷ more) j h g room = by_place (cases_lt at j)
+  where
+    by_place : (at < j) ⊎ (j ≤ at) → slice_index (written (slice_set bytes at byte) (at + 1) more) j ≡ slice_index (byte ∷ more) (j - at)
+    by_place (inl less) =
+        let next : suc (j - (at + 1)) ≡ j - at = omega (arith, less) in
+        written_within (slice_set bytes at byte) (at + 1) more j (omega (arith, less)) (omega (arith, g))
+        (omega (arith, room, slice_length bytes at byte)) ∙ ap (slice_index (byte ∷ more)) next
+    by_place (inr most) =
+        let same : j ≡ at = omega (arith, h, most) in
+        let first : 0 ≡ j - at = omega (arith, h, most) in
+        written_outside (slice_set bytes at byte) (at + 1) more j (inl (omega (arith, same)))
+        ∙ ap (slice_index (slice_set bytes at byte)) same ∙ slice_same bytes at byte 0 (omega (arith, room)) ∙ ap (slice_index (byte ∷ more)) first
+
+pub element_written : (view : Kind) (bytes : List ℕ) (i word : ℕ) → with_element view bytes i word ≡ written bytes (scaled view i) (element_bytes view word)
+element_written Word bytes i word = refl
+element_written Byte bytes i word = refl
+
+element_room : (view : Kind) (bytes : List ℕ) (i word : ℕ) → i < size view bytes → scaled view i + length (element_bytes view word) ≤ length bytes
+element_room Word bytes i word h = omega (arith, h)
+element_room Byte bytes i word h = omega (arith, h)
+
+-- an array's item after a store into one of its elements
+pub array_written : (a : ℕ) (view : Kind) (bytes : List ℕ) (i word j : ℕ) (blocks : Blocks) → i < size view bytes
+    → j < length bytes → blocks (item.Array a) j ≡ slice_index bytes j
+    → with_bytes (item.Array a) (scaled view i) (element_bytes view word) blocks (item.Array a) j ≡ slice_index (with_element view bytes i word) j
+array_written a view bytes i word j blocks h less has =
+    rw (element_written view bytes i word) (by_place (cases_lt j (scaled view i)) (cases_lt j (scaled view i + length more)))
+  where
+    more : List ℕ
+    more = element_bytes view word
+
+    by_place : (j < scaled view i) ⊎ (scaled view i ≤ j) → (j < scaled view i + length more) ⊎ (scaled view i + length more ≤ j)
+        → with_bytes (item.Array a) (scaled view i) more blocks (item.Array a) j ≡ slice_index (written bytes (scaled view i) more) j
+    by_place (inl before) other =
+        before_written (item.Array a) (item.Array a) (scaled view i) j more blocks before ∙ has
+        ∙ sym (written_outside bytes (scaled view i) more j (inl before))
+    by_place (inr from) (inl within) =
+        at_written (item.Array a) (scaled view i) j more blocks from within
+        ∙ sym (written_within bytes (scaled view i) more j from within (element_room view bytes i word h))
+    by_place (inr from) (inr behind) =
+        behind_written (item.Array a) (item.Array a) (scaled view i) j more blocks behind ∙ has
+        ∙ sym (written_outside bytes (scaled view i) more j (inr behind))

@@ -20,7 +20,7 @@ use Rattle.tpw_occam_code.specs.Code.{Lines}
 use Rattle.tpw_occam_code.specs.Blocks.{with_bytes}
 use Rattle.tpw_occam_code.specs.Symbolic.{Machine, number, address}
 use Rattle.tpw_occam_code.specs.Leading.{Does, HasWord}
-use Rattle.tpw_occam_code.specs.Values.{HasNumber, Pushes, scaled}
+use Rattle.tpw_occam_code.specs.Values.{HasNumber, scaled}
 use Rattle.tpw_occam_code.specs.Agreement.{Knowledge, Knows, Agrees, LeavesItems, Stays}
 use Rattle.tpw_occam_code.specs.Computing.{IsPlace, MayStand}
 use Rattle.tpw_occam_code.specs.Executing.{subscript_reads, sources_read, is_target, IsProcessPlace, KnowsState, Matches, LeavesCounts}
@@ -92,13 +92,28 @@ pub record MayTake (k : Knowledge) (storages : List Storage) (scope : List Entry
   pub sound : IsTrue (is_sound_target (length k.kinds) storages scope t)
   pub assigned : (x : ℕ) → unset x ≡ true → subscript_reads t x ≡ false
 
+-- Two numbers are in registers, b below a; the flag may be set, and else all that is in use is left.
+pub record HasTwo (scope : List Entry) (temporaries : ℕ) (b a : ℕ) (flag : Bool) (m end : Machine) : Type 0 where
+  pub areg : end.areg ≡ number a
+  pub breg : end.breg ≡ number b
+  pub error : end.error ≡ (m.error || flag)
+  pub leaves : LeavesItems scope temporaries m end
+
+-- a word that was kept last is recalled, and above it is what is made of a state
+abbrev pub ComputesAbove : Knowledge → (old new : Lines) → Expression → (Store → Answer) → (temporaries : ℕ) → Type 0
+ComputesAbove k old new e made temporaries =
+    (storages : List Storage) (scope : List Entry) (unset : ℕ → Bool) (s : Store) (word : ℕ) → IsPlace k storages scope
+    → MayStand k storages scope unset e → Knows k scope unset s → word < 2 ^ 32
+    → Does k.arrays old new (λ m. Agrees k scope unset s m × HasWord (item.Temporary temporaries) word m)
+    (HasTwo scope temporaries word (made s).word (made s).flag)
+
 -- above a word in Areg the code of an expression pushes what is made of its state
 abbrev pub ComputesOver : Knowledge → (old new : Lines) → Expression → (Store → Answer) → (temporaries : ℕ) → Type 0
 ComputesOver k old new e made temporaries =
     (storages : List Storage) (scope : List Entry) (unset : ℕ → Bool) (s : Store) (word : ℕ) → IsPlace k storages scope
     → MayStand k storages scope unset e → Knows k scope unset s → word < 2 ^ 32
     → Does k.arrays old new (λ m. Agrees k scope unset s m × HasNumber word m)
-    (λ m end. Pushes 2 (made s) m end × LeavesItems scope temporaries m end)
+    (HasTwo scope temporaries word (made s).word (made s).flag)
 
 -- the code of a target stores a word in Areg where the target is
 abbrev pub StoresIn : Knowledge → (old new : Lines) → Target → (temporaries : ℕ) → Type 0

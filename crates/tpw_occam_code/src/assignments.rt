@@ -10,7 +10,7 @@ ghost use Rattle.tpw_occam_code.specs.Leading.{Does, HasWord};
 ghost use Rattle.tpw_occam_code.specs.Values.{HasNumber, PushesAlone, scaled};
 ghost use Rattle.tpw_occam_code.specs.Computing.{ComputesTo, IsFixed, subscript_value};
 ghost use Rattle.tpw_occam_code.specs.Executing.{Assigns};
-ghost use Rattle.tpw_occam_code.specs.Assigning.{element_bytes, IsToStore, Writes, WritesPopped, ComputesOver, StoresIn, MakesOne, taken_value};
+ghost use Rattle.tpw_occam_code.specs.Assigning.{element_bytes, IsToStore, Writes, WritesPopped, ComputesOver, ComputesAbove, StoresIn, MakesOne, taken_value};
 ghost use Rattle.tpw_occam_core.specs.Arithmetic.{plain};
 
 use crate::code::{Code, Step};
@@ -246,6 +246,8 @@ impl Emitter<'_> {
         room: Room,
     ) -> Result<(), CodeFault>
         ensures knowledge { OnOk result (self.new ≡ self.old) }
+        ensures computes { OnOk result (0 < size → size ≤ 2 ^ 31 → room.registers ≡ 3
+            → ComputesAbove self.old code.old code.new subscript.now (subscript_value subscript.now size) room.kept) }
     {
         let line = room.line;
         let i = self.expression(code, subscript, room.beside()?)?;
