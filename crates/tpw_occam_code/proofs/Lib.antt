@@ -16,3 +16,4 @@ pub mod Conditions
 pub mod Naming
 pub mod Storing
 pub mod Assigning
+pub mod Matching

@@ -214,14 +214,16 @@ written_outside bytes at (byte ∷ more) j h =
 written_within : (bytes : List ℕ) (at : ℕ) (more : List ℕ) (j : ℕ) → at ≤ j → j < at + length more → at + length more ≤ length bytes
     → slice_index (written bytes at more) j ≡ slice_index more (j - at)
 written_within bytes at [] j h g room = absurd (omega (arith, h, g))
-written_within bytes at (byte ∷ more) j h g room = by_place (cases_lt at j)
+written_within bytes at (byte ∷ more) j h g room = by_place (cases_lt at j) (written_within (slice_set bytes at byte) (at + 1) more j)
   where
-    by_place : (at < j) ⊎ (j ≤ at) → slice_index (written (slice_set bytes at byte) (at + 1) more) j ≡ slice_index (byte ∷ more) (j - at)
-    by_place (inl less) =
+    by_place : (at < j) ⊎ (j ≤ at)
+        → (at + 1 ≤ j → j < at + 1 + length more → at + 1 + length more ≤ length (slice_set bytes at byte)
+        → slice_index (written (slice_set bytes at byte) (at + 1) more) j ≡ slice_index more (j - (at + 1)))
+        → slice_index (written (slice_set bytes at byte) (at + 1) more) j ≡ slice_index (byte ∷ more) (j - at)
+    by_place (inl less) within =
         let next : suc (j - (at + 1)) ≡ j - at = omega (arith, less) in
-        written_within (slice_set bytes at byte) (at + 1) more j (omega (arith, less)) (omega (arith, g))
-        (omega (arith, room, slice_length bytes at byte)) ∙ ap (slice_index (byte ∷ more)) next
-    by_place (inr most) =
+        within (omega (arith, less)) (omega (arith, g)) (omega (arith, room, slice_length bytes at byte)) ∙ ap (slice_index (byte ∷ more)) next
+    by_place (inr most) within =
         let same : j ≡ at = omega (arith, h, most) in
         let first : 0 ≡ j - at = omega (arith, h, most) in
         written_outside (slice_set bytes at byte) (at + 1) more j (inl (omega (arith, same)))

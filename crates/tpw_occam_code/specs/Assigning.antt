@@ -129,6 +129,12 @@ StoresIn k old new t temporaries =
 abbrev pub taken_value : List Kind → Assignment → Store → Answer
 taken_value kinds a s = answer (taken kinds a.target (value_of a.value s).word) (value_of a.value s).flag
 
+-- the value of an expression is a word
+abbrev pub HasSmallValue : Knowledge → Expression → Type 0
+HasSmallValue k e =
+    (storages : List Storage) (scope : List Entry) (unset : ℕ → Bool) (s : Store) → IsPlace k storages scope
+    → MayStand k storages scope unset e → Knows k scope unset s → (value_of e s).word < 2 ^ 32
+
 -- An assignment may stand there.
 pub record MayMake (k : Knowledge) (storages : List Storage) (scope : List Entry) (unset : ℕ → Bool) (a : Assignment)
     : Type 0 where

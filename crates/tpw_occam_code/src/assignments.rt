@@ -10,7 +10,7 @@ ghost use Rattle.tpw_occam_code.specs.Leading.{Does, HasWord};
 ghost use Rattle.tpw_occam_code.specs.Values.{HasNumber, PushesAlone, scaled};
 ghost use Rattle.tpw_occam_code.specs.Computing.{ComputesTo, IsFixed, subscript_value};
 ghost use Rattle.tpw_occam_code.specs.Executing.{Assigns};
-ghost use Rattle.tpw_occam_code.specs.Assigning.{element_bytes, IsToStore, Writes, WritesPopped, ComputesOver, ComputesAbove, StoresIn, MakesOne, taken_value};
+ghost use Rattle.tpw_occam_code.specs.Assigning.{element_bytes, IsToStore, Writes, WritesPopped, ComputesOver, ComputesAbove, StoresIn, MakesOne, taken_value, HasSmallValue};
 ghost use Rattle.tpw_occam_core.specs.Arithmetic.{plain};
 
 use crate::code::{Code, Step};
@@ -143,6 +143,7 @@ impl Emitter<'_> {
         ensures knowledge { OnOk result (self.new ≡ self.old) }
         ensures computes { OnOk result (2 ≤ room.registers → ComputesTo self.old code.old code.new assignment.now.value
             (taken_value self.old.kinds assignment.now) room.registers room.kept) }
+        ensures small { OnOk result (HasSmallValue self.old assignment.now.value) }
     {
         let value = self.expression(code, &assignment.value, room)?;
         if let Target::Variable(x) = &assignment.target {
