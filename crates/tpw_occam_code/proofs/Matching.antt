@@ -34,7 +34,7 @@ use Rattle.tpw_occam_code.specs.Values.{HasNumber, scaled}
 use Rattle.tpw_occam_code.specs.Agreement.{Knowledge, elements_of, fact_at, Knows, Agrees, LeavesItems}
 use Rattle.tpw_occam_code.specs.Computing.{IsPlace, MayStand, ComputesTo, reads}
 use Rattle.tpw_occam_code.specs.Executing.{subscript_reads, sources_read, is_target, first_in_assignments, is_nothing, unset_after, IsProcessPlace, MayRun, none_unset, KnowsState, Matches, LeavesCounts, Assigns}
-use Rattle.tpw_occam_code.specs.Assigning.{taken, taken_value, element_bytes, item_of, place_of, held_bytes, unset_but, Stores, MayTake, StoresIn, HasSmallValue, MayMake, LeavesKept, source_of, after_one, MakesOne}
+use Rattle.tpw_occam_code.specs.Assigning.{HasShape, IsInside, taken, taken_value, element_bytes, item_of, place_of, held_bytes, unset_but, Stores, MayTake, StoresIn, HasSmallValue, MayMake, LeavesKept, source_of, after_one, MakesOne}
 use Rattle.tpw_occam_code.proofs.Leading.{does_both, does_less}
 use Rattle.tpw_occam_code.proofs.Computing.{agrees_after, bytes_same, word_same}
 use Rattle.tpw_occam_code.proofs.Keeping.{word_written, other_item, does_recall}
@@ -160,10 +160,16 @@ element_agrees k scope unset s a view e i word temporaries flag m end h within a
 
 -- ---- matching
 
--- a place in a target is there
-abbrev pub IsInside : Target → ℕ → Store → Type 0
-IsInside (target.Variable x) i s = Unit {0}
-IsInside (target.Element a view e) i s = i < size view (array_of s a)
+sizes_at : (arrays : List (List ℕ)) (a : ℕ) → slice_index (map length arrays) a ≡ length (slice_index_or arrays a [])
+sizes_at [] a = refl
+sizes_at (bytes ∷ arrays) zero = refl
+sizes_at (bytes ∷ arrays) (suc a) = sizes_at arrays a
+
+pub size_known : (k : Knowledge) (s : Store) (a : ℕ) → HasShape k s → length (array_of s a) ≡ slice_index k.arrays a
+size_known k s a shape = sym (sizes_at s.arrays a) ∙ ap (λ l. slice_index l a) shape.sizes
+
+pub knows_shape : (k : Knowledge) (scope : List Entry) (s : Store) → KnowsState k scope s → HasShape k s
+knows_shape k scope s knows = record { count = knows.knows.count; sizes = knows.sizes }
 
 pub target_seen : (count : ℕ) (storages : List Storage) (scope : List Entry) (a : ℕ) (view : Kind) (e : Expression)
     → IsTrue (is_sound_target count storages scope (target.Element a view e)) → IsTrue (is_seen storages scope a view)
@@ -171,13 +177,14 @@ target_seen count storages scope a view e sound = and_first _ _ (and_first _ _ s
 
 pub subscript_inside : (k : Knowledge) (storages : List Storage) (scope : List Entry) (unset : ℕ → Bool) (s : Store) (t : Target)
     → IsPlace k storages scope → IsTrue (is_sound_target (length k.kinds) storages scope t) → Knows k scope unset s
-    → IsInside t (subscript_of t s).word s
+    → IsInside k t (subscript_of t s).word
 subscript_inside k storages scope unset s (target.Variable x) place sound knows = tt
 subscript_inside k storages scope unset s (target.Element a view e) place sound knows =
     let seen = target_seen (length k.kinds) storages scope a view e sound in
     let sized = size_is view (array_of s a) _ (knows.lengths a (seen_array storages scope a view seen)) in
-    subscript_word_below (size view (array_of s a)) (value_of e s).word
-    (subst (λ n. 0 < n) sized (seen_size k storages scope a view place seen))
+    subst (λ n. (subscript_of (target.Element a view e) s).word < n) (sym sized)
+    (subscript_word_below (size view (array_of s a)) (value_of e s).word
+    (subst (λ n. 0 < n) sized (seen_size k storages scope a view place seen)))
 
 -- an array that has bytes is one that there is
 array_there : (arrays : List ℕ) (a : ℕ) → 0 < slice_index arrays a → a < length arrays
@@ -186,20 +193,21 @@ array_there (n ∷ arrays) zero h = omega arith
 array_there (n ∷ arrays) (suc a) h = let less = array_there arrays a h in omega (arith, less)
 
 stored_agrees : (k : Knowledge) (storages : List Storage) (scope : List Entry) (unset : ℕ → Bool) (s : Store) (t : Target) (i word temporaries : ℕ) (flag : Bool)
-    (m end : Machine) → IsProcessPlace k storages scope → IsTrue (is_sound_target (length k.kinds) storages scope t) → KnowsState k scope s
-    → IsInside t i s → Agrees k scope unset s m
+    (m end : Machine) → IsProcessPlace k storages scope → IsTrue (is_sound_target (length k.kinds) storages scope t) → HasShape k s
+    → IsInside k t i → Agrees k scope unset s m
     → Stores scope temporaries (item_of t) (place_of t i) (held_bytes t (taken k.kinds t word)) flag m end
     → Agrees k scope (unset_but t unset) (stored k.kinds t i word s) end
-stored_agrees k storages scope unset s (target.Variable x) i word temporaries flag m end place sound knows inside agrees stores =
+stored_agrees k storages scope unset s (target.Variable x) i word temporaries flag m end place sound shape inside agrees stores =
     let there = place.declared x sound in
-    let count = knows.knows.count in
+    let count = shape.count in
     variable_agrees k scope unset s x (kept (kind_of k.kinds x) word) temporaries flag m end (omega (arith, there, count)) agrees stores
-stored_agrees k storages scope unset s (target.Element a view e) i word temporaries flag m end place sound knows inside agrees stores =
+stored_agrees k storages scope unset s (target.Element a view e) i word temporaries flag m end place sound shape inside agrees stores =
     let seen = target_seen (length k.kinds) storages scope a view e sound in
     let least = place.place.least a (seen_array storages scope a view seen) in
     let there = array_there k.arrays a least in
-    element_agrees k scope unset s a view e i word temporaries flag m end inside
-    (omega (arith, there, ap length knows.sizes, length-map s.arrays length)) agrees stores
+    element_agrees k scope unset s a view e i word temporaries flag m end
+    (subst (λ n. i < n) (size_is view (array_of s a) _ (size_known k s a shape)) inside)
+    (omega (arith, there, ap length shape.sizes, length-map s.arrays length)) agrees stores
 
 stored_flag : (kinds : List Kind) (t : Target) (i word : ℕ) (s : Store) → (stored kinds t i word s).flag ≡ s.flag
 stored_flag kinds (target.Variable x) i word s = refl
@@ -225,15 +233,15 @@ no_count (target.Element a view e) i x j word blocks = other_item (item.Array a)
 
 -- a target has taken a word
 pub matches_stored : (k : Knowledge) (storages : List Storage) (scope : List Entry) (unset : ℕ → Bool) (s : Store) (t : Target) (i word temporaries : ℕ) (flag : Bool)
-    (m end : Machine) → IsProcessPlace k storages scope → IsTrue (is_sound_target (length k.kinds) storages scope t) → KnowsState k scope s
-    → IsInside t i s → Matches k storages scope unset s m → end.code ≡ m.code → end.sizes ≡ m.sizes
+    (m end : Machine) → IsProcessPlace k storages scope → IsTrue (is_sound_target (length k.kinds) storages scope t) → HasShape k s
+    → IsInside k t i → Matches k storages scope unset s m → end.code ≡ m.code → end.sizes ≡ m.sizes
     → Stores scope temporaries (item_of t) (place_of t i) (held_bytes t (taken k.kinds t word)) flag m end
     → Matches k storages scope (unset_but t unset) (flagged flag (stored k.kinds t i word s)) end
-matches_stored k storages scope unset s t i word temporaries flag m end place sound knows inside matches code sizes stores =
+matches_stored k storages scope unset s t i word temporaries flag m end place sound shape inside matches code sizes stores =
     let made = stored k.kinds t i word s in
     record {
       agrees = agrees_same k scope (unset_but t unset) made (flagged flag made) end refl refl
-          (stored_agrees k storages scope unset s t i word temporaries flag m end place sound knows inside matches.agrees stores);
+          (stored_agrees k storages scope unset s t i word temporaries flag m end place sound shape inside matches.agrees stores);
       flag = stores.error ∙ ap (λ e. e || flag) (matches.flag ∙ sym (stored_flag k.kinds t i word s));
       traced = stores.traced ∙ matches.traced ∙ sym (stored_traced k.kinds t i word s);
       zeros = λ at. stores.blocks item.Zeros at tt ∙ no_zeros t i at (held_bytes t (taken k.kinds t word)) m.blocks ∙ matches.zeros at;
@@ -299,7 +307,7 @@ one_evaluated k old between new a number is_kept temporaries none computes small
     v.flag i.flag m middle end after.1 after.0.error stored)))
     (λ m said. said.0.agrees)
     (λ m end said after. (
-      matches_stored k storages scope unset s a.target i.word v.word temporaries (v.flag || i.flag) m end place takes.sound knows
+      matches_stored k storages scope unset s a.target i.word v.word temporaries (v.flag || i.flag) m end place takes.sound (knows_shape k scope s knows)
           (subscript_inside k storages scope unset s a.target place.place takes.sound known) said.0 after.1 after.2 after.0,
       stores_leave scope temporaries a.target i.word (taken k.kinds a.target v.word) (v.flag || i.flag) m end after.0,
     )))
@@ -331,7 +339,7 @@ one_kept k old between new source a number is_kept temporaries kept is stores = 
     alone.pushed.error stored)))
     (λ m said. (said.0.agrees, said.1 refl))
     (λ m end said after. (
-      matches_stored k storages scope unset s a.target i.word word temporaries i.flag m end place takes.sound knows
+      matches_stored k storages scope unset s a.target i.word word temporaries i.flag m end place takes.sound (knows_shape k scope s knows)
           (subscript_inside k storages scope unset s a.target place.place takes.sound known) said.0 after.1 after.2 after.0,
       stores_leave scope temporaries a.target i.word w i.flag m end after.0,
     )))
@@ -387,3 +395,8 @@ alone_assigns k old new a makes storages scope unset s place may knows =
           (λ x h. subst (λ t. (unset x && not t) ≡ false) (or-false (is_target x a.target)) (run_sets scope unset _ (a ∷ []) x may h)) after.0,
       after.1.counts,
     ))
+
+pub one_of : {A : Type 0} (xs : List A) (x : A) → 1 ≤ length xs → length xs < 2 → x ≡ slice_index_or xs 0 x → xs ≡ x ∷ []
+one_of [] x h g e = absurd (omega (arith, h))
+one_of (y ∷ []) x h g e = ap (λ z. z ∷ []) (sym e)
+one_of (y ∷ z ∷ xs) x h g e = absurd (omega (arith, g))

@@ -1,6 +1,7 @@
 -- What the code of assignments does, part by part.
-use Rattle.std.specs.Prelude.{◌≡◌, ℕ, ◌*◌, ◌%◌, ◌^◌, ◌<◌, ◌≤◌, Bool, true, false, not, ◌||◌, ◌&&◌, List, [], ◌∷◌, length, IsTrue}
+use Rattle.std.specs.Prelude.{◌≡◌, ℕ, ◌+◌, ◌*◌, ◌%◌, ◌^◌, ◌<◌, ◌≤◌, Bool, true, false, not, ◌||◌, ◌&&◌, List, [], ◌∷◌, length, map, slice_index, IsTrue}
 use Rattle.std.specs.Int.{w32, to_le_bytes}
+use Rattle.std.specs.List.{list_any, list_all}
 use Rattle.tpw_occam_core.specs.declared.kind.Kind.{Kind}
 use Rattle.tpw_occam_core.specs.declared.kind.Kind.TheVariants.{Word, Byte}
 use Rattle.tpw_occam_core.specs.declared.worker.Storage.{Storage}
@@ -11,17 +12,17 @@ use Rattle.tpw_occam_core.specs.declared.process.Target.{Target}
 use Rattle.tpw_occam_core.specs.declared.process.Target.TheVariants as target
 use Rattle.tpw_occam_core.specs.declared.process.Assignment.{Assignment}
 use Rattle.tpw_occam_core.specs.Arithmetic.{answer, plain}
-use Rattle.tpw_occam_core.specs.Arrays.{kept}
-use Rattle.tpw_occam_core.specs.Meaning.{Store, value_of, kind_of, subscript_of, stored, flagged}
-use Rattle.tpw_occam_core.specs.Sound.{is_name, is_sound_target, is_sound_assignment}
+use Rattle.tpw_occam_core.specs.Arrays.{size, kept}
+use Rattle.tpw_occam_core.specs.Meaning.{Store, value_of, kind_of, subscript_of, stored, flagged, assigned}
+use Rattle.tpw_occam_core.specs.Sound.{is_name, is_seen, is_sound_target, is_sound_assignment}
 use Rattle.tpw_occam_code.specs.declared.items.Item.{Item}
 use Rattle.tpw_occam_code.specs.declared.items.Item.TheVariants as item
 use Rattle.tpw_occam_code.specs.Code.{Lines}
 use Rattle.tpw_occam_code.specs.Blocks.{with_bytes}
 use Rattle.tpw_occam_code.specs.Symbolic.{Machine, number, address}
-use Rattle.tpw_occam_code.specs.Leading.{Does, HasWord}
+use Rattle.tpw_occam_code.specs.Leading.{Does, HasConstants, HasWord}
 use Rattle.tpw_occam_code.specs.Values.{HasNumber, scaled}
-use Rattle.tpw_occam_code.specs.Agreement.{Knowledge, Knows, Agrees, LeavesItems, Stays}
+use Rattle.tpw_occam_code.specs.Agreement.{Knowledge, elements_of, Knows, Agrees, LeavesItems, Stays}
 use Rattle.tpw_occam_code.specs.Computing.{IsPlace, MayStand}
 use Rattle.tpw_occam_code.specs.Executing.{subscript_reads, sources_read, is_target, IsProcessPlace, KnowsState, Matches, LeavesCounts}
 
@@ -123,6 +124,16 @@ StoresIn k old new t temporaries =
     → Does k.arrays old new (λ m. Agrees k scope unset s m × HasNumber word m)
     (Stores scope temporaries (item_of t) (place_of t (subscript_of t s).word) (held_bytes t word) (subscript_of t s).flag)
 
+-- a place in a target is there
+abbrev pub IsInside : Knowledge → Target → ℕ → Type 0
+IsInside k (target.Variable x) i = Unit {0}
+IsInside k (target.Element a view e) i = i < elements_of view (slice_index k.arrays a)
+
+-- a state has a value for each variable, and arrays of the sizes that are known
+pub record HasShape (k : Knowledge) (s : Store) : Type 0 where
+  pub count : length s.values ≡ length k.kinds
+  pub sizes : map length s.arrays ≡ k.arrays
+
 -- ---- assignments
 
 -- a value as its target takes it
@@ -166,3 +177,69 @@ MakesOne k old new a kept_in is_kept temporaries =
     (λ m. Matches k storages scope unset s m × (is_kept ≡ true → HasWord (item.Temporary kept_in) (taken k.kinds a.target word) m))
     (λ m end. Matches k storages scope (unset_but a.target unset) (after_one k.kinds a (source_of a is_kept word s) s) end
     × LeavesKept scope temporaries m end)
+
+-- ---- all values and subscripts in words
+
+-- assignments may stand there
+pub record MayMakeAll (k : Knowledge) (storages : List Storage) (scope : List Entry) (unset : ℕ → Bool) (all : List Assignment)
+    : Type 0 where
+  pub sound : IsTrue (list_all (is_sound_assignment (length k.kinds) storages scope) all)
+  pub assigned : (x : ℕ) → unset x ≡ true → list_any (sources_read x) all ≡ false
+
+-- the variables that are not assigned yet, once all are made
+abbrev pub unset_by : List Assignment → (ℕ → Bool) → ℕ → Bool
+unset_by all unset x = unset x && not (list_any (λ a. is_target x a.target) all)
+
+-- what is made of a state is kept in a word
+pub record Saved (scope : List Entry) (temporaries : ℕ) (made : Answer) (m end : Machine) : Type 0 where
+  pub held : HasWord (item.Temporary temporaries) made.word end
+  pub error : end.error ≡ (m.error || made.flag)
+  pub leaves : LeavesItems scope temporaries m end
+
+-- .. a subscript
+abbrev pub KeepsSubscript : Knowledge → (old new : Lines) → ℕ → Kind → Expression → (temporaries : ℕ) → Type 0
+KeepsSubscript k old new a view e temporaries =
+    (storages : List Storage) (scope : List Entry) (unset : ℕ → Bool) (s : Store) → IsPlace k storages scope
+    → IsTrue (is_seen storages scope a view) → MayStand k storages scope unset e → Knows k scope unset s
+    → Does k.arrays old new (Agrees k scope unset s) (Saved scope temporaries (subscript_of (target.Element a view e) s))
+
+-- the subscript of a target is in a word, if it has one
+abbrev pub HasSubscript : Target → (temporary : ℕ) → ℕ → Machine → Type 0
+HasSubscript (target.Variable x) n i m = Unit {0}
+HasSubscript (target.Element a view e) n i m = HasWord (item.Temporary n) i m
+
+-- the value and the subscript of an assignment are in words
+pub record HasParts (kinds : List Kind) (t : Target) (temporaries word i : ℕ) (m : Machine) : Type 0 where
+  pub value : HasWord (item.Temporary temporaries) (taken kinds t word) m
+  pub place : HasSubscript t (temporaries + 1) i m
+
+abbrev pub KeepsParts : Knowledge → (old new : Lines) → Assignment → (temporaries : ℕ) → Type 0
+KeepsParts k old new a temporaries =
+    (storages : List Storage) (scope : List Entry) (unset : ℕ → Bool) (s : Store) → IsProcessPlace k storages scope
+    → MayMake k storages scope unset a → KnowsState k scope s
+    → Does k.arrays old new (Matches k storages scope unset s)
+    (λ m end. Matches k storages scope unset (flagged ((value_of a.value s).flag || (subscript_of a.target s).flag) s) end
+    × LeavesKept scope temporaries m end
+    × HasParts k.kinds a.target temporaries (value_of a.value s).word (subscript_of a.target s).word end)
+
+-- a word is stored in an element whose subscript is in a word
+abbrev pub StoresKept : Knowledge → (old new : Lines) → ℕ → Kind → (temporary : ℕ) → Type 0
+StoresKept k old new a view temporary =
+    (bytes : List ℕ) (i word : ℕ) → length bytes ≡ slice_index k.arrays a → length bytes ≤ 2048 → i < size view bytes
+    → Does k.arrays old new (λ m. HasConstants m × HasNumber word m × HasWord (item.Temporary temporary) i m)
+    (Writes (item.Array a) (scaled view i) (element_bytes view word))
+
+abbrev pub StoresParts : Knowledge → (old new : Lines) → Target → (temporaries : ℕ) → Type 0
+StoresParts k old new t temporaries =
+    (storages : List Storage) (scope : List Entry) (unset : ℕ → Bool) (s : Store) (i word : ℕ) → IsProcessPlace k storages scope
+    → IsTrue (is_sound_target (length k.kinds) storages scope t) → HasShape k s → IsInside k t i → word < 2 ^ 32
+    → Does k.arrays old new (λ m. Matches k storages scope unset s m × HasParts k.kinds t temporaries word i m)
+    (λ m end. Matches k storages scope (unset_but t unset) (stored k.kinds t i word s) end × LeavesKept scope temporaries m end)
+
+-- assignments with all values and subscripts in words, from one on
+abbrev pub AssignsAbove : Knowledge → (old new : Lines) → List Assignment → (temporaries : ℕ) → Type 0
+AssignsAbove k old new all temporaries =
+    (storages : List Storage) (scope : List Entry) (unset : ℕ → Bool) (s : Store) → IsProcessPlace k storages scope
+    → MayMakeAll k storages scope unset all → KnowsState k scope s
+    → Does k.arrays old new (Matches k storages scope unset s)
+    (λ m end. Matches k storages scope (unset_by all unset) (assigned k.kinds all s) end × LeavesKept scope temporaries m end)
