@@ -17,3 +17,5 @@ pub mod Naming
 pub mod Storing
 pub mod Assigning
 pub mod Matching
+pub mod Reading
+pub mod KeptParts

@@ -1,5 +1,5 @@
 -- What the code of assignments does, part by part.
-use Rattle.std.specs.Prelude.{◌≡◌, ℕ, ◌+◌, ◌*◌, ◌%◌, ◌^◌, ◌<◌, ◌≤◌, Bool, true, false, not, ◌||◌, ◌&&◌, List, [], ◌∷◌, length, map, slice_index, IsTrue}
+use Rattle.std.specs.Prelude.{◌≡◌, ℕ, ◌+◌, ◌*◌, ◌%◌, ◌^◌, ◌<◌, ◌≤◌, Bool, true, false, not, ◌||◌, ◌&&◌, ◌==◌, List, [], ◌∷◌, length, map, slice_index, IsTrue}
 use Rattle.std.specs.Int.{w32, to_le_bytes}
 use Rattle.std.specs.List.{list_any, list_all}
 use Rattle.tpw_occam_core.specs.declared.kind.Kind.{Kind}
@@ -8,6 +8,9 @@ use Rattle.tpw_occam_core.specs.declared.worker.Storage.{Storage}
 use Rattle.tpw_occam_core.specs.declared.scope.Entry.{Entry}
 use Rattle.tpw_occam_core.specs.declared.arithmetic.Answer.{Answer}
 use Rattle.tpw_occam_core.specs.declared.expression.Expression.{Expression}
+use Rattle.tpw_occam_core.specs.declared.expression.Expression.TheVariants.{Constant, Variable, Element', Checked'}
+use Rattle.tpw_occam_core.specs.declared.expression.Expression.TheVariants.{Binary', Complement', Not', LowByte', And'}
+use Rattle.tpw_occam_core.specs.declared.expression.Expression.TheVariants.{Or', Let'}
 use Rattle.tpw_occam_core.specs.declared.process.Target.{Target}
 use Rattle.tpw_occam_core.specs.declared.process.Target.TheVariants as target
 use Rattle.tpw_occam_core.specs.declared.process.Assignment.{Assignment}
@@ -23,8 +26,35 @@ use Rattle.tpw_occam_code.specs.Symbolic.{Machine, number, address}
 use Rattle.tpw_occam_code.specs.Leading.{Does, HasConstants, HasWord}
 use Rattle.tpw_occam_code.specs.Values.{HasNumber, scaled}
 use Rattle.tpw_occam_code.specs.Agreement.{Knowledge, elements_of, Knows, Agrees, LeavesItems, Stays}
-use Rattle.tpw_occam_code.specs.Computing.{IsPlace, MayStand}
+use Rattle.tpw_occam_code.specs.Computing.{IsPlace, MayStand, reads}
 use Rattle.tpw_occam_code.specs.Executing.{subscript_reads, sources_read, is_target, IsProcessPlace, KnowsState, Matches, LeavesCounts}
+
+-- ---- what is read
+
+-- whether an expression reads an array
+abbrev pub reads_array : Expression → ℕ → Bool
+reads_array (Constant c) a = false
+reads_array (Variable x) a = false
+reads_array (Element' b kind p e) a = b == a || reads_array e a
+reads_array (Checked' below p e) a = reads_array e a
+reads_array (Binary' operator p e q f) a = reads_array e a || reads_array f a
+reads_array (Complement' p e) a = reads_array e a
+reads_array (Not' p e) a = reads_array e a
+reads_array (LowByte' p e) a = reads_array e a
+reads_array (And' p e q f) a = reads_array e a || reads_array f a
+reads_array (Or' p e q f) a = reads_array e a || reads_array f a
+reads_array (Let' x p e q f) a = reads_array e a || reads_array f a
+
+-- .. the variable or the array of a target
+abbrev pub reads_target : Expression → Target → Bool
+reads_target e (target.Variable x) = reads e x
+reads_target e (target.Element a kind f) = reads_array e a
+
+-- two targets are one variable, or in one array
+abbrev pub are_near : Target → Target → Bool
+are_near (target.Variable x) (target.Variable y) = x == y
+are_near (target.Element a kind e) (target.Element b view f) = a == b
+are_near one other = false
 
 -- ---- targets
 

@@ -10,7 +10,7 @@ ghost use Rattle.tpw_occam_code.specs.Leading.{Does, HasWord};
 ghost use Rattle.tpw_occam_code.specs.Values.{HasNumber, PushesAlone, scaled};
 ghost use Rattle.tpw_occam_code.specs.Computing.{ComputesTo, IsFixed, subscript_value};
 ghost use Rattle.tpw_occam_code.specs.Executing.{Assigns};
-ghost use Rattle.tpw_occam_code.specs.Assigning.{element_bytes, IsToStore, Writes, WritesPopped, ComputesOver, ComputesAbove, StoresIn, MakesOne, taken_value, HasSmallValue};
+ghost use Rattle.tpw_occam_code.specs.Assigning.{element_bytes, IsToStore, Writes, WritesPopped, ComputesOver, ComputesAbove, StoresIn, MakesOne, taken_value, HasSmallValue, AssignsAbove, KeepsParts, KeepsSubscript, StoresParts, StoresKept};
 ghost use Rattle.tpw_occam_core.specs.Arithmetic.{plain};
 
 use crate::code::{Code, Step};
@@ -94,13 +94,27 @@ impl Emitter<'_> {
         ensures knowledge { OnOk result (self.new ≡ self.old) }
         ensures assigns { OnOk result (Assigns self.old code.old code.new all.now) }
     {
-        match moves(self.alloc, all)? {
-            Some(moves) if !keep_any(&moves) || !self.fit_in_registers(all) => {
-                self.make_moves(code, all, &moves, line)
-            }
-            Some(_) => self.assign_by_registers(code, all, line),
-            None => self.assign_by_words(code, all, line),
+        if let Some(moves) = moves(self.alloc, all)? {
+            return self.by_moves(code, all, &moves, line);
         }
+        self.assign_by_words(code, all, Room::from_word(0, line))
+    }
+
+    /// Makes several assignments for which there is an order.
+    fn by_moves(
+        &mut self,
+        code: &mut Code,
+        all: &[Assignment],
+        moves: &[Move],
+        line: u32,
+    ) -> Result<(), CodeFault> {
+        if !keep_any(moves) {
+            return self.make_moves(code, all, moves, Room::from_word(0, line));
+        }
+        if self.fit_in_registers(all) {
+            return self.assign_by_registers(code, all, line);
+        }
+        self.make_moves(code, all, moves, Room::from_word(all.len(), line))
     }
 
     /// Makes assignments one by one.
@@ -109,18 +123,14 @@ impl Emitter<'_> {
         code: &mut Code,
         all: &[Assignment],
         moves: &[Move],
-        line: u32,
+        room: Room,
     ) -> Result<(), CodeFault> {
-        let room = match keep_any(moves) {
-            true => Room::from_word(all.len(), line),
-            false => Room::from_word(0, line),
-        };
         for next in moves {
             match next {
                 Move::Keep(i) => {
                     if let Some(assignment) = all.get(*i) {
                         self.value(code, assignment, room)?;
-                        code.emit(line, Step::Store(Item::Temporary(*i), 0))?;
+                        code.emit(room.line, Step::Store(Item::Temporary(*i), 0))?;
                     }
                 }
                 Move::Make(i) => {
@@ -347,15 +357,17 @@ impl Emitter<'_> {
         &mut self,
         code: &mut Code,
         all: &[Assignment],
-        line: u32,
-    ) -> Result<(), CodeFault> {
-        for (number, assignment) in all.iter().enumerate() {
-            self.keep_parts(code, assignment, number, line)?;
-        }
-        for (number, assignment) in all.iter().enumerate().rev() {
-            self.store_parts(code, &assignment.target, number, line)?;
-        }
-        Ok(())
+        room: Room,
+    ) -> Result<(), CodeFault>
+        ensures knowledge { OnOk result (self.new ≡ self.old) }
+        ensures assigns { OnOk result (room.registers ≡ 3 → AssignsAbove self.old code.old code.new all.now room.kept) }
+    {
+        let [one, rest @ ..] = all else {
+            return Ok(());
+        };
+        self.keep_parts(code, one, room)?;
+        self.assign_by_words(code, rest, room.beside()?.beside()?)?;
+        self.store_parts(code, &one.target, room)
     }
 
     /// Keeps a value as its target takes it, and the target's subscript, checked, if it has one.
@@ -363,47 +375,71 @@ impl Emitter<'_> {
         &mut self,
         code: &mut Code,
         assignment: &Assignment,
-        number: usize,
-        line: u32,
-    ) -> Result<(), CodeFault> {
-        let room = Room::from_word(number.saturating_mul(2), line);
+        room: Room,
+    ) -> Result<(), CodeFault>
+        ensures knowledge { OnOk result (self.new ≡ self.old) }
+        ensures keeps { OnOk result (room.registers ≡ 3 → KeepsParts self.old code.old code.new assignment.now room.kept) }
+        ensures small { OnOk result (HasSmallValue self.old assignment.now.value) }
+    {
         self.value(code, assignment, room)?;
-        code.emit(line, Step::Store(room.word(), 0))?;
+        code.emit(room.line, Step::Store(room.word(), 0))?;
         if let Target::Element {
             array,
             kind,
             subscript,
         } = &assignment.target
         {
-            let i = self.expression(code, subscript, room.beside()?)?;
-            checked(code, line, i, self.elements(*array, *kind))?;
-            code.emit(line, Step::Store(room.beside()?.word(), 0))?;
+            return self.keep_subscript(code, *array, *kind, subscript, room.beside()?);
         }
         Ok(())
     }
 
-    /// Stores a value that was kept in its target.
-    fn store_parts(
+    /// Keeps a subscript, checked.
+    fn keep_subscript(
         &mut self,
         code: &mut Code,
-        target: &Target,
-        number: usize,
-        line: u32,
-    ) -> Result<(), CodeFault> {
-        let room = Room::from_word(number.saturating_mul(2), line);
-        code.emit(line, Step::Load(room.word(), 0))?;
+        array: usize,
+        kind: Kind,
+        subscript: &Expression,
+        room: Room,
+    ) -> Result<(), CodeFault>
+        ensures knowledge { OnOk result (self.new ≡ self.old) }
+        ensures keeps { OnOk result (room.registers ≡ 3
+            → KeepsSubscript self.old code.old code.new array kind subscript.now room.kept) }
+    {
+        let i = self.expression(code, subscript, room)?;
+        checked(code, room.line, i, self.elements(array, kind))?;
+        code.emit(room.line, Step::Store(room.word(), 0))
+    }
+
+    /// Stores a value that was kept in its target.
+    fn store_parts(&self, code: &mut Code, target: &Target, room: Room) -> Result<(), CodeFault>
+        ensures { OnOk result (StoresParts self.now code.old code.new target.now room.kept) }
+    {
+        code.emit(room.line, Step::Load(room.word(), 0))?;
         match target {
-            Target::Variable(x) => store_variable(code, line, *x),
+            Target::Variable(x) => store_variable(code, room.line, *x),
             Target::Element {
                 array,
                 kind,
                 subscript: _,
-            } => {
-                code.emit(line, Step::Load(room.beside()?.word(), 0))?;
-                reduce(code, line, FULL, self.elements(*array, *kind))?;
-                indexed(code, line, *array, *kind)?;
-                store_at(code, line, *kind)
-            }
+            } => self.store_kept(code, *array, *kind, room.beside()?),
         }
+    }
+
+    /// Stores Areg in an element whose subscript was kept.
+    fn store_kept(
+        &self,
+        code: &mut Code,
+        array: usize,
+        kind: Kind,
+        room: Room,
+    ) -> Result<(), CodeFault>
+        ensures { OnOk result (StoresKept self.now code.old code.new array kind room.kept) }
+    {
+        code.emit(room.line, Step::Load(room.word(), 0))?;
+        reduce(code, room.line, FULL, self.elements(array, kind))?;
+        indexed(code, room.line, array, kind)?;
+        store_at(code, room.line, kind)
     }
 }
