@@ -19,3 +19,8 @@ pub mod Copying
 pub mod Sending
 pub mod Knowing
 pub mod Executing
+pub mod Storing
+pub mod Assigning
+pub mod Matching
+pub mod Reading
+pub mod KeptParts

@@ -12,3 +12,4 @@ pub mod Computing
 pub mod Executing
 pub mod Moving
 pub mod Sending
+pub mod Assigning
