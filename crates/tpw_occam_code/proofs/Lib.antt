@@ -14,3 +14,15 @@ pub mod TwoOperands
 pub mod Inverses
 pub mod Conditions
 pub mod Naming
+pub mod Carrying
+pub mod CarryingNumbers
+pub mod CarryingMemory
+pub mod CarryingControl
+pub mod CarryingTurns
+pub mod CarryingSteps
+pub mod CarryingRuns
+pub mod CarryingCode
+pub mod CarryingImage
+pub mod CarryingStart
+pub mod CarryingPlaces
+pub mod CarryingWhole

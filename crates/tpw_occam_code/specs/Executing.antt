@@ -1,5 +1,5 @@
 -- What the code of a process does.
-use Rattle.std.specs.Prelude.{◌≡◌, ◌≢◌, ℕ, ◌+◌, ◌*◌, ◌/◌, ◌≤◌, Bool, true, false, ◌||◌, ◌&&◌, if◌then◌else◌, nat_le}
+use Rattle.std.specs.Prelude.{◌≡◌, ◌≢◌, ℕ, ◌+◌, ◌*◌, ◌<◌, ◌≤◌, Bool, true, false, ◌||◌, ◌&&◌, ◌==◌, if◌then◌else◌, nat_le}
 use Rattle.std.specs.Prelude.{List, [], ◌∷◌, ◌++◌, length, map, replicate, slice_index, slice_get, Some, IsTrue}
 use Rattle.std.specs.List.{list_all, list_any}
 use Rattle.tpw_occam_core.specs.declared.worker.Storage.{Storage}
@@ -90,16 +90,17 @@ unset_after first unset x = unset x && is_nothing (first x)
 
 -- ---- states
 
--- Where processes stand: as expressions; what is known of a variable is what its kind says; every array has 1 to 2,048
--- bytes.
+-- Where processes stand: as expressions; a variable is there, and what is known of it is what its kind says; every array
+-- has 1 to 2,048 bytes.
 pub record IsProcessPlace (k : Knowledge) (storages : List Storage) (scope : List Entry) : Type 0 where
   pub place : IsPlace k storages scope
+  pub declared : (x : ℕ) → IsTrue (list_any (is_variable x) scope) → x < length k.kinds
   pub variables : (x : ℕ) → IsTrue (list_any (is_variable x) scope) → fact_at k x ≡ fact_of_kind (kind_of k.kinds x)
   pub sized : IsTrue (list_all is_sized storages)
 
 -- A process may run there: it is sound, and reads no variable that is not assigned yet.
-pub record MayRun (scope : List Entry) (unset : ℕ → Bool) (sound : Bool) (first : ℕ → First) : Type 0 where
-  pub sound : IsTrue sound
+pub record MayRun (scope : List Entry) (unset : ℕ → Bool) (is_sound : Bool) (first : ℕ → First) : Type 0 where
+  pub sound : IsTrue is_sound
   pub assigned : (x : ℕ) → unset x ≡ true → first x ≢ Read
   pub declared : (x : ℕ) → unset x ≡ true → IsTrue (list_any (is_variable x) scope)
 

@@ -5,6 +5,8 @@ pub mod Program
 pub mod Blocks
 pub mod Symbolic
 pub mod Leading
+pub mod Carried
+pub mod Placing
 pub mod Ranges
 pub mod Values
 pub mod Agreement
