@@ -30,19 +30,8 @@ use Rattle.tpw_occam_code.specs.declared.code.Step.{Step}
 use Rattle.tpw_occam_code.specs.declared.code.Step.TheVariants.{Plain, Load, Store, Pointer, JumpTo, CjTo, Distance}
 use Rattle.tpw_occam_code.specs.declared.code.CodeLine.{CodeLine}
 use Rattle.tpw_occam_code.specs.Carried.{Site, address_of, base_of, operation_of, instr_of, GoesOn, IsSpelledIn, LiesIn}
+use Rattle.tpw_occam_code.specs.Placing.{line_at, HasOperand}
 use Rattle.tpw_occam_code.proofs.CarryingCode.{get_map, index_behind, parts, shortest_spells, small_fits}
-
--- the line of a program that a line of code becomes
-abbrev pub line_at : Site → CodeLine → Line
-line_at site line = Spelled (operation_of site line.step) None
-
--- operands are those of instructions
-abbrev pub HasOperand : Site → Step → Type 0
-HasOperand site (Plain instr) = SFits w32 (entry instr).operand
-HasOperand site (Load item word) = site.locals item + word < 2 ^ 31
-HasOperand site (Store item word) = site.locals item + word < 2 ^ 31
-HasOperand site (Pointer item word) = site.locals item + word < 2 ^ 31
-HasOperand site step = Unit {0}
 
 -- a program is made of code
 pub record IsMadeOf (program : Program) (site : Site) : Type 0 where
@@ -65,7 +54,7 @@ sound_at count number (l ∷ lines) zero line sound is =
 sound_at count number (l ∷ lines) (suc k) line sound is =
     ap (λ n. line_fault count n line) (omega arith) ∙ sound_at count (number + 1) lines k line (sound_first count number l lines sound).1 is
 
-workspace_most : (v : Version) (n : ℕ) → n ≤ most_workspace v → n ≤ 512
+pub workspace_most : (v : Version) (n : ℕ) → n ≤ most_workspace v → n ≤ 512
 workspace_most One n most = omega (arith, most)
 workspace_most Two n most = omega (arith, most)
 

@@ -26,3 +26,4 @@ pub mod CarryingImage
 pub mod CarryingStart
 pub mod CarryingPlaces
 pub mod CarryingWhole
+pub mod Starting

@@ -6,9 +6,10 @@ pub mod Blocks
 pub mod Symbolic
 pub mod Leading
 pub mod Carried
-pub mod Placing
 pub mod Ranges
 pub mod Values
 pub mod Agreement
 pub mod Computing
 pub mod Executing
+pub mod Starting
+pub mod Placing

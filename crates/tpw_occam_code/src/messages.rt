@@ -2,6 +2,7 @@
 
 ghost use Rattle.std.specs.Prelude.{◌≡◌, OnOk};
 ghost use Rattle.tpw_occam_code.specs.Executing.{Traces};
+ghost use Rattle.tpw_occam_code.specs.Starting.{Inputs, Receives, Sends};
 
 use crate::code::{Code, Step};
 use crate::emitter::{Emitter, Room};
@@ -17,6 +18,16 @@ const LINK1_OUTPUT: u32 = 0x8000_0004;
 
 const LINK0_INPUT: u32 = 0x8000_0010;
 
+/// Receives so many bytes, from an item's first on.
+fn input(code: &mut Code, line: u32, item: Item, bytes: u32) -> Result<(), CodeFault>
+    ensures { OnOk result (Inputs code.old code.new item bytes) }
+{
+    code.emit(line, Step::Pointer(item, 0))?;
+    code.constant(line, LINK0_INPUT)?;
+    code.constant(line, bytes)?;
+    code.instr(line, Instr::Input)
+}
+
 impl Emitter<'_> {
     /// Receives the packet.
     pub(crate) fn receive(
@@ -24,15 +35,13 @@ impl Emitter<'_> {
         code: &mut Code,
         place: Place,
         line: u32,
-    ) -> Result<(), CodeFault> {
-        let (item, bytes) = match place {
-            Place::Variable(x) => (Item::Variable(x), 4),
-            Place::Array(a) => (Item::Array(a), self.bytes(a)),
-        };
-        code.emit(line, Step::Pointer(item, 0))?;
-        code.constant(line, LINK0_INPUT)?;
-        code.constant(line, bytes)?;
-        code.instr(line, Instr::Input)
+    ) -> Result<(), CodeFault>
+        ensures { OnOk result (Receives self.now code.old code.new place) }
+    {
+        match place {
+            Place::Variable(x) => input(code, line, Item::Variable(x), 4),
+            Place::Array(a) => input(code, line, Item::Array(a), self.bytes(a)),
+        }
     }
 
     /// The item that has a message's bytes already, if there is one.
@@ -95,7 +104,9 @@ impl Emitter<'_> {
         code: &mut Code,
         m: &Message,
         line: u32,
-    ) -> Result<(), CodeFault> {
+    ) -> Result<(), CodeFault>
+        ensures { OnOk result (Sends self.old code.old code.new m.now) }
+    {
         self.output(code, m, LINK0_OUTPUT, line)?;
         code.instr(line, Instr::Stopp)
     }
