@@ -3,7 +3,7 @@ use Rattle.std.proofs.Common.{◌≡◌, ◌⊎◌, inl, inr, ℕ, zero, suc, �
 use Rattle.std.proofs.Common.{replicate, slice_get, Option, Some, None, refl, ap, sym, subst, ◌∙◌, arith, w32}
 use Rattle.std.specs.Prelude.{slice_index, slice_index_or, flat_map, All, IsTrue, if◌then◌else◌, nat_lt}
 use Rattle.std.specs.Int.{to_le_bytes}
-use Rattle.std.proofs.lemmas.Bool.{cases_lt, ltb-true}
+use Rattle.std.proofs.lemmas.Bool.{cases_lt, ltb-true, leb-true}
 use Rattle.std.proofs.lemmas.Option.{same_Some}
 use Rattle.std.proofs.lemmas.Nat.{from_le_bytes-to_le_bytes_4}
 use Rattle.std.proofs.lemmas.List.Elements.{All-head, All-tail}
@@ -16,9 +16,11 @@ use Rattle.tpw_asm.specs.declared.program.Line.{Line}
 use Rattle.tpw_asm.specs.declared.program.Line.TheVariants.{Spelled}
 use Rattle.tpw_asm.specs.Layout.{addresses_from}
 use Rattle.tpw_asm.specs.Assembly.{IsAssembly}
+use Rattle.std.specs.List.{list_all}
+use Rattle.tpw_occam_core.specs.declared.worker.Storage.{Storage}
 use Rattle.tpw_occam_core.specs.declared.worker.Worker.{Worker}
 use Rattle.tpw_occam_core.specs.Meaning.{Meant, meaning, meant, most_traced, first, after, bytes_of}
-use Rattle.tpw_occam_core.specs.Sound.{is_sound, are_declared, globals, bytes_of as size_of}
+use Rattle.tpw_occam_core.specs.Sound.{is_sound, are_declared, is_sized, globals, bytes_of as size_of}
 use Rattle.tpw_occam_code.specs.declared.items.Item.{Item}
 use Rattle.tpw_occam_code.specs.declared.items.Item.TheVariants.{Variable, Constant}
 use Rattle.tpw_occam_code.specs.declared.items.Placed.{Placed}
@@ -62,6 +64,17 @@ index_next x xs i j e = ap (slice_index (x ∷ xs)) e
 index_behind_front : (xs ys : List ℕ) (k : ℕ) → slice_index (xs ++ ys) (length xs + k) ≡ slice_index ys k
 index_behind_front [] ys k = ap (slice_index ys) (omega arith)
 index_behind_front (x ∷ xs) ys k = index_next x (xs ++ ys) (length (x ∷ xs) + k) (length xs + k) (omega arith) ∙ index_behind_front xs ys k
+
+-- ---- arrays
+
+-- arrays are short
+pub declared_small : (w : Worker) (a : ℕ) → IsTrue (are_declared w) → slice_index (map size_of w.arrays.items) a < 2 ^ 32
+declared_small w a declared = sized_small w.arrays.items a (and_first _ _ (and_first _ _ declared))
+  where
+    sized_small : (storages : List Storage) (a : ℕ) → IsTrue (list_all is_sized storages) → slice_index (map size_of storages) a < 2 ^ 32
+    sized_small [] a sized = omega arith
+    sized_small (one ∷ storages) zero sized = omega (arith, leb-true (size_of one) 2048 (and_second _ _ (and_first (is_sized one) _ sized)))
+    sized_small (one ∷ storages) (suc a) sized = sized_small storages a (and_second (is_sized one) _ sized)
 
 -- ---- words
 

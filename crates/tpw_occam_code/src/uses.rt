@@ -1,6 +1,6 @@
 //! What the words of the workspace are used for.
 
-ghost use Rattle.std.specs.Prelude.{◌≡◌, ◌<◌, ◌≤◌, ◌*◌, ◌^◌, false, map, slice_index};
+ghost use Rattle.std.specs.Prelude.{◌≡◌, ◌<◌, ◌≤◌, ◌*◌, ◌^◌, map, slice_index};
 ghost use Rattle.std.specs.List.{list_any};
 ghost use Rattle.tpw_occam_core.specs.Sound.{bytes_of, globals, is_array};
 ghost use Rattle.tpw_occam_code.specs.Leading.{word_bytes};
@@ -54,7 +54,7 @@ pub(crate) fn array_words(worker: &Worker, a: usize) -> u32
 
 /// Whether an array is declared for the whole worker.
 fn is_global(worker: &Worker, a: usize) -> bool
-    ensures { result ≡ false → list_any (is_array a) (globals worker.now) ≡ false }
+    ensures { result ≡ list_any (is_array a) (globals worker.now) }
 {
     worker.global_arrays.contains(&a)
 }
