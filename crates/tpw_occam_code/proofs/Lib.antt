@@ -27,3 +27,5 @@ pub mod CarryingStart
 pub mod CarryingPlaces
 pub mod CarryingWhole
 pub mod Starting
+pub mod Working
+pub mod Receiving

@@ -48,7 +48,7 @@ all_get P [] k x all is = cc
 all_get P (y ∷ xs) zero x all is = subst P (same_Some _ _ is) (All-head P y xs all)
 all_get P (y ∷ xs) (suc k) x all is = all_get P xs k x (All-tail P y xs all) is
 
-index_zeros : (n k : ℕ) → slice_index (replicate n 0) k ≡ 0
+pub index_zeros : (n k : ℕ) → slice_index (replicate n 0) k ≡ 0
 index_zeros zero k = refl
 index_zeros (suc n) zero = refl
 index_zeros (suc n) (suc k) = index_zeros n k

@@ -14,11 +14,12 @@ use Rattle.tpw_occam_core.specs.Meaning.{Store, kind_of, first, first_bytes, rec
 use Rattle.tpw_occam_core.specs.Sound.{globals, is_variable, is_array, is_word, is_sound_message, bytes_of as size_of, storage_of}
 use Rattle.tpw_occam_code.specs.declared.items.Item.{Item}
 use Rattle.tpw_occam_code.specs.declared.items.Item.TheVariants.{Variable, Temporary, Constant, Array, Zeros}
+use Rattle.tpw_occam_code.specs.declared.code.Step.TheVariants.{Pointer}
 use Rattle.tpw_occam_code.specs.declared.code.CodeLine.{CodeLine}
 use Rattle.tpw_occam_code.specs.Code.{Lines}
 use Rattle.tpw_occam_code.specs.Blocks.{Blocks, with_bytes}
 use Rattle.tpw_occam_code.specs.Symbolic.{Machine, Leads}
-use Rattle.tpw_occam_code.specs.Leading.{HasConstants, IsBefore, Does}
+use Rattle.tpw_occam_code.specs.Leading.{Serves, HasConstants, IsBefore, Does}
 use Rattle.tpw_occam_code.specs.Agreement.{Knowledge, fact_of_kind}
 use Rattle.tpw_occam_code.specs.Executing.{IsProcessPlace, KnowsState, Matches, LeavesCounts, none_unset}
 
@@ -62,12 +63,20 @@ Receives k old new p =
     → Does k.arrays old new (λ m. Matches k storages scope none_unset s m × (m.to_come ≡ packet))
     (λ m end. Matches k storages scope none_unset (received p packet s) end × (end.sent ≡ m.sent))
 
--- .. into an item, from its first byte on
+-- All that is to come has gone into an item, from its first byte on.
+pub record IsInput (item : Item) (m end : Machine) : Type 0 where
+  pub blocks : end.blocks ≡ with_bytes item 0 m.to_come m.blocks
+  pub error : end.error ≡ m.error
+  pub sent : end.sent ≡ m.sent
+  pub traced : end.traced ≡ m.traced
+  pub code : end.code ≡ m.code
+  pub sizes : end.sizes ≡ m.sizes
+
+-- the code of so many bytes that come, where there is room for them
 abbrev pub Inputs : (old new : Lines) → Item → ℕ → Type 0
 Inputs old new item bytes =
-    (arrays : List ℕ) → Does arrays old new (λ m. HasConstants m × (length m.to_come ≡ bytes) × (bytes ≤ m.sizes item))
-    (λ m end. (end.blocks ≡ with_bytes item 0 m.to_come m.blocks) × (end.error ≡ m.error) × (end.sent ≡ m.sent)
-    × (end.traced ≡ m.traced))
+    (arrays : List ℕ) → ((sizes : Item → ℕ) → Serves arrays sizes (Pointer item 0) → bytes ≤ sizes item)
+    → Does arrays old new (λ m. HasConstants m × (length m.to_come ≡ bytes)) (IsInput item)
 
 -- A message has gone out on link 0.
 pub record IsSent (message : Message) (s : Store) (m end : Machine) : Type 0 where
