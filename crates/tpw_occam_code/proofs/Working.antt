@@ -24,7 +24,7 @@ use Rattle.tpw_occam_code.specs.Leading.{IsBefore, Does}
 use Rattle.tpw_occam_code.specs.Agreement.{Knowledge, fact_at, fact_of_kind, any_word, FitsFact, Knows}
 use Rattle.tpw_occam_code.specs.Computing.{IsPlace}
 use Rattle.tpw_occam_code.specs.Executing.{IsProcessPlace, MayRun, KnowsState, Matches, Executes, first_use, none_unset}
-use Rattle.tpw_occam_code.specs.Starting.{knowledge_of, place_bytes, FitsPlace, IsInScope, Receives, Sends, Begins, IsSent, Stops, Works}
+use Rattle.tpw_occam_code.specs.Starting.{knowledge_of, place_bytes, FitsPlace, IsInScope, Receives, DoesLast, Sends, Begins, IsSent, Stops, Works}
 use Rattle.tpw_occam_code.proofs.Ranges.{full_contains}
 use Rattle.tpw_occam_code.proofs.Starting.{index_zeros}
 use Rattle.tpw_occam_code.proofs.Standing.{and_first, and_second}
@@ -144,7 +144,7 @@ first_knows w bytes = record {
 -- ---- packets
 
 -- a byte of a packet
-packet_byte : (packet : List ℕ) (i : ℕ) → All (λ byte. byte < 256) packet → slice_index packet i < 256
+pub packet_byte : (packet : List ℕ) (i : ℕ) → All (λ byte. byte < 256) packet → slice_index packet i < 256
 packet_byte packet i small = by_side (cases_lt i (length packet))
   where
     by_side : (i < length packet) ⊎ (length packet ≤ i) → slice_index packet i < 256
@@ -170,7 +170,7 @@ set_bytes (one ∷ arrays) (suc a) bytes small all zero i = all zero i
 set_bytes (one ∷ arrays) (suc a) bytes small all (suc b) i = set_bytes arrays a bytes small (λ b. all (suc b)) b i
 
 -- the size of an array
-size_at : (storages : List Storage) (a : ℕ) → slice_index (map size_of storages) a ≡ size_of (storage_of storages a)
+pub size_at : (storages : List Storage) (a : ℕ) → slice_index (map size_of storages) a ≡ size_of (storage_of storages a)
 size_at [] a = refl
 size_at (one ∷ storages) zero = refl
 size_at (one ∷ storages) (suc a) = size_at storages a
@@ -275,15 +275,20 @@ module _ (run_knows : RunKnows) (w : Worker) (one two three : Lines) (sound : Is
         (λ m middle said after. after.0)
         (λ m middle end said after then. (then.0, then.1.sent ∙ after.1))
 
+    sent : DoesLast (knowledge_of w).arrays two three (Matches (knowledge_of w) w.arrays.items (globals w) none_unset (after w packet))
+        (IsSent w.send (after w packet))
+    sent = sends w.arrays.items (globals w) (after w packet) stands message knows_after
+
     stops : (m : Machine) → Begins w three packet m → Stops m (IsSent w.send (after w packet) m)
     stops m begins =
+        let last = sent in
         let a = does.arrives m record {
           place = begins.before.place;
-          lines = has_first two three sends.more m sends.base sends.lines begins.before.lines;
+          lines = has_first two three last.more m last.base last.lines begins.before.lines;
           served = begins.before.served;
           running = begins.before.running;
         } (begins.matches, begins.to_come) in
-        let b = sends.stops w.arrays.items (globals w) (after w packet) stands message knows_after a.end record {
+        let b = last.stops a.end record {
           place = a.place;
           lines = λ i h. ap (λ c. slice_get c (three.base + i)) a.same_code ∙ begins.before.lines i h;
           served = λ i line h. rw a.same_sizes (begins.before.served i line (ap (λ c. slice_get c i) (sym a.same_code) ∙ h));
@@ -302,6 +307,9 @@ module _ (run_knows : RunKnows) (w : Worker) (one two three : Lines) (sound : Is
 
   pub code_works : Works w three
   code_works = record {
-    base = sends.base ∙ (does (replicate (place_bytes w.arrays.items w.receive) 0) (zeros_fit w.arrays.items w.receive)).base;
+    base =
+        let packet = replicate (place_bytes w.arrays.items w.receive) 0 in
+        let fits = zeros_fit w.arrays.items w.receive in
+        (sent packet fits).base ∙ (does packet fits).base;
     stops = λ packet fits m begins. stops packet fits m begins;
   }

@@ -97,15 +97,20 @@ pub record Stops (m : Machine) (After : Machine → Type 0) : Type 0 where
   pub stopped : IsTrue last.stopped
   pub after : After last
 
--- The code of the result: it is sent, and control stops.
-pub record Sends (k : Knowledge) (old new : Lines) (message : Message) : Type 0 where
+-- Code was lengthened, and the new lines lead each machine of which something is said before to one that has stopped.
+pub record DoesLast (arrays : List ℕ) (old new : Lines) (Before : Machine → Type 0) (After : Machine → Machine → Type 0)
+    : Type 0 where
   pub base : new.base ≡ old.base
   pub more : List CodeLine
   pub lines : new.lines ≡ old.lines ++ more
-  pub stops : (storages : List Storage) (scope : List Entry) (s : Store) → IsProcessPlace k storages scope
-      → IsTrue (is_sound_message (length k.kinds) storages scope message) → KnowsState k scope s
-      → (m : Machine) → IsBefore k.arrays old new m → Matches k storages scope none_unset s m
-      → Stops m (IsSent message s m)
+  pub stops : (m : Machine) → IsBefore arrays old new m → Before m → Stops m (After m)
+
+-- the code of the result: it is sent, and control stops
+abbrev pub Sends : Knowledge → (old new : Lines) → Message → Type 0
+Sends k old new message =
+    (storages : List Storage) (scope : List Entry) (s : Store) → IsProcessPlace k storages scope
+    → IsTrue (is_sound_message (length k.kinds) storages scope message) → KnowsState k scope s
+    → DoesLast k.arrays old new (Matches k storages scope none_unset s) (IsSent message s)
 
 -- ---- workers
 
