@@ -71,6 +71,7 @@ fn without_code(alloc: Global, text: &str, fault: CodeFault) -> OccamFault
         | CodeFault::Workspace { line }
         | CodeFault::Code { line } => beyond(alloc, text, line, fault),
         CodeFault::Assembly(fault) => OccamFault::Compiler(Defect::Program(fault)),
+        CodeFault::Misplaced => OccamFault::Compiler(Defect::Misplaced),
         CodeFault::Memory => OccamFault::Memory,
     }
 }

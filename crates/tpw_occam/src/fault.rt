@@ -16,6 +16,9 @@ pub enum Defect {
     /// The program that is made has no image.
     #[error("the program that it makes has no image: {0}")]
     Program(AssemblyFault),
+    /// A word that the program uses is not where it has to be.
+    #[error("a word of the program that it makes is misplaced")]
+    Misplaced,
 }
 
 /// Why a text has no program.

@@ -23,7 +23,7 @@ get_front [] ys i h = absurd (omega (arith, h))
 get_front (x ∷ xs) ys zero h = refl
 get_front (x ∷ xs) ys (suc i) h = get_front xs ys i (omega (arith, h))
 
-get_last : {A : Type 0} (xs : List A) (x : A) → slice_get (xs ++ x ∷ []) (length xs) ≡ Some x
+pub get_last : {A : Type 0} (xs : List A) (x : A) → slice_get (xs ++ x ∷ []) (length xs) ≡ Some x
 get_last [] x = refl
 get_last (y ∷ xs) x = get_last xs x
 

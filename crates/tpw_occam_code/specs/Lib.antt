@@ -5,6 +5,7 @@ pub mod Program
 pub mod Blocks
 pub mod Symbolic
 pub mod Leading
+pub mod Carried
 pub mod Ranges
 pub mod Values
 pub mod Agreement
@@ -13,3 +14,5 @@ pub mod Executing
 pub mod Moving
 pub mod Sending
 pub mod Assigning
+pub mod Starting
+pub mod Placing

@@ -1,18 +1,21 @@
 //! From a worker to its program.
 
-ghost use Rattle.std.specs.Prelude.{IfOk, OnOk};
-ghost use Rattle.tpw_occam_code.specs.Program.{HasLayout};
+ghost use Rattle.std.specs.Prelude.{◌≡◌, ◌*◌, IfOk, IsTrue, OnOk};
+ghost use Rattle.tpw_occam_core.specs.Sound.{is_sound};
+ghost use Rattle.tpw_occam_code.specs.Program.{HasLayout, Means};
+ghost use Rattle.tpw_occam_code.specs.Placing.{AreBetween, IsBuilt};
+ghost use Rattle.tpw_occam_code.specs.Starting.{Works, place_bytes};
 
 use crate::code::Code;
 use crate::emitter::Emitter;
 use crate::fault::CodeFault;
 use crate::initial::initial_words;
 use crate::items::{Placed, START};
-use crate::layout::{layout, words_of};
+use crate::layout::{Arranged, layout};
 use crate::length::first_beyond;
 use crate::lines::{lines_of, loop_lines, rows_of, sources_of};
 use crate::loops::check_loops;
-use crate::uses::{Used, uses_of};
+use crate::uses::{Used, array_bytes, uses_of};
 use std::alloc::Global;
 use tp_image::Version;
 use tp_image::limits::{MAX_WORKSPACE_WORDS_2, MIN_WORKSPACE};
@@ -32,7 +35,9 @@ pub struct Compiled {
 }
 
 /// The code of a worker.
-fn code_of(alloc: Global, worker: &Worker) -> Result<Code, CodeFault> {
+fn code_of(alloc: Global, worker: &Worker) -> Result<Code, CodeFault>
+    ensures { IfOk result (λ code. IsTrue (is_sound worker.now) → Works worker.now code) }
+{
     let mut emitter = Emitter::new(alloc, worker)?;
     let mut code = Code::new(alloc);
     emitter.receive(&mut code, worker.receive, worker.line)?;
@@ -41,25 +46,19 @@ fn code_of(alloc: Global, worker: &Worker) -> Result<Code, CodeFault> {
     Ok(code)
 }
 
-/// The words of a message.
-fn message_words(worker: &Worker, array: Option<usize>) -> u32 {
-    match array.and_then(|a| worker.arrays.get(a)) {
-        Some(storage) => storage.bytes() / 4,
-        None => 1,
-    }
-}
-
-fn packet_words(worker: &Worker) -> u32 {
+fn packet_words(worker: &Worker) -> u32
+    ensures { IsTrue (is_sound worker.now) → 4 * result ≡ place_bytes worker.now.arrays.items worker.now.receive }
+{
     match worker.receive {
-        Place::Variable(_) => message_words(worker, None),
-        Place::Array(a) => message_words(worker, Some(a)),
+        Place::Variable(_) => 1,
+        Place::Array(a) => array_bytes(worker, a) / 4,
     }
 }
 
 fn result_words(worker: &Worker) -> u32 {
     match &worker.send {
-        Message::Value(_) => message_words(worker, None),
-        Message::Array(a) => message_words(worker, Some(*a)),
+        Message::Value(_) => 1,
+        Message::Array(a) => array_bytes(worker, *a) / 4,
     }
 }
 
@@ -92,31 +91,46 @@ fn check_code(alloc: Global, program: &Program, sources: &[u32]) -> Result<(), C
     }
 }
 
-/// The program of a worker, or why there is none. The program has a layout, within the code bytes of an image.
+/// The program of code, once its items are placed.
+fn program_of(
+    alloc: Global,
+    worker: &Worker,
+    code: &Code,
+    arranged: &Arranged,
+) -> Result<Program, CodeFault>
+    requires { AreBetween 0 arranged.now.words arranged.now.placed.items }
+    ensures { IfOk result (IsBuilt worker.now code.now arranged.now.placed.items) }
+{
+    Ok(Program {
+        version: Version::Two,
+        workspace: START.saturating_add(arranged.words).max(MIN_WORKSPACE),
+        start: START,
+        packet: packet_words(worker),
+        result: result_words(worker),
+        loops: rows_of(alloc, &arranged.placed, code.loops())?,
+        initial: initial_words(alloc, worker, arranged)?,
+        lines: lines_of(alloc, worker, &arranged.placed, code.lines())?,
+    })
+}
+
+/// The program of a worker, or why there is none. The program has a layout, within the code bytes of an image, and means
+/// what the worker does.
 pub fn compile(alloc: Global, worker: &Worker) -> Result<Compiled, CodeFault>
-    ensures { IfOk result (λ compiled. HasLayout compiled.program) }
+    ensures layout { IfOk result (λ compiled. HasLayout compiled.program) }
+    ensures means { IfOk result (λ compiled. IsTrue (is_sound worker.now) → Means worker.now compiled.program) }
 {
     let code = code_of(alloc, worker)?;
     check_loops(code.loops())?;
     let uses = uses_of(alloc, worker, &code)?;
     check_workspace(&uses)?;
-    let placed = layout(alloc, &uses)?;
+    let arranged = layout(alloc, &uses)?;
     let sources = sources_of(alloc, code.lines())?;
-    let program = Program {
-        version: Version::Two,
-        workspace: START.saturating_add(words_of(&placed)).max(MIN_WORKSPACE),
-        start: START,
-        packet: packet_words(worker),
-        result: result_words(worker),
-        loops: rows_of(alloc, &placed, code.loops())?,
-        initial: initial_words(alloc, worker, &placed)?,
-        lines: lines_of(alloc, &placed, code.lines())?,
-    };
+    let program = program_of(alloc, worker, &code, &arranged)?;
     check_code(alloc, &program, &sources)?;
     Ok(Compiled {
         program,
         sources,
         loop_lines: loop_lines(alloc, code.loops())?,
-        placed,
+        placed: arranged.placed,
     })
 }

@@ -1,6 +1,6 @@
 //! What is known while code is made.
 
-ghost use Rattle.std.specs.Prelude.{◌≡◌, ◌<◌, ◌^◌, ◌+◌, ◌-◌, ◌*◌, ℕ, List, Some, OnOk, IfOk, IfSome, slice_index};
+ghost use Rattle.std.specs.Prelude.{◌≡◌, ◌<◌, ◌^◌, ◌+◌, ◌-◌, ◌*◌, ℕ, List, Some, OnOk, IfOk, IfSome, map, slice_index};
 ghost use Rattle.tpw_occam_core.specs.Meaning.{kind_of};
 ghost use Rattle.tpw_occam_code.specs.Agreement.{fact_of_kind, valued_fact, constant_fact, counted_fact, fact_at, with_fact};
 ghost use Rattle.tpw_occam_code.specs.Agreement.{constant_in, elements_of};
@@ -8,6 +8,7 @@ ghost use Rattle.tpw_occam_code.specs.Computing.{is_short as short};
 ghost use Rattle.tpw_occam_code.specs.declared.items.Item.TheVariants.{Temporary};
 ghost use Rattle.tpw_occam_code.specs.Symbolic.{Machine, push, number, performed};
 ghost use Rattle.tpw_occam_code.specs.Leading.{Makes, HasConstants, Serves, word_bytes};
+ghost use Rattle.tpw_occam_code.specs.Starting.{knowledge_of};
 
 use crate::code::{Code, Step};
 use crate::fault::CodeFault;
@@ -160,7 +161,9 @@ impl<'a> Model for Emitter<'a> {
 }
 
 /// What is known of variables.
-fn facts_of(alloc: Global, kinds: &[Kind]) -> Result<Vec<Fact>, AllocError> {
+fn facts_of(alloc: Global, kinds: &[Kind]) -> Result<Vec<Fact>, AllocError>
+    ensures { IfOk result (λ facts. facts.items ≡ map fact_of_kind kinds.now) }
+{
     let mut facts = Vec::with_capacity(alloc, kinds.len())?;
     for kind in kinds {
         facts.push(fact_of(*kind))?;
@@ -169,7 +172,9 @@ fn facts_of(alloc: Global, kinds: &[Kind]) -> Result<Vec<Fact>, AllocError> {
 }
 
 impl<'a> Emitter<'a> {
-    pub(crate) fn new(alloc: Global, worker: &'a Worker) -> Result<Emitter<'a>, CodeFault> {
+    pub(crate) fn new(alloc: Global, worker: &'a Worker) -> Result<Emitter<'a>, CodeFault>
+        ensures { IfOk result (λ emitter. emitter ≡ knowledge_of worker.now) }
+    {
         Ok(Emitter {
             alloc,
             worker,

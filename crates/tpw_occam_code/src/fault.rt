@@ -24,6 +24,9 @@ pub enum CodeFault {
     /// The program that was made has no image: a fault of the compiler.
     #[error("a fault of the compiler: {0}")]
     Assembly(AssemblyFault),
+    /// A word that a line uses, or that the workspace begins with, is not where it has to be: a fault of the compiler.
+    #[error("a fault of the compiler: a word is misplaced")]
+    Misplaced,
     /// A growth was refused.
     #[error("memory")]
     Memory,

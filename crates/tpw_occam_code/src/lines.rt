@@ -1,41 +1,107 @@
 //! From steps to the lines of a program, once items are placed.
 
+ghost use Rattle.std.specs.Prelude.{◌≡◌, ◌+◌, ◌<◌, ◌≤◌, ◌^◌, pos, map, All, IfOk, OnOk};
+ghost use Rattle.tpw_occam_code.specs.declared.code.Step.TheVariants.{Pointer};
+ghost use Rattle.tpw_occam_code.specs.Carried.{operation_of};
+ghost use Rattle.tpw_occam_code.specs.Placing.{words_at, local_at, places, line_at, HasOperand, IsServed, IsPlaced};
+
 use crate::code::{CodeLine, Step, Turns};
 use crate::items::{Item, Placed, START};
-use crate::layout::local_of;
+use crate::fault::CodeFault;
+use crate::layout::place_of;
+use crate::uses::{array_words, zeros};
 use std::alloc::{AllocError, Global};
 use tp_decode::Instr;
 use tpw_asm::{Line, Loop, Operation, Spot};
+use tpw_occam_core::Worker;
 
-/// The local word of an item's word.
-fn word_of(placed: &[Placed], item: Item, word: u32) -> i32 {
-    let local = local_of(placed, item).unwrap_or(0).saturating_add(word);
-    i32::try_from(local).unwrap_or(i32::MAX)
+/// No local word goes beyond this one.
+const MAX_LOCAL: u32 = 0x4000_0000;
+
+/// The local word of an item's word. The item is placed and has so many words, as `words_of` of `uses` has it.
+fn local_word(placed: &[Placed], item: Item, words: u32, word: u32) -> Result<i32, CodeFault>
+    ensures word { IfOk result (λ local. local ≡ pos (local_at placed.now item + word)) }
+    ensures small { OnOk result (local_at placed.now item + word < 2 ^ 31) }
+    ensures room { OnOk result (words ≤ words_at placed.now item) }
+{
+    let Some(place) = place_of(placed, item) else {
+        return Err(CodeFault::Misplaced);
+    };
+    if place.words < words || place.local >= MAX_LOCAL || word >= MAX_LOCAL {
+        return Err(CodeFault::Misplaced);
+    }
+    Ok((place.local + word) as i32)
+}
+
+/// The local word of a word that is loaded or stored.
+fn used_word(placed: &[Placed], item: Item, word: u32) -> Result<i32, CodeFault>
+    ensures word { IfOk result (λ local. local ≡ pos (local_at placed.now item + word)) }
+    ensures small { OnOk result (local_at placed.now item + word < 2 ^ 31) }
+    ensures room { OnOk result (word < words_at placed.now item) }
+{
+    local_word(placed, item, word.saturating_add(1), word)
+}
+
+/// The local word of a word that is pointed at. What begins there is long enough: an array has its bytes, and zeros are
+/// as many as are copied.
+fn pointed_word(
+    worker: &Worker,
+    placed: &[Placed],
+    item: Item,
+    word: u32,
+) -> Result<i32, CodeFault>
+    ensures word { IfOk result (λ local. local ≡ pos (local_at placed.now item + word)) }
+    ensures small { OnOk result (local_at placed.now item + word < 2 ^ 31) }
+    ensures room { OnOk result (IsServed worker.now placed.now (Pointer item word)) }
+{
+    match item {
+        Item::Array(a) => local_word(placed, item, array_words(worker, a), word),
+        Item::Zeros => local_word(placed, item, zeros(worker), word),
+        _ => used_word(placed, item, word),
+    }
 }
 
 /// The operation of a step.
-fn operation_of(placed: &[Placed], step: Step) -> Operation {
+fn operation_of(worker: &Worker, placed: &[Placed], step: Step) -> Result<Operation, CodeFault>
+    ensures operation { IfOk result (λ operation. operation ≡ operation_of (places placed.now) step) }
+    ensures operand { OnOk result (HasOperand (places placed.now) step) }
+    ensures served { OnOk result (IsServed worker.now placed.now step) }
+{
     match step {
-        Step::Plain(instr) => Operation::Plain(instr),
-        Step::Load(item, word) => Operation::Plain(Instr::Ldl(word_of(placed, item, word))),
-        Step::Store(item, word) => Operation::Plain(Instr::Stl(word_of(placed, item, word))),
-        Step::Pointer(item, word) => Operation::Plain(Instr::Ldlp(word_of(placed, item, word))),
-        Step::JumpTo(to) => Operation::JumpTo(to),
-        Step::CjTo(to) => Operation::CjTo(to),
-        Step::Distance { from, to } => Operation::Distance { from, to },
+        Step::Plain(instr) => Ok(Operation::Plain(instr)),
+        Step::Load(item, word) => {
+            let local = used_word(placed, item, word)?;
+            Ok(Operation::Plain(Instr::Ldl(local)))
+        }
+        Step::Store(item, word) => {
+            let local = used_word(placed, item, word)?;
+            Ok(Operation::Plain(Instr::Stl(local)))
+        }
+        Step::Pointer(item, word) => {
+            let local = pointed_word(worker, placed, item, word)?;
+            Ok(Operation::Plain(Instr::Ldlp(local)))
+        }
+        Step::JumpTo(to) => Ok(Operation::JumpTo(to)),
+        Step::CjTo(to) => Ok(Operation::CjTo(to)),
+        Step::Distance { from, to } => Ok(Operation::Distance { from, to }),
     }
 }
 
 /// The lines of code.
 pub(crate) fn lines_of(
     alloc: Global,
+    worker: &Worker,
     placed: &[Placed],
     code: &[CodeLine],
-) -> Result<Vec<Line>, AllocError> {
+) -> Result<Vec<Line>, CodeFault>
+    ensures lines { IfOk result (λ lines. lines.items ≡ map (line_at (places placed.now)) code.now) }
+    ensures placed { OnOk result (All (IsPlaced worker.now placed.now) code.now) }
+{
     let mut lines = Vec::with_capacity(alloc, code.len())?;
     for line in code {
+        let operation = operation_of(worker, placed, line.step)?;
         lines.push(Line::Spelled {
-            operation: operation_of(placed, line.step),
+            operation,
             bytes: None,
         })?;
     }
@@ -54,7 +120,8 @@ pub(crate) fn loop_lines(alloc: Global, loops: &[Turns]) -> Result<Vec<u32>, All
 
 /// The row of a loop. Its control word is a workspace word.
 fn row_of(placed: &[Placed], turns: Turns) -> Loop {
-    let local = local_of(placed, Item::Variable(turns.index)).unwrap_or(0);
+    let place = place_of(placed, Item::Variable(turns.index));
+    let local = place.map_or(0, |place: Placed| place.local);
     Loop {
         head: Spot::Place(turns.head),
         lend: Spot::Place(turns.lend),

@@ -3,6 +3,7 @@
 ghost use Rattle.std.specs.Prelude.{◌≡◌, IfOk, OnOk};
 ghost use Rattle.tpw_occam_code.specs.Executing.{Traces};
 ghost use Rattle.tpw_occam_code.specs.Sending.{HasRoom, KeepsValue, SendsBytes, SendsMessage, address_of};
+ghost use Rattle.tpw_occam_code.specs.Starting.{Inputs, Receives, Sends};
 
 use crate::code::{Code, Step};
 use crate::emitter::{Emitter, Room};
@@ -53,6 +54,16 @@ fn send_bytes(
     code.instr(line, Instr::Output)
 }
 
+/// Receives so many bytes, from an item's first on.
+fn input(code: &mut Code, line: u32, item: Item, bytes: u32) -> Result<(), CodeFault>
+    ensures { OnOk result (Inputs code.old code.new item bytes) }
+{
+    code.emit(line, Step::Pointer(item, 0))?;
+    code.constant(line, LINK0_INPUT)?;
+    code.constant(line, bytes)?;
+    code.instr(line, Instr::Input)
+}
+
 impl Emitter<'_> {
     /// Receives the packet.
     pub(crate) fn receive(
@@ -60,15 +71,13 @@ impl Emitter<'_> {
         code: &mut Code,
         place: Place,
         line: u32,
-    ) -> Result<(), CodeFault> {
-        let (item, bytes) = match place {
-            Place::Variable(x) => (Item::Variable(x), 4),
-            Place::Array(a) => (Item::Array(a), self.bytes(a)),
-        };
-        code.emit(line, Step::Pointer(item, 0))?;
-        code.constant(line, LINK0_INPUT)?;
-        code.constant(line, bytes)?;
-        code.instr(line, Instr::Input)
+    ) -> Result<(), CodeFault>
+        ensures { OnOk result (Receives self.now code.old code.new place) }
+    {
+        match place {
+            Place::Variable(x) => input(code, line, Item::Variable(x), 4),
+            Place::Array(a) => input(code, line, Item::Array(a), self.bytes(a)),
+        }
     }
 
     /// Leaves the value of an expression in the word of an item: a variable's own, or the first that is kept.
@@ -124,6 +133,12 @@ impl Emitter<'_> {
         line: u32,
     ) -> Result<(), CodeFault> {
         self.output(code, m, Channel::Result, line)?;
+}
+
+    ) -> Result<(), CodeFault>
+        ensures { OnOk result (Sends self.old code.old code.new m.now) }
+    {
+        self.output(code, m, LINK0_OUTPUT, line)?;
         code.instr(line, Instr::Stopp)
     }
 }

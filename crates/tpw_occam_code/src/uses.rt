@@ -1,5 +1,11 @@
 //! What the words of the workspace are used for.
 
+ghost use Rattle.std.specs.Prelude.{◌≡◌, ◌<◌, ◌≤◌, ◌*◌, ◌^◌, map, slice_index};
+ghost use Rattle.std.specs.List.{list_any};
+ghost use Rattle.tpw_occam_core.specs.Sound.{bytes_of, globals, is_array};
+ghost use Rattle.tpw_occam_code.specs.Leading.{word_bytes};
+ghost use Rattle.tpw_occam_code.specs.Placing.{AreEnough};
+
 use crate::code::{Code, CodeLine, Step, Turns};
 use crate::items::Item;
 use crate::processes::MAX_WORDS;
@@ -26,12 +32,41 @@ fn item_of(step: Step) -> Option<Item> {
     }
 }
 
+/// How many bytes an array has.
+pub(crate) fn array_bytes(worker: &Worker, a: usize) -> u32
+    ensures { slice_index (map bytes_of worker.now.arrays.items) a < 2 ^ 32
+        → result ≡ slice_index (map bytes_of worker.now.arrays.items) a }
+{
+    match worker.arrays.get(a) {
+        Some(Storage::Zeros(count)) => *count,
+        Some(Storage::Table(bytes)) => u32::try_from(bytes.len()).unwrap_or(u32::MAX),
+        None => 0,
+    }
+}
+
+/// How many words an array has.
+pub(crate) fn array_words(worker: &Worker, a: usize) -> u32
+    ensures { slice_index (map bytes_of worker.now.arrays.items) a < 2 ^ 32
+        → word_bytes (slice_index (map bytes_of worker.now.arrays.items) a) ≤ 4 * result }
+{
+    array_bytes(worker, a).div_ceil(4)
+}
+
+/// Whether an array is declared for the whole worker.
+fn is_global(worker: &Worker, a: usize) -> bool
+    ensures { result ≡ list_any (is_array a) (globals worker.now) }
+{
+    worker.global_arrays.contains(&a)
+}
+
 /// How many words the greatest array has that is not declared for the whole worker, as far as one `move` clears it.
-fn zeros(worker: &Worker) -> u32 {
+pub(crate) fn zeros(worker: &Worker) -> u32
+    ensures { AreEnough worker.now result }
+{
     let mut words = 0u32;
-    for (a, storage) in worker.arrays.iter().enumerate() {
-        if !worker.global_arrays.contains(&a) {
-            words = words.max(storage.bytes().div_ceil(4));
+    for a in 0..worker.arrays.len() {
+        if !is_global(worker, a) {
+            words = words.max(array_words(worker, a));
         }
     }
     words.min(MAX_WORDS)
@@ -41,10 +76,7 @@ fn zeros(worker: &Worker) -> u32 {
 fn words_of(worker: &Worker, loops: &[Turns], item: Item) -> u32 {
     match item {
         Item::Variable(x) if loops.iter().any(|turns| turns.index == x) => 2,
-        Item::Array(a) => worker
-            .arrays
-            .get(a)
-            .map_or(0, |storage: &Storage| storage.bytes().div_ceil(4)),
+        Item::Array(a) => array_words(worker, a),
         Item::Zeros => zeros(worker),
         _ => 1,
     }

@@ -1,0 +1,315 @@
+-- The code of a worker makes of a packet what the worker does.
+use Rattle.std.proofs.Common.{◌≡◌, ◌≢◌, ◌⊎◌, inl, inr, ℕ, zero, suc, ◌+◌, ◌*◌, ◌<◌, ◌≤◌, ◌^◌, Bool, true, false, List, [], ◌∷◌, ◌++◌, length, map, nat_eq, pos}
+use Rattle.std.proofs.Common.{replicate, slice_get, Option, Some, None, refl, ap, sym, subst, ◌∙◌, arith, w32, append_assoc}
+use Rattle.std.specs.Prelude.{slice_index, slice_index_or, slice_set, All, IsTrue, nat_lt, ◌||◌, ◌&&◌}
+use Rattle.std.specs.List.{list_all, list_any}
+use Rattle.std.proofs.lemmas.Bool.{ltb-true, leb-true, eqb-true, eqb-false, cases_lt}
+use Rattle.std.proofs.lemmas.Int.{ints}
+use Rattle.std.proofs.lemmas.List.{length-map, length-replicate, length-set, get_or-replicate, get_or_past, get_or-set_same, get_or-set_other}
+use Rattle.tpw_occam_core.specs.declared.kind.Kind.{Kind}
+use Rattle.tpw_occam_core.specs.declared.kind.Kind.TheVariants.{Word, Byte}
+use Rattle.tpw_occam_core.specs.declared.scope.Entry.{Entry}
+use Rattle.tpw_occam_core.specs.declared.scope.Entry.TheVariants as entry
+use Rattle.tpw_occam_core.specs.declared.worker.Storage.{Storage}
+use Rattle.tpw_occam_core.specs.declared.worker.Place.{Place}
+use Rattle.tpw_occam_core.specs.declared.worker.Place.TheVariants as place
+use Rattle.tpw_occam_core.specs.declared.worker.Worker.{Worker}
+use Rattle.tpw_occam_core.specs.declared.process.Process.{Process}
+use Rattle.tpw_occam_core.specs.Arrays.{element}
+use Rattle.tpw_occam_core.specs.Meaning.{Store, first, first_bytes, received, after, run, kind_of, array_of, with_value, with_array, bytes_of}
+use Rattle.tpw_occam_core.specs.Sound.{is_sound, is_sound_process, is_sound_message, is_sound_place, are_declared, is_word, is_sized, globals, is_variable, is_name, is_array, storage_of, bytes_of as size_of}
+use Rattle.tpw_occam_code.specs.Code.{Lines, none_at}
+use Rattle.tpw_occam_code.specs.Symbolic.{Machine}
+use Rattle.tpw_occam_code.specs.Leading.{IsBefore, Does}
+use Rattle.tpw_occam_code.specs.Agreement.{Knowledge, fact_at, fact_of_kind, any_word, FitsFact, Knows}
+use Rattle.tpw_occam_code.specs.Computing.{IsPlace}
+use Rattle.tpw_occam_code.specs.Executing.{IsProcessPlace, MayRun, KnowsState, Matches, Executes, first_use, none_unset}
+use Rattle.tpw_occam_code.specs.Starting.{knowledge_of, place_bytes, FitsPlace, IsInScope, Receives, DoesLast, Sends, Begins, IsSent, Stops, Works}
+use Rattle.tpw_occam_code.proofs.Ranges.{full_contains}
+use Rattle.tpw_occam_code.proofs.Starting.{index_zeros}
+use Rattle.tpw_occam_code.proofs.Standing.{and_first, and_second}
+use Rattle.tpw_occam_code.proofs.Leading.{leads_then, has_first, does_both}
+
+-- what is known of a state is known of what a process makes of it
+abbrev pub RunKnows : Type 0
+RunKnows =
+    (k : Knowledge) (storages : List Storage) (scope : List Entry) (p : Process) (s : Store) → IsProcessPlace k storages scope
+    → IsTrue (is_sound_process (length k.kinds) storages scope p) → KnowsState k scope s → KnowsState k scope (run k.kinds p s)
+
+-- bytes of tables are bytes
+abbrev pub HasBytes : Worker → Type 0
+HasBytes w = (a i : ℕ) → slice_index (slice_index_or (map first_bytes w.arrays.items) a []) i < 256
+
+none_some : {c : ℕ} → ◌≡◌ {A = Option ℕ} None (Some c) → ⊥
+none_some e = cc
+
+false_true : ◌≡◌ {A = Bool} false true → ⊥
+false_true e = cc
+
+-- ---- what is declared
+
+variable_in : (count : ℕ) (variables arrays : List ℕ) (x : ℕ) → IsTrue (list_all (λ y. nat_lt y count) variables)
+    → IsTrue (list_any (is_variable x) (map entry.Variable variables ++ map entry.Array arrays)) → x < count
+variable_in count [] [] x all there = cc
+variable_in count [] (a ∷ arrays) x all there = variable_in count [] arrays x all there
+variable_in count (y ∷ variables) arrays x all there = by_test (variable_in count variables arrays x (and_second (nat_lt y count) _ all)) (nat_eq y x) refl there
+  where
+    by_test : (IsTrue (list_any (is_variable x) (map entry.Variable variables ++ map entry.Array arrays)) → x < count)
+        → (b : Bool) → nat_eq y x ≡ b → IsTrue (b || list_any (is_variable x) (map entry.Variable variables ++ map entry.Array arrays)) → x < count
+    by_test go true e there = let same = eqb-true y x e in omega (arith, same, ltb-true y count (and_first (nat_lt y count) _ all))
+    by_test go false e there = go there
+
+array_in : (count : ℕ) (variables arrays : List ℕ) (a : ℕ) → IsTrue (list_all (λ b. nat_lt b count) arrays)
+    → IsTrue (list_any (is_array a) (map entry.Variable variables ++ map entry.Array arrays)) → a < count
+array_in count (x ∷ variables) arrays a all there = array_in count variables arrays a all there
+array_in count [] [] a all there = cc
+array_in count [] (b ∷ arrays) a all there = by_test (array_in count [] arrays a (and_second (nat_lt b count) _ all)) (nat_eq b a) refl there
+  where
+    by_test : (IsTrue (list_any (is_array a) (map entry.Array arrays)) → a < count)
+        → (t : Bool) → nat_eq b a ≡ t → IsTrue (t || list_any (is_array a) (map entry.Array arrays)) → a < count
+    by_test go true e there = let same = eqb-true b a e in omega (arith, same, ltb-true b count (and_first (nat_lt b count) _ all))
+    by_test go false e there = go there
+
+sized_at : (storages : List Storage) (a : ℕ) → IsTrue (list_all is_sized storages) → a < length storages
+    → (0 < slice_index (map size_of storages) a) × (slice_index (map size_of storages) a ≤ 2048)
+sized_at [] a sized h = absurd (omega (arith, h))
+sized_at (one ∷ storages) zero sized h =
+    let here = and_first (is_sized one) _ sized in (ltb-true 0 (size_of one) (and_first _ _ here), leb-true (size_of one) 2048 (and_second (nat_lt 0 (size_of one)) _ here))
+sized_at (one ∷ storages) (suc a) sized h = sized_at storages a (and_second (is_sized one) _ sized) (omega (arith, h))
+
+facts_at : (kinds : List Kind) (x : ℕ) → slice_index_or (map fact_of_kind kinds) x any_word ≡ fact_of_kind (slice_index_or kinds x Word)
+facts_at [] x = refl
+facts_at (kind ∷ kinds) zero = refl
+facts_at (kind ∷ kinds) (suc x) = facts_at kinds x
+
+lengths_at : (storages : List Storage) (a : ℕ) → length (slice_index_or (map first_bytes storages) a []) ≡ slice_index (map size_of storages) a
+lengths_at [] a = refl
+lengths_at (one ∷ storages) zero = refl
+lengths_at (one ∷ storages) (suc a) = lengths_at storages a
+
+sizes_all : (storages : List Storage) → map length (map first_bytes storages) ≡ map size_of storages
+sizes_all [] = refl
+sizes_all (one ∷ storages) = ap (λ ns. size_of one ∷ ns) (sizes_all storages)
+
+-- where a worker's process stands
+first_place : (w : Worker) → IsTrue (are_declared w) → IsProcessPlace (knowledge_of w) w.arrays.items (globals w)
+first_place w declared =
+    let sized : IsTrue (list_all is_sized w.arrays.items) = and_first _ _ (and_first _ _ declared) in
+    let variables : IsTrue (list_all (λ x. nat_lt x (length w.variables.items)) w.global_variables.items) =
+    and_second (list_all is_sized w.arrays.items) _ (and_first _ _ declared) in
+    let arrays : IsTrue (list_all (λ a. nat_lt a (length w.arrays.items)) w.global_arrays.items) =
+    and_second (list_all is_sized w.arrays.items && list_all (λ x. nat_lt x (length w.variables.items)) w.global_variables.items) _ declared in
+    record {
+      place = record {
+        arrays = refl;
+        least = λ a there. (sized_at w.arrays.items a sized (array_in _ w.global_variables.items w.global_arrays.items a arrays there)).0;
+        most = λ a there. (sized_at w.arrays.items a sized (array_in _ w.global_variables.items w.global_arrays.items a arrays there)).1;
+        facts = length-map w.variables.items fact_of_kind;
+      };
+      declared = λ x there. variable_in _ w.global_variables.items w.global_arrays.items x variables there;
+      variables = λ x there. facts_at w.variables.items x;
+      sized = sized;
+    }
+
+-- ---- what is known
+
+any_fits : (v : ℕ) → v < 2 ^ 32 → FitsFact any_word v
+any_fits v small = record { small = small; source = full_contains v small; known = full_contains v small; constant = λ c is. absurd (none_some is) }
+
+zero_fits : (kind : Kind) → FitsFact (fact_of_kind kind) 0
+zero_fits Word = any_fits 0 (omega arith)
+zero_fits Byte = record {
+  small = omega arith;
+  source = record { low = omega (arith, ints); high = omega (arith, ints) };
+  known = full_contains 0 (omega arith);
+  constant = λ c is. absurd (none_some is);
+}
+
+word_fact : (kind : Kind) → IsTrue (is_word kind) → fact_of_kind kind ≡ any_word
+word_fact Word is = refl
+word_fact Byte is = cc
+
+first_knows : (w : Worker) → HasBytes w → KnowsState (knowledge_of w) (globals w) (first w)
+first_knows w bytes = record {
+  knows = record {
+    names = λ x there set.
+        rw (facts_at w.variables.items x) (rw (index_zeros (length w.variables.items) x) (zero_fits (slice_index_or w.variables.items x Word)));
+    lengths = λ a there. lengths_at w.arrays.items a;
+    count = length-replicate (length w.variables.items) 0;
+    bytes = bytes;
+  };
+  sizes = sizes_all w.arrays.items;
+}
+
+-- ---- packets
+
+-- a byte of a packet
+pub packet_byte : (packet : List ℕ) (i : ℕ) → All (λ byte. byte < 256) packet → slice_index packet i < 256
+packet_byte packet i small = by_side (cases_lt i (length packet))
+  where
+    by_side : (i < length packet) ⊎ (length packet ≤ i) → slice_index packet i < 256
+    by_side (inl within) = small i 0 within
+    by_side (inr past) = rw (get_or_past packet i 0 past) (omega arith)
+
+word_small : (packet : List ℕ) → All (λ byte. byte < 256) packet → element Word packet 0 < 2 ^ 32
+word_small packet small =
+    omega (arith, packet_byte packet 0 small, packet_byte packet 1 small, packet_byte packet 2 small, packet_byte packet 3 small)
+
+set_sizes : (arrays : List (List ℕ)) (a : ℕ) (bytes : List ℕ) → (a < length arrays → length bytes ≡ slice_index (map length arrays) a)
+    → map length (slice_set arrays a bytes) ≡ map length arrays
+set_sizes [] a bytes same = refl
+set_sizes (one ∷ arrays) zero bytes same = ap (λ n. n ∷ map length arrays) (same (omega arith))
+set_sizes (one ∷ arrays) (suc a) bytes same = ap (λ ns. length one ∷ ns) (set_sizes arrays a bytes (λ h. same (omega (arith, h))))
+
+set_bytes : (arrays : List (List ℕ)) (a : ℕ) (bytes : List ℕ) → ((i : ℕ) → slice_index bytes i < 256)
+    → ((b i : ℕ) → slice_index (slice_index_or arrays b []) i < 256) → (b i : ℕ) → slice_index (slice_index_or (slice_set arrays a bytes) b []) i < 256
+set_bytes [] a bytes small all b i = all b i
+set_bytes (one ∷ arrays) zero bytes small all zero i = small i
+set_bytes (one ∷ arrays) zero bytes small all (suc b) i = all (suc b) i
+set_bytes (one ∷ arrays) (suc a) bytes small all zero i = all zero i
+set_bytes (one ∷ arrays) (suc a) bytes small all (suc b) i = set_bytes arrays a bytes small (λ b. all (suc b)) b i
+
+-- the size of an array
+pub size_at : (storages : List Storage) (a : ℕ) → slice_index (map size_of storages) a ≡ size_of (storage_of storages a)
+size_at [] a = refl
+size_at (one ∷ storages) zero = refl
+size_at (one ∷ storages) (suc a) = size_at storages a
+
+lengths_of : (arrays : List (List ℕ)) (a : ℕ) → length (slice_index_or arrays a []) ≡ slice_index (map length arrays) a
+lengths_of [] a = refl
+lengths_of (one ∷ arrays) zero = refl
+lengths_of (one ∷ arrays) (suc a) = lengths_of arrays a
+
+received_knows : (k : Knowledge) (storages : List Storage) (scope : List Entry) (p : Place) (packet : List ℕ) (s : Store) → IsProcessPlace k storages scope
+    → IsInScope k scope p → FitsPlace storages p packet → KnowsState k scope s → KnowsState k scope (received p packet s)
+received_knows k storages scope (place.Variable x) packet s stands there fits knows = record {
+  knows = record {
+    names = λ y named set. by_test y named set (nat_eq x y) refl;
+    lengths = knows.knows.lengths;
+    count = length-set s.values x (element Word packet 0) ∙ knows.knows.count;
+    bytes = knows.knows.bytes;
+  };
+  sizes = knows.sizes;
+}
+  where
+    within : x < length s.values
+    within = omega (arith, knows.knows.count, stands.declared x there.0)
+
+    by_test : (y : ℕ) → IsTrue (list_any (is_name y) scope) → none_unset y ≡ false → (b : Bool) → nat_eq x y ≡ b
+        → FitsFact (fact_at k y) (slice_index (slice_set s.values x (element Word packet 0)) y)
+    by_test y named set true e =
+        let same = eqb-true x y e in
+        let fact : fact_at k x ≡ any_word = stands.variables x there.0 ∙ word_fact (kind_of k.kinds x) there.1 in
+        subst (λ z. FitsFact (fact_at k z) (slice_index (slice_set s.values x (element Word packet 0)) z)) same
+            (rw fact (rw (get_or-set_same s.values x (element Word packet 0) 0 within) (any_fits (element Word packet 0) (word_small packet fits.bytes))))
+    by_test y named set false e =
+        let differs : y ≢ x = λ same. eqb-false x y e (sym same) in
+        rw (get_or-set_other s.values x y (element Word packet 0) 0 differs) (knows.knows.names y named set)
+received_knows k storages scope (place.Array a) packet s stands there fits knows = record {
+  knows = record {
+    names = knows.knows.names;
+    lengths = λ b named. lengths_of (slice_set s.arrays a packet) b ∙ ap (λ ns. slice_index ns b) sizes;
+    count = knows.knows.count;
+    bytes = set_bytes s.arrays a packet (λ i. packet_byte packet i fits.bytes) knows.knows.bytes;
+  };
+  sizes = sizes;
+}
+  where
+    sizes : map length (slice_set s.arrays a packet) ≡ k.arrays
+    sizes =
+        set_sizes s.arrays a packet (λ h. fits.size ∙ sym (size_at storages a) ∙ ap (λ ns. slice_index ns a) (sym (knows.sizes ∙ stands.place.arrays)))
+        ∙ knows.sizes
+
+-- ---- the whole
+
+in_scope : (w : Worker) → IsTrue (is_sound w) → IsInScope (knowledge_of w) (globals w) w.receive
+in_scope w sound = by_place w.receive (and_second (are_declared w) _ (and_first _ _ (and_first _ _ sound)))
+  where
+    by_place : (p : Place) → IsTrue (is_sound_place w p) → IsInScope (knowledge_of w) (globals w) p
+    by_place (place.Variable x) sound = (and_first _ _ sound, and_second (list_any (is_variable x) (globals w)) _ sound)
+    by_place (place.Array a) sound = and_first _ _ (and_first _ _ sound)
+
+-- a packet of zeros
+zeros_fit : (storages : List Storage) (p : Place) → FitsPlace storages p (replicate (place_bytes storages p) 0)
+zeros_fit storages p = record {
+  size = length-replicate (place_bytes storages p) 0;
+  bytes = λ i d h. rw (get_or-replicate (place_bytes storages p) i 0 d (omega (arith, h, length-replicate {A = ℕ} (place_bytes storages p) 0))) (omega arith);
+}
+
+module _ (run_knows : RunKnows) (w : Worker) (one two three : Lines) (sound : IsTrue (is_sound w)) (bytes : HasBytes w)
+    (receives : Receives (knowledge_of w) (none_at 0) one w.receive) (executes : Executes (knowledge_of w) one two w.body)
+    (sends : Sends (knowledge_of w) two three w.send) where
+  k : Knowledge
+  k = knowledge_of w
+
+  declared : IsTrue (are_declared w)
+  declared = and_first _ _ (and_first _ _ (and_first _ _ sound))
+
+  stands : IsProcessPlace (knowledge_of w) w.arrays.items (globals w)
+  stands = first_place w declared
+
+  body : IsTrue (is_sound_process (length w.variables.items) w.arrays.items (globals w) w.body)
+  body = and_second (are_declared w && is_sound_place w w.receive) _ (and_first _ _ sound)
+
+  message : IsTrue (is_sound_message (length w.variables.items) w.arrays.items (globals w) w.send)
+  message = and_second (are_declared w && is_sound_place w w.receive && is_sound_process (length w.variables.items) w.arrays.items (globals w) w.body) _ sound
+
+  runs : MayRun (globals w) none_unset (is_sound_process (length w.variables.items) w.arrays.items (globals w) w.body) (first_use w.body)
+  runs = record { sound = body; assigned = λ x unset. absurd (false_true unset); declared = λ x unset. absurd (false_true unset) }
+
+  module _ (packet : List ℕ) (fits : FitsPlace w.arrays.items w.receive packet) where
+    knows_before : KnowsState (knowledge_of w) (globals w) (received w.receive packet (first w))
+    knows_before = received_knows (knowledge_of w) w.arrays.items (globals w) w.receive packet (first w) stands (in_scope w sound) fits (first_knows w bytes)
+
+    knows_after : KnowsState (knowledge_of w) (globals w) (after w packet)
+    knows_after = run_knows (knowledge_of w) w.arrays.items (globals w) w.body (received w.receive packet (first w)) stands body knows_before
+
+    -- the code before the result
+    does : Does (knowledge_of w).arrays (none_at 0) two
+        (λ m. Matches (knowledge_of w) w.arrays.items (globals w) none_unset (first w) m × (m.to_come ≡ packet))
+        (λ m end. Matches (knowledge_of w) w.arrays.items (globals w) none_unset (after w packet) end × (end.sent ≡ m.sent))
+    does =
+        does_both (knowledge_of w).arrays (none_at 0) one two _ _ _ _ _
+        (receives w.arrays.items (globals w) (first w) packet stands (in_scope w sound) fits (first_knows w bytes))
+        (executes w.arrays.items (globals w) none_unset (received w.receive packet (first w)) stands runs knows_before)
+        (λ m middle said after. after.0)
+        (λ m middle end said after then. (then.0, then.1.sent ∙ after.1))
+
+    sent : DoesLast (knowledge_of w).arrays two three (Matches (knowledge_of w) w.arrays.items (globals w) none_unset (after w packet))
+        (IsSent w.send (after w packet))
+    sent = sends w.arrays.items (globals w) (after w packet) stands message knows_after
+
+    stops : (m : Machine) → Begins w three packet m → Stops m (IsSent w.send (after w packet) m)
+    stops m begins =
+        let last = sent in
+        let a = does.arrives m record {
+          place = begins.before.place;
+          lines = has_first two three last.more m last.base last.lines begins.before.lines;
+          served = begins.before.served;
+          running = begins.before.running;
+        } (begins.matches, begins.to_come) in
+        let b = last.stops a.end record {
+          place = a.place;
+          lines = λ i h. ap (λ c. slice_get c (three.base + i)) a.same_code ∙ begins.before.lines i h;
+          served = λ i line h. rw a.same_sizes (begins.before.served i line (ap (λ c. slice_get c i) (sym a.same_code) ∙ h));
+          running = a.running;
+        } a.after.0 in
+        record {
+          last = b.last;
+          way = leads_then a.way b.way;
+          stopped = b.stopped;
+          after = record {
+            sent = b.after.sent ∙ ap (λ t. t ++ bytes_of w.send (after w packet)) a.after.1;
+            flag = b.after.flag;
+            traced = b.after.traced;
+          };
+        }
+
+  pub code_works : Works w three
+  code_works = record {
+    base =
+        let packet = replicate (place_bytes w.arrays.items w.receive) 0 in
+        let fits = zeros_fit w.arrays.items w.receive in
+        (sent packet fits).base ∙ (does packet fits).base;
+    stops = λ packet fits m begins. stops packet fits m begins;
+  }

@@ -1,0 +1,26 @@
+use Rattle.std.proofs.Common.{◌≡◌, ◌<◌, ◌≤◌, ◌*◌, ◌^◌, ℕ, map, OnOk, ap, sym, subst, ◌∙◌, arith}
+use Rattle.std.specs.Prelude.{slice_index, IsTrue}
+use Rattle.std.proofs.lemmas.Result.{on_ok_weaker}
+use Rattle.tpw_occam_core.specs.declared.worker.Worker.{Worker}
+use Rattle.tpw_occam_core.specs.Sound.{bytes_of, are_declared}
+use Rattle.tpw_occam_code.specs.declared.items.Item.{Item}
+use Rattle.tpw_occam_code.specs.declared.items.Item.TheVariants.{Array, Zeros}
+use Rattle.tpw_occam_code.specs.declared.code.Step.{Step}
+use Rattle.tpw_occam_code.specs.declared.code.Step.TheVariants.{Pointer}
+use Rattle.tpw_occam_code.specs.Leading.{word_bytes}
+use Rattle.tpw_occam_code.specs.Placing.{words_at, IsServed}
+use Rattle.tpw_occam_code.proofs.Starting.{declared_small}
+use Rattle.tpw_occam_code.proofs.lines.pointed_word.Goals as goal
+
+array_zeros : (a word other : ℕ) → ◌≡◌ {A = Step} (Pointer (Array a) word) (Pointer Zeros other) → ⊥
+array_zeros a word other e = cc
+
+pub returns-in-Array-clause-room : goal.returns-in-Array-clause-room
+returns-in-Array-clause-room c =
+    on_ok_weaker c.local_word.result (λ enough. rw c.in-Array.is record {
+      serves = λ declared.
+          let words = c.array_words.ensures (declared_small c.args.worker.now c.in-Array.a declared) in
+          let room = ap (words_at c.args.placed.now) c.in-Array.is in
+          omega (arith, words, room, enough);
+      zeros = λ word is. absurd (array_zeros c.in-Array.a c.args.word word is);
+    }) c.local_word.ensures.room

@@ -1,0 +1,128 @@
+-- What the code of a whole worker does.
+use Rattle.std.specs.Prelude.{◌≡◌, ℕ, ◌+◌, ◌*◌, ◌<◌, ◌≤◌, Bool, false, ◌||◌, List, [], ◌++◌, length, map, slice_index, slice_index_or}
+use Rattle.std.specs.Prelude.{slice_get, All, Some, IsTrue}
+use Rattle.std.specs.List.{list_any}
+use Rattle.std.specs.Int.{w32, to_le_bytes}
+use Rattle.tpw_occam_core.specs.declared.kind.Kind.{Kind}
+use Rattle.tpw_occam_core.specs.declared.worker.Storage.{Storage}
+use Rattle.tpw_occam_core.specs.declared.worker.Place.{Place}
+use Rattle.tpw_occam_core.specs.declared.worker.Place.TheVariants as place
+use Rattle.tpw_occam_core.specs.declared.worker.Worker.{Worker}
+use Rattle.tpw_occam_core.specs.declared.scope.Entry.{Entry}
+use Rattle.tpw_occam_core.specs.declared.process.Message.{Message}
+use Rattle.tpw_occam_core.specs.Meaning.{Store, kind_of, first, first_bytes, received, after, bytes_of, flag_of}
+use Rattle.tpw_occam_core.specs.Sound.{globals, is_variable, is_array, is_word, is_sound_message, bytes_of as size_of, storage_of}
+use Rattle.tpw_occam_code.specs.declared.items.Item.{Item}
+use Rattle.tpw_occam_code.specs.declared.items.Item.TheVariants.{Variable, Temporary, Constant, Array, Zeros}
+use Rattle.tpw_occam_code.specs.declared.code.Step.TheVariants.{Pointer}
+use Rattle.tpw_occam_code.specs.declared.code.CodeLine.{CodeLine}
+use Rattle.tpw_occam_code.specs.Code.{Lines}
+use Rattle.tpw_occam_code.specs.Blocks.{Blocks, with_bytes}
+use Rattle.tpw_occam_code.specs.Symbolic.{Machine, Leads}
+use Rattle.tpw_occam_code.specs.Leading.{Serves, HasConstants, IsBefore, Does}
+use Rattle.tpw_occam_code.specs.Agreement.{Knowledge, fact_of_kind}
+use Rattle.tpw_occam_code.specs.Executing.{IsProcessPlace, KnowsState, Matches, LeavesCounts, none_unset}
+
+-- what is known of a worker's names at first
+abbrev pub knowledge_of : Worker → Knowledge
+knowledge_of w = record {
+  kinds = w.variables.items;
+  arrays = map size_of w.arrays.items;
+  facts = map fact_of_kind w.variables.items;
+}
+
+-- what the items of a worker hold at first: constants, tables, and else zeros
+abbrev pub first_blocks : Worker → Blocks
+first_blocks w (Constant c) i = slice_index (to_le_bytes w32 c) i
+first_blocks w (Array a) i = slice_index (slice_index_or (map first_bytes w.arrays.items) a []) i
+first_blocks w item i = 0
+
+-- ---- packets
+
+-- how many bytes go to a place
+abbrev pub place_bytes : List Storage → Place → ℕ
+place_bytes storages (place.Variable x) = 4
+place_bytes storages (place.Array a) = size_of (storage_of storages a)
+
+pub record FitsPlace (storages : List Storage) (p : Place) (packet : List ℕ) : Type 0 where
+  pub size : length packet ≡ place_bytes storages p
+  pub bytes : All (λ byte. byte < 256) packet
+
+-- a place in scope: a variable that is a word, or an array
+abbrev pub IsInScope : Knowledge → List Entry → Place → Type 0
+IsInScope k scope (place.Variable x) = IsTrue (list_any (is_variable x) scope) × IsTrue (is_word (kind_of k.kinds x))
+IsInScope k scope (place.Array a) = IsTrue (list_any (is_array a) scope)
+
+-- ---- messages
+
+-- The code of a packet that comes: it goes to its place.
+abbrev pub Receives : Knowledge → (old new : Lines) → Place → Type 0
+Receives k old new p =
+    (storages : List Storage) (scope : List Entry) (s : Store) (packet : List ℕ) → IsProcessPlace k storages scope
+    → IsInScope k scope p → FitsPlace storages p packet → KnowsState k scope s
+    → Does k.arrays old new (λ m. Matches k storages scope none_unset s m × (m.to_come ≡ packet))
+    (λ m end. Matches k storages scope none_unset (received p packet s) end × (end.sent ≡ m.sent))
+
+-- All that is to come has gone into an item, from its first byte on.
+pub record IsInput (item : Item) (m end : Machine) : Type 0 where
+  pub blocks : end.blocks ≡ with_bytes item 0 m.to_come m.blocks
+  pub error : end.error ≡ m.error
+  pub sent : end.sent ≡ m.sent
+  pub traced : end.traced ≡ m.traced
+  pub code : end.code ≡ m.code
+  pub sizes : end.sizes ≡ m.sizes
+
+-- the code of so many bytes that come, where there is room for them
+abbrev pub Inputs : (old new : Lines) → Item → ℕ → Type 0
+Inputs old new item bytes =
+    (arrays : List ℕ) → ((sizes : Item → ℕ) → Serves arrays sizes (Pointer item 0) → bytes ≤ sizes item)
+    → Does arrays old new (λ m. HasConstants m × (length m.to_come ≡ bytes)) (IsInput item)
+
+-- A message has gone out on link 0.
+pub record IsSent (message : Message) (s : Store) (m end : Machine) : Type 0 where
+  pub sent : end.sent ≡ m.sent ++ bytes_of message s
+  pub flag : end.error ≡ (s.flag || flag_of message s)
+  pub traced : end.traced ≡ s.traced
+
+abbrev pub Outputs : Knowledge → (old new : Lines) → Message → Type 0
+Outputs k old new message =
+    (storages : List Storage) (scope : List Entry) (s : Store) → IsProcessPlace k storages scope
+    → IsTrue (is_sound_message (length k.kinds) storages scope message) → KnowsState k scope s
+    → Does k.arrays old new (Matches k storages scope none_unset s) (IsSent message s)
+
+-- A machine gets to one that has stopped.
+pub record Stops (m : Machine) (After : Machine → Type 0) : Type 0 where
+  pub last : Machine
+  pub way : Leads m last
+  pub stopped : IsTrue last.stopped
+  pub after : After last
+
+-- Code was lengthened, and the new lines lead each machine of which something is said before to one that has stopped.
+pub record DoesLast (arrays : List ℕ) (old new : Lines) (Before : Machine → Type 0) (After : Machine → Machine → Type 0)
+    : Type 0 where
+  pub base : new.base ≡ old.base
+  pub more : List CodeLine
+  pub lines : new.lines ≡ old.lines ++ more
+  pub stops : (m : Machine) → IsBefore arrays old new m → Before m → Stops m (After m)
+
+-- the code of the result: it is sent, and control stops
+abbrev pub Sends : Knowledge → (old new : Lines) → Message → Type 0
+Sends k old new message =
+    (storages : List Storage) (scope : List Entry) (s : Store) → IsProcessPlace k storages scope
+    → IsTrue (is_sound_message (length k.kinds) storages scope message) → KnowsState k scope s
+    → DoesLast k.arrays old new (Matches k storages scope none_unset s) (IsSent message s)
+
+-- ---- workers
+
+-- A machine before the first line of a worker's code, with a packet to come.
+pub record Begins (w : Worker) (code : Lines) (packet : List ℕ) (m : Machine) : Type 0 where
+  pub before : IsBefore (knowledge_of w).arrays record { base = 0; lines = []; loops = [] } code m
+  pub matches : Matches (knowledge_of w) w.arrays.items (globals w) none_unset (first w) m
+  pub to_come : m.to_come ≡ packet
+  pub sent : m.sent ≡ []
+
+-- The code of a worker makes of a packet what the worker does.
+pub record Works (w : Worker) (code : Lines) : Type 0 where
+  pub base : code.base ≡ 0
+  pub stops : (packet : List ℕ) → FitsPlace w.arrays.items w.receive packet → (m : Machine) → Begins w code packet m
+      → Stops m (IsSent w.send (after w packet) m)
