@@ -31,6 +31,7 @@ use Rattle.tpw_occam_code.specs.Executing.{IsProcessPlace, MayRun, KnowsState, M
 use Rattle.tpw_occam_code.specs.Moving.{HasStep, Provides}
 use Rattle.tpw_occam_code.specs.Sending.{sent_with, traced_with, HasSent, SendsBytes, KeepsValue, HasSentMessage, SendsMessage, HasRoom, address_of}
 use Rattle.tpw_occam_code.specs.Executing.{Traces}
+use Rattle.tpw_occam_code.specs.Starting.{Outputs, IsSent}
 use Rattle.tpw_occam_code.proofs.Leading.{does_placed, does_within, does_step, does_both, does_less, does_nothing}
 use Rattle.tpw_occam_code.proofs.Computing.{agrees_after, leaves_then, in_scope, set_name}
 use Rattle.tpw_occam_code.proofs.Keeping.{does_save}
@@ -161,20 +162,21 @@ computed_counts scope m end leaves = record {
 pub variable_kept : (k : Knowledge) (code : Lines) (x : ℕ) → (fact_at k x).constant ≡ None → KeepsValue k code code (expression.Variable x) (Variable x)
 variable_kept k code x none storages scope unset s place stands knows =
     does_less k.arrays code code _ _ _ _ (does_nothing k.arrays code) (λ m matches. tt)
-    (λ m end matches is.
-    (rw is (matches.agrees.words x (in_scope k storages scope unset x stands) (set_name k storages scope unset x stands) none),
-    rw is (record {
-      agrees = record { words = matches.agrees.words; arrays = matches.agrees.arrays; constants = matches.agrees.constants };
-      flag = matches.flag ∙ sym (or-false s.flag);
-      traced = matches.traced;
-      zeros = matches.zeros;
-      room = matches.room;
-    }),
-    record {
-      counts = λ y i there. ap (λ (e : Machine). e.blocks (Variable y) (4 + i)) is;
-      to_come = ap (λ (e : Machine). e.to_come) is;
-      sent = ap (λ (e : Machine). e.sent) is;
-    }))
+    (λ m end matches is. (
+      rw is (matches.agrees.words x (in_scope k storages scope unset x stands) (set_name k storages scope unset x stands) none),
+      rw is (record {
+        agrees = record { words = matches.agrees.words; arrays = matches.agrees.arrays; constants = matches.agrees.constants };
+        flag = matches.flag ∙ sym (or-false s.flag);
+        traced = matches.traced;
+        zeros = matches.zeros;
+        room = matches.room;
+      }),
+      record {
+        counts = λ y i there. ap (λ (e : Machine). e.blocks (Variable y) (4 + i)) is;
+        to_come = ap (λ (e : Machine). e.to_come) is;
+        sent = ap (λ (e : Machine). e.sent) is;
+      },
+    ))
 
 -- another value is kept in a word
 pub value_kept : (k : Knowledge) (old between new : Lines) (source : ℕ) (e : Expression) → Computes k old between e 3 0
@@ -313,12 +315,25 @@ still_unset message unset x not is = by_test (unset x) refl
 pub traces : (k : Knowledge) (old new : Lines) (message : Message) → SendsMessage k old new Trace message → Traces k old new message
 traces k old new message sends storages scope unset s place may knows =
     does_less k.arrays old new _ _ _ _ (sends storages scope unset s place may knows) (λ m matches. matches)
-    (λ m end matches sent.
-    (matches_set k storages scope unset _ _ end (λ x. still_unset message unset x (may.assigned x))
-    (subst (λ traced. Matches k storages scope unset (record (flagged (flag_of message s) s) { traced = traced }) end)
-    (sent.traced ∙ ap (λ t. t ++ bytes_of message s) matches.traced) sent.matches),
-    record { counts = sent.counts; to_come = sent.to_come; sent = sent.sent }))
+    (λ m end matches sent. (
+      matches_set k storages scope unset _ _ end (λ x. still_unset message unset x (may.assigned x))
+          (subst (λ traced. Matches k storages scope unset (record (flagged (flag_of message s) s) { traced = traced }) end)
+          (sent.traced ∙ ap (λ t. t ++ bytes_of message s) matches.traced) sent.matches),
+      record { counts = sent.counts; to_come = sent.to_come; sent = sent.sent },
+    ))
 
 pub has_none : {A : Type 0} (o : Option A) → is_some o ≡ false → o ≡ None
 has_none None h = refl
 has_none (Some x) h = absurd (let e : ◌≡◌ {A = Bool} true false = h in cc)
+
+-- a result
+pub outputs : (k : Knowledge) (old new : Lines) (message : Message) → SendsMessage k old new Result message → Outputs k old new message
+outputs k old new message sends storages scope s place sound knows =
+    does_less k.arrays old new _ _ _ _
+    (sends storages scope none_unset s place (record {
+      sound = sound;
+      assigned = λ x e. absurd (let not : ◌≡◌ {A = Bool} false true = e in cc);
+      declared = λ x e. absurd (let not : ◌≡◌ {A = Bool} false true = e in cc);
+    }) knows)
+    (λ m matches. matches)
+    (λ m end matches sent. record { sent = sent.sent; flag = sent.matches.flag; traced = sent.traced ∙ matches.traced })

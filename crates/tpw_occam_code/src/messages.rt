@@ -66,12 +66,7 @@ fn input(code: &mut Code, line: u32, item: Item, bytes: u32) -> Result<(), CodeF
 
 impl Emitter<'_> {
     /// Receives the packet.
-    pub(crate) fn receive(
-        &self,
-        code: &mut Code,
-        place: Place,
-        line: u32,
-    ) -> Result<(), CodeFault>
+    pub(crate) fn receive(&self, code: &mut Code, place: Place, line: u32) -> Result<(), CodeFault>
         ensures { OnOk result (Receives self.now code.old code.new place) }
     {
         match place {
@@ -126,19 +121,10 @@ impl Emitter<'_> {
     }
 
     /// Sends the result, and stops.
-    pub(crate) fn send(
-        &mut self,
-        code: &mut Code,
-        m: &Message,
-        line: u32,
-    ) -> Result<(), CodeFault> {
-        self.output(code, m, Channel::Result, line)?;
-}
-
-    ) -> Result<(), CodeFault>
+    pub(crate) fn send(&mut self, code: &mut Code, m: &Message, line: u32) -> Result<(), CodeFault>
         ensures { OnOk result (Sends self.old code.old code.new m.now) }
     {
-        self.output(code, m, LINK0_OUTPUT, line)?;
+        self.output(code, m, Channel::Result, line)?;
         code.instr(line, Instr::Stopp)
     }
 }
