@@ -16,3 +16,4 @@ pub mod Conditions
 pub mod Naming
 pub mod Knowing
 pub mod Executing
+pub mod Looping

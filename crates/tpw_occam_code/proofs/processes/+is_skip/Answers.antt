@@ -1,3 +1,2 @@
-use Rattle.tpw_occam_code.proofs.Knowing
-use Rattle.tpw_occam_code.proofs.Executing
+use Rattle.tpw_occam_code.proofs.Looping
 use Rattle.tpw_occam_code.proofs.processes.+is_skip.Goals as goal
