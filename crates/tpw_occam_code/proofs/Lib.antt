@@ -17,3 +17,4 @@ pub mod Naming
 pub mod Knowing
 pub mod Executing
 pub mod Looping
+pub mod Storing

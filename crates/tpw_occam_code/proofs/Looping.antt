@@ -4,7 +4,7 @@ use Rattle.std.specs.Prelude.{slice_index, slice_get, slice_set, ◌||◌, ◌&&
 use Rattle.std.specs.Int.{to_le_bytes, from_le_bytes}
 use Rattle.std.specs.List.{list_any}
 use Rattle.std.proofs.Math.Bool.{or-false}
-use Rattle.std.proofs.lemmas.Bool.{eqb-true, eq-eqb, le-leb, ltb-true, cases_lt}
+use Rattle.std.proofs.lemmas.Bool.{eqb-true, eq-eqb, le-leb, leb-true, ltb-true, cases_lt}
 use Rattle.std.proofs.lemmas.Bool.Decides.{nat_tests}
 use Rattle.std.proofs.lemmas.Int.{ints}
 use Rattle.std.proofs.lemmas.Nat.{from_le_bytes-to_le_bytes_4}
@@ -421,3 +421,166 @@ module _ (k : Knowledge) (storages : List Storage) (scope : List Entry) (unset :
           counts_then scope m next b.end (counts_then scope m e next a.after.counts (counts_of_items scope 0 e next (again_leaves n left e))) b.after.1,
         );
       }
+
+-- ---- loops
+
+some_none : {c : ℕ} → ◌≡◌ {A = Option ℕ} (Some c) None → ⊥
+some_none e = cc
+
+and_true : (u : Bool) → (u && true) ≡ false → u ≡ false
+and_true true e = e
+and_true false e = refl
+
+pub repeat_none : (k : Knowledge) (code : Lines) (x start count : ℕ) (body : Process) → count ≡ 0 → Repeats k code code x start count body
+repeat_none k code x start count body none = subst (λ c. Repeats k code code x start c body) (sym none)
+    (λ p storages scope unset s place may known.
+    does_less k.arrays code code _ _ _ _ (does_nothing k.arrays code) (λ m said. tt)
+    (λ m end matches is. (
+      matches_fewer k storages scope unset (unset_after (first_use (process.Repeat' x start 0 p body)) unset) s end (λ y h. and_true (unset y) h)
+          (subst (Matches k storages scope unset s) (sym is) matches),
+      record { counts = λ x i there. ap (λ z. z.blocks (item.Variable x) (4 + i)) is; to_come = ap (λ z. z.to_come) is; sent = ap (λ z. z.sent) is },
+    )))
+
+-- one turn: the index is a constant
+pub repeat_once : (k : Knowledge) (old new_code : Lines) (x start count : ℕ) (body : Process) → count ≡ 1 → start < 2 ^ 32
+    → Executes (with_fact x (constant_fact start) k) old new_code body → Repeats k old new_code x start count body
+repeat_once k old new_code x start count body one small within = subst (λ c. Repeats k old new_code x start c body) (sym one)
+    (λ p storages scope unset s place may known.
+    let e = entry.Value x in
+    let wide = scope ++ e ∷ [] in
+    let fact = constant_fact start in
+    let new : IsTrue (is_new_name (length k.kinds) scope x) = and_second (are_turns start 1) _ (and_first _ _ may.sound) in
+    let takes = value_takes k scope x fact new in
+    let w = index_of start 0 in
+    let may2 : MayRun wide unset (is_sound_process (length k.kinds) storages wide body) (first_use body) = record {
+      sound = and_second (are_turns start 1 && is_new_name (length k.kinds) scope x) _ may.sound;
+      assigned = may.assigned;
+      declared = λ y h. in_longer (is_variable y) scope e (may.declared y h);
+    } in
+    does_less k.arrays old new_code _ _ (Matches k storages scope unset s) _
+    (does_kept k.arrays old new_code _ _
+    (within storages wide unset (with_value x w s) (place_taken k storages scope e x fact takes place) may2
+    (knows_taken k scope e x w fact s takes place.place.facts (subst (FitsFact fact) (sym (index_first start small)) (constant_fits start small)) known)))
+    (λ m matches. matches_taken k storages scope e x w fact unset unset s m takes place.place.facts known.knows.count (λ y h. h)
+    (λ set none. absurd (some_none none)) matches)
+    (λ m end matches after. (
+      matches_outside k storages scope e x fact (unset_after (first_use body) unset) (unset_after (first_use (process.Repeat' x start 1 p body)) unset)
+          (run k.kinds body (with_value x w s)) m end takes (λ y there h. h) matches.room after.1 after.2 after.0.0,
+      counts_outside scope e m end after.0.1,
+    )))
+
+not_unset : (k : Knowledge) (scope : List Entry) (unset : ℕ → Bool) (x : ℕ) → IsTrue (is_new_name (length k.kinds) scope x)
+    → (unset x ≡ true → IsTrue (list_any (is_variable x) scope)) → unset x ≡ false
+not_unset k scope unset x new declared = by_test (unset x) refl
+  where
+    by_test : (b : Bool) → unset x ≡ b → b ≡ false
+    by_test false e = refl
+    by_test true e = absurd (false_true (sym (new_name (length k.kinds) scope x x new (variable_named scope x (declared e))) ∙ eq-eqb x x refl))
+
+-- the indices of turns lie in a range
+pub turns_contained : (start count : ℕ) (low high : ℤ) (range : Range) → start < 2 ^ 32 → IsTrue (are_turns start count)
+    → low ≡ signed start → high ≡ ((signed start +ℤ pos count) -ℤ pos 1)
+    → ((word : ℕ) → word < 2 ^ 32 → low ≤ℤ signed word → signed word ≤ℤ high → Contains range word)
+    → (n : ℕ) → n < count → Contains range (index_of start n)
+turns_contained start count low high range small turns lows highs contains n below =
+    let read = index_read start n count small turns below in
+    let above : low ≤ℤ signed (index_of start n) = rw read (rw lows (omega (arith, ints))) in
+    let within : signed (index_of start n) ≤ℤ high = rw read (rw highs (omega (arith, ints))) in
+    contains (index_of start n) (low_word_lt (pos start +ℤ pos n)) above within
+
+-- turns are few
+few_turns : (start count : ℕ) → IsTrue (are_turns start count) → count < 10001
+few_turns start count turns = let h = leb-true count 10000 (and_first _ _ turns) in omega (arith, h)
+
+first_of_turns : (x start count y : ℕ) (p : Place) (body : Process) → nat_eq count 0 ≡ false
+    → first_use (process.Repeat' x start count p body) y ≡ first_use body y
+first_of_turns x start count y p body some = rw some refl
+
+pub repeat_executes : (k : Knowledge) (old begun bodied new_code : Lines) (source x start left : ℕ) (range : Range) (body : Process)
+    → start < 2 ^ 32 → (IsTrue (are_turns start (suc left)) → (n : ℕ) → n < suc left → Contains range (index_of start n))
+    → Begins old begun x start (suc left) → Remains (counted k x range) body → Executes (counted k x range) begun bodied body
+    → new_code.base ≡ bodied.base → new_code.lines ≡ bodied.lines ++ turn_lines begun bodied source x
+    → Repeats k old new_code x start (suc left) body
+repeat_executes k old begun bodied new_code source x start left range body small contains begins remains within base lines p storages scope unset s place may known =
+    let count = suc left in
+    let wide = within_loop scope x in
+    let sound = may.sound in
+    let turns_are : IsTrue (are_turns start count) = and_first _ _ (and_first _ _ sound) in
+    let new : IsTrue (is_new_name (length k.kinds) scope x) = and_second (are_turns start count) _ (and_first _ _ sound) in
+    let same_first : (y : ℕ) → first_use (process.Repeat' x start count p body) y ≡ first_use body y =
+    λ y. first_of_turns x start count y p body (suc_not_zero left) in
+    let may2 : MayRun wide unset (is_sound_process (length k.kinds) storages wide body) (first_use body) = record {
+      sound = and_second (are_turns start count && is_new_name (length k.kinds) scope x) _ sound;
+      assigned = λ y h. subst (λ f. f ≢ Read) (same_first y) (may.assigned y h);
+      declared = λ y h. in_longer (is_variable y) scope (entry.Value x) (may.declared y h);
+    } in
+    let loop : IsLoop k storages scope unset x start count range body begun bodied new_code source = record {
+      base = base;
+      lines = lines;
+      place = place;
+      new = new;
+      may = may2;
+      set = not_unset k scope unset x new (may.declared x);
+      small = small;
+      turns = turns_are;
+      few = few_turns start count turns_are;
+      contains = contains turns_are;
+      remains = remains;
+      executes = within;
+    } in
+    let b = begins k.arrays in
+    let w = turn_does k storages scope unset x start count range body begun bodied new_code source s loop 0 (omega arith) known in
+    let rest = w.more ++ turn_lines begun bodied source x in
+    let all : new_code.lines ≡ begun.lines ++ rest =
+    lines ∙ ap (λ ls. ls ++ turn_lines begun bodied source x) w.lines ∙ append_assoc begun.lines w.more (turn_lines begun bodied source x) in
+    record {
+      base = base ∙ w.base ∙ b.base;
+      more = b.more ++ rest;
+      lines = all ∙ ap (λ ls. ls ++ rest) b.lines ∙ append_assoc old.lines b.more rest;
+      arrives = λ m before matches.
+          let a = b.arrives m (record {
+            place = before.place;
+            lines = has_first begun new_code rest m (base ∙ w.base) all before.lines;
+            served = before.served;
+            running = before.running;
+          }) matches.agrees.constants in
+          let at = a.after.0 in
+          let leaves : LeavesItems scope 0 m a.end = record {
+            blocks = λ i k2 stays.
+                let differs = variable_differs (length k.kinds) scope 0 x new i stays in
+                ap (λ z. z.blocks i k2) at ∙ word_beside (item.Variable x) i 4 k2 count (with_word (item.Variable x) 0 start m.blocks) differs
+                ∙ word_beside (item.Variable x) i 0 k2 start m.blocks differs;
+            to_come = ap (λ z. z.to_come) at;
+            sent = ap (λ z. z.sent) at;
+            traced = ap (λ z. z.traced) at;
+          } in
+          let start_at : AtTurn k storages scope unset x start body s 0 left a.end = record {
+            matches = matches_leaves k storages scope unset s s.flag m a.end matches leaves (ap (λ z. z.error) at ∙ matches.flag) a.same_code a.same_sizes;
+            index = subst (λ v. HasWord (item.Variable x) v a.end) (sym (index_first start small))
+                (ap (λ z. bytes_at z.blocks (item.Variable x) 0 4) at
+                ∙ index_stays (item.Variable x) count (with_word (item.Variable x) 0 start m.blocks) ∙ word_written (item.Variable x) start m.blocks);
+            count = ap (λ z. bytes_at z.blocks (item.Variable x) 4 4) at ∙ count_written (item.Variable x) count (with_word (item.Variable x) 0 start m.blocks);
+            size = subst (λ (z : Item → ℕ). 8 ≤ z (item.Variable x)) (sym a.same_sizes) a.after.1;
+          } in
+          let c = loop_arrives k storages scope unset x start count range body begun bodied new_code source s loop left 0 (omega arith) known a.end
+          (record {
+            place = a.place;
+            lines = λ i h. ap (λ c. slice_get c (new_code.base + i)) a.same_code ∙ before.lines i h;
+            served = λ i line h. rw a.same_sizes (before.served i line (ap (λ c. slice_get c i) (sym a.same_code) ∙ h));
+            running = a.running;
+          }) start_at in
+          record {
+            end = c.end;
+            way = leads_then a.way c.way;
+            place = c.place;
+            running = c.running;
+            same_code = c.same_code ∙ a.same_code;
+            same_sizes = c.same_sizes ∙ a.same_sizes;
+            after = (
+              matches_fewer k storages scope (unset_after (first_use body) unset) (unset_after (first_use (process.Repeat' x start count p body)) unset)
+                  (turns (run k.kinds body) x start count s) c.end
+                  (λ y h. ap (λ f. unset y && is_nothing f) (sym (same_first y)) ∙ h) c.after.0,
+              counts_then scope m a.end c.end (counts_of_items scope 0 m a.end leaves) c.after.1,
+            );
+          };
+    }
