@@ -39,3 +39,5 @@ pub mod CarryingWhole
 pub mod Starting
 pub mod Working
 pub mod Receiving
+pub mod Looping
+pub mod StoredWords

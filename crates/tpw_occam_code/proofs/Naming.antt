@@ -155,7 +155,7 @@ agrees_name k scope unset kept s x v fact m end agrees leaves new facts count wo
 
 -- ---- a constant
 
-constant_fits : (c : ℕ) → c < 2 ^ 32 → FitsFact (constant_fact c) c
+pub constant_fits : (c : ℕ) → c < 2 ^ 32 → FitsFact (constant_fact c) c
 constant_fits c h = record {
   small = h;
   source = record { low = omega (arith, ints); high = omega (arith, ints) };
