@@ -1,10 +1,11 @@
 -- What a machine matches once a target has taken a word.
-use Rattle.std.proofs.Common.{◌≡◌, ◌⊎◌, inl, inr, ◌≢◌, ◌+◌, ◌*◌, ◌/◌, ◌%◌, ◌^◌, ◌≤◌, ◌<◌, [], ◌∷◌, ◌++◌, ℕ, zero, suc, List, length, map, Option, Some, None, Bool, false, true, nat_eq, refl, ap, sym, subst, ◌∙◌, arith, w32}
+use Rattle.std.proofs.Common.{drop, take, ◌-◌, ◌≡◌, ◌⊎◌, inl, inr, ◌≢◌, ◌+◌, ◌*◌, ◌/◌, ◌%◌, ◌^◌, ◌≤◌, ◌<◌, [], ◌∷◌, ◌++◌, ℕ, zero, suc, List, length, map, Option, Some, None, Bool, false, true, nat_eq, refl, ap, sym, subst, ◌∙◌, arith, w32}
 use Rattle.std.specs.Prelude.{slice_index, slice_index_or, slice_set, slice_get, ◌||◌, ◌&&◌, not, IsTrue, if◌then◌else◌}
 use Rattle.std.specs.Int.{to_le_bytes}
 use Rattle.std.specs.List.{list_any, list_all}
 use Rattle.std.proofs.Math.Bool.{or_assoc, or-false}
 use Rattle.std.proofs.lemmas.List.{length-map}
+use Rattle.std.proofs.Math.Seq.{take-length}
 use Rattle.std.proofs.lemmas.Bool.{eqb-true, cases_lt}
 use Rattle.std.proofs.lemmas.Bool.Decides.{nat_tests}
 use Rattle.tpw_occam_core.specs.declared.arithmetic.Answer.{Answer}
@@ -400,3 +401,17 @@ pub one_of : {A : Type 0} (xs : List A) (x : A) → 1 ≤ length xs → length x
 one_of [] x h g e = absurd (omega (arith, h))
 one_of (y ∷ []) x h g e = ap (λ z. z ∷ []) (sym e)
 one_of (y ∷ z ∷ xs) x h g e = absurd (omega (arith, g))
+
+pub none_of : {A : Type 0} (xs : List A) → length xs < 1 → xs ≡ []
+none_of [] h = refl
+none_of (y ∷ xs) h = absurd (omega (arith, h))
+
+-- all but the first
+abbrev pub rest_of : {A : Type 0} → List A → List A
+rest_of xs = take (length xs - 1) (drop 1 xs)
+
+pub more_of : {A : Type 0} (xs : List A) (x : A) → 1 ≤ length xs → x ≡ slice_index_or xs 0 x → xs ≡ x ∷ rest_of xs
+more_of [] x h e = absurd (omega (arith, h))
+more_of (y ∷ xs) x h e =
+    let long : suc (length xs) - 1 ≡ length xs = omega arith in
+    ap (λ z. z ∷ xs) (sym e) ∙ ap (λ l. x ∷ l) (sym (ap (λ n. take n xs) long ∙ take-length xs))
