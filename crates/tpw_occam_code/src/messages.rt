@@ -2,7 +2,8 @@
 
 ghost use Rattle.std.specs.Prelude.{◌≡◌, OnOk};
 ghost use Rattle.tpw_occam_code.specs.Executing.{Traces};
-ghost use Rattle.tpw_occam_code.specs.Starting.{Inputs, Receives, Sends};
+ghost use Rattle.tpw_occam_code.specs.Starting.{Inputs, Outputs, Receives, Sends};
+ghost use Rattle.tp_step.specs.Effects.{link0_output};
 
 use crate::code::{Code, Step};
 use crate::emitter::{Emitter, Room};
@@ -70,7 +71,9 @@ impl Emitter<'_> {
         m: &Message,
         channel: u32,
         line: u32,
-    ) -> Result<(), CodeFault> {
+    ) -> Result<(), CodeFault>
+        ensures { OnOk result (channel ≡ link0_output → Outputs self.old code.old code.new m.now) }
+    {
         let room = Room::from_word(0, line);
         if let Message::Value(e) = m {
             if self.item_of(m).is_none() {
