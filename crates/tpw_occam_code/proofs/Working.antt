@@ -5,6 +5,7 @@ use Rattle.std.specs.Prelude.{slice_index, slice_index_or, slice_set, All, IsTru
 use Rattle.std.specs.List.{list_all, list_any}
 use Rattle.std.proofs.lemmas.Bool.{ltb-true, leb-true, eqb-true, eqb-false, cases_lt}
 use Rattle.std.proofs.lemmas.Int.{ints}
+use Rattle.std.proofs.lemmas.List.Elements.{All-head, All-tail}
 use Rattle.std.proofs.lemmas.List.{length-map, length-replicate, length-set, get_or-replicate, get_or_past, get_or-set_same, get_or-set_other}
 use Rattle.tpw_occam_core.specs.declared.kind.Kind.{Kind}
 use Rattle.tpw_occam_core.specs.declared.kind.Kind.TheVariants.{Word, Byte}
@@ -24,7 +25,7 @@ use Rattle.tpw_occam_code.specs.Leading.{IsBefore, Does}
 use Rattle.tpw_occam_code.specs.Agreement.{Knowledge, fact_at, fact_of_kind, any_word, FitsFact, Knows}
 use Rattle.tpw_occam_code.specs.Computing.{IsPlace}
 use Rattle.tpw_occam_code.specs.Executing.{IsProcessPlace, MayRun, KnowsState, Matches, Executes, first_use, none_unset}
-use Rattle.tpw_occam_code.specs.Starting.{knowledge_of, place_bytes, FitsPlace, IsInScope, Receives, DoesLast, Sends, Begins, IsSent, Stops, Works}
+use Rattle.tpw_occam_code.specs.Starting.{AreBytes, knowledge_of, place_bytes, FitsPlace, IsInScope, Receives, DoesLast, Sends, Begins, IsSent, Stops, Works}
 use Rattle.tpw_occam_code.proofs.Ranges.{full_contains}
 use Rattle.tpw_occam_code.proofs.Starting.{index_zeros}
 use Rattle.tpw_occam_code.proofs.Standing.{and_first, and_second}
@@ -42,6 +43,14 @@ HasBytes w = (a i : ℕ) → slice_index (slice_index_or (map first_bytes w.arra
 
 none_some : {c : ℕ} → ◌≡◌ {A = Option ℕ} None (Some c) → ⊥
 none_some e = cc
+
+pub has_bytes : (w : Worker) → All AreBytes w.arrays.items → HasBytes w
+has_bytes w all = by_list w.arrays.items all
+  where
+    by_list : (storages : List Storage) → All AreBytes storages → (a i : ℕ) → slice_index (slice_index_or (map first_bytes storages) a []) i < 256
+    by_list [] all a i = omega arith
+    by_list (one ∷ storages) all zero i = All-head AreBytes one storages all i
+    by_list (one ∷ storages) all (suc a) i = by_list storages (All-tail AreBytes one storages all) a i
 
 false_true : ◌≡◌ {A = Bool} false true → ⊥
 false_true e = cc

@@ -1,10 +1,10 @@
 //! From a worker to its program.
 
-ghost use Rattle.std.specs.Prelude.{◌≡◌, ◌*◌, IfOk, IsTrue, OnOk};
+ghost use Rattle.std.specs.Prelude.{◌≡◌, ℕ, ◌*◌, ◌<◌, All, IfOk, IsTrue, OnOk, slice_index};
 ghost use Rattle.tpw_occam_core.specs.Sound.{is_sound};
 ghost use Rattle.tpw_occam_code.specs.Program.{HasLayout, Means};
 ghost use Rattle.tpw_occam_code.specs.Placing.{AreBetween, IsBuilt};
-ghost use Rattle.tpw_occam_code.specs.Starting.{Works, place_bytes};
+ghost use Rattle.tpw_occam_code.specs.Starting.{AreBytes, Works, place_bytes};
 
 use crate::code::Code;
 use crate::emitter::Emitter;
@@ -20,7 +20,7 @@ use std::alloc::Global;
 use tp_image::Version;
 use tp_image::limits::{MAX_WORKSPACE_WORDS_2, MIN_WORKSPACE};
 use tpw_asm::{AssemblyFault, Program, addresses};
-use tpw_occam_core::{Message, Place, Worker};
+use tpw_occam_core::{Message, Place, Storage, Worker};
 
 /// A worker's program, and what its parts come from.
 #[derive(Debug, Drop)]
@@ -34,10 +34,36 @@ pub struct Compiled {
     pub placed: Vec<Placed>,
 }
 
+/// What bytes are is below 256. It says so to proofs, and does nothing.
+fn know_bytes(_bytes: &[u8])
+    ensures { (i : ℕ) → slice_index _bytes.now i < 256 }
+{
+}
+
+/// .. the bytes of an array, ..
+fn know_array(storage: &Storage)
+    ensures { AreBytes storage.now }
+{
+    match storage {
+        Storage::Zeros(_) => {}
+        Storage::Table(bytes) => know_bytes(bytes),
+    }
+}
+
+/// .. and of all arrays.
+fn know_arrays(worker: &Worker)
+    ensures { All AreBytes worker.now.arrays.items }
+{
+    for storage in &worker.arrays {
+        know_array(storage);
+    }
+}
+
 /// The code of a worker.
 fn code_of(alloc: Global, worker: &Worker) -> Result<Code, CodeFault>
     ensures { IfOk result (λ code. IsTrue (is_sound worker.now) → Works worker.now code) }
 {
+    know_arrays(worker);
     let mut emitter = Emitter::new(alloc, worker)?;
     let mut code = Code::new(alloc);
     emitter.receive(&mut code, worker.receive, worker.line)?;
