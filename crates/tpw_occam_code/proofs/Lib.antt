@@ -18,3 +18,4 @@ pub mod Knowing
 pub mod Executing
 pub mod Looping
 pub mod Storing
+pub mod Deciding
