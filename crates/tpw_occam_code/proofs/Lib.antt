@@ -41,3 +41,4 @@ pub mod Working
 pub mod Receiving
 pub mod Looping
 pub mod StoredWords
+pub mod Deciding
