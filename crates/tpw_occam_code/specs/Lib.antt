@@ -11,3 +11,4 @@ pub mod Agreement
 pub mod Computing
 pub mod Executing
 pub mod Assigning
+pub mod Ordering
