@@ -19,3 +19,4 @@ pub mod Assigning
 pub mod Matching
 pub mod Reading
 pub mod KeptParts
+pub mod Ordering

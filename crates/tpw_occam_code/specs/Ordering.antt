@@ -66,16 +66,16 @@ IsAlone waiting place =
 
 -- one that waits is made before the others, and waits no more
 pub data Picks : List Assignment → Waiting → List Waiting → List Waiting → Type 0 where
-  here : (all : List Assignment) (one : Waiting) (rest : List Waiting)
+  picked : (all : List Assignment) (one : Waiting) (rest : List Waiting)
       → ((at : ℕ) → at < length rest → PrecedesIn all one (waiting_at rest at) false) → Picks all one (one ∷ rest) rest
-  later : (all : List Assignment) (one first : Waiting) (rest left : List Waiting) → PrecedesIn all one first true
+  before : (all : List Assignment) (one first : Waiting) (rest left : List Waiting) → PrecedesIn all one first true
       → Picks all one rest left → Picks all one (first ∷ rest) (first ∷ left)
 
 -- the value of the one with a number is kept
 pub data Marks : ℕ → List Waiting → List Waiting → Type 0 where
-  here : (i : ℕ) (rest : List Waiting) → ((at : ℕ) → at < length rest → (waiting_at rest at).number ≢ i)
+  marked : (i : ℕ) (rest : List Waiting) → ((at : ℕ) → at < length rest → (waiting_at rest at).number ≢ i)
       → Marks i (waits i false ∷ rest) (waits i true ∷ rest)
-  later : (i : ℕ) (first : Waiting) (rest left : List Waiting) → first.number ≢ i → Marks i rest left
+  behind : (i : ℕ) (first : Waiting) (rest left : List Waiting) → first.number ≢ i → Marks i rest left
       → Marks i (first ∷ rest) (first ∷ left)
 
 abbrev pub IsMove : List Assignment → List Waiting → Move → List Waiting → Type 0
