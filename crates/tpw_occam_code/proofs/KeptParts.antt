@@ -288,7 +288,7 @@ element_stored k old between new source a view e temporaries load stores storage
 
 -- ---- shapes
 
-sizes_set : (arrays : List (List ℕ)) (a : ℕ) (bytes : List ℕ) → length bytes ≡ length (slice_index_or arrays a [])
+pub sizes_set : (arrays : List (List ℕ)) (a : ℕ) (bytes : List ℕ) → length bytes ≡ length (slice_index_or arrays a [])
     → map length (slice_set arrays a bytes) ≡ map length arrays
 sizes_set [] a bytes e = refl
 sizes_set (one ∷ arrays) zero bytes e = ap (λ n. n ∷ map length arrays) e

@@ -42,3 +42,4 @@ pub mod Receiving
 pub mod Looping
 pub mod StoredWords
 pub mod Deciding
+pub mod Ordering

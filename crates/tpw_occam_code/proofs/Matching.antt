@@ -161,7 +161,7 @@ element_agrees k scope unset s a view e i word temporaries flag m end h within a
 
 -- ---- matching
 
-sizes_at : (arrays : List (List ℕ)) (a : ℕ) → slice_index (map length arrays) a ≡ length (slice_index_or arrays a [])
+pub sizes_at : (arrays : List (List ℕ)) (a : ℕ) → slice_index (map length arrays) a ≡ length (slice_index_or arrays a [])
 sizes_at [] a = refl
 sizes_at (bytes ∷ arrays) zero = refl
 sizes_at (bytes ∷ arrays) (suc a) = sizes_at arrays a

@@ -16,3 +16,4 @@ pub mod Sending
 pub mod Assigning
 pub mod Starting
 pub mod Placing
+pub mod Ordering

@@ -5,6 +5,7 @@ ghost use Rattle.std.specs.List.{list_any};
 ghost use Rattle.tpw_occam_code.specs.Computing.{reads};
 ghost use Rattle.tpw_occam_code.specs.Executing.{then_first, either_first, first_in, first_in_message, sources_read};
 ghost use Rattle.tpw_occam_code.specs.Executing.{is_target, first_in_assignments, first_use};
+ghost use Rattle.tpw_occam_code.specs.Assigning.{reads_array, reads_target, are_near};
 
 use tpw_occam_core::{Assignment, Expression, Message, Process, Target};
 
@@ -44,7 +45,9 @@ pub(crate) fn reads_variable(e: &Expression, x: usize) -> bool
 }
 
 /// Whether an expression reads an array.
-fn reads_array(e: &Expression, a: usize) -> bool {
+fn reads_array(e: &Expression, a: usize) -> bool
+    ensures { result ≡ reads_array e.now a }
+{
     match e {
         Expression::Constant(_) | Expression::Variable(_) => false,
         Expression::Element {
@@ -76,7 +79,9 @@ fn reads_array(e: &Expression, a: usize) -> bool {
 }
 
 /// Whether an expression may read a target.
-pub(crate) fn is_read(e: &Expression, target: &Target) -> bool {
+pub(crate) fn is_read(e: &Expression, target: &Target) -> bool
+    ensures { result ≡ reads_target e.now target.now }
+{
     match target {
         Target::Variable(x) => reads_variable(e, *x),
         Target::Element {
@@ -88,7 +93,9 @@ pub(crate) fn is_read(e: &Expression, target: &Target) -> bool {
 }
 
 /// Whether two targets may be one place.
-pub(crate) fn may_be_same(one: &Target, other: &Target) -> bool {
+pub(crate) fn may_be_same(one: &Target, other: &Target) -> bool
+    ensures { result ≡ are_near one.now other.now }
+{
     match (one, other) {
         (Target::Variable(x), Target::Variable(y)) => *x == *y,
         (

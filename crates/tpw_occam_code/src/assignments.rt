@@ -11,13 +11,13 @@ ghost use Rattle.tpw_occam_code.specs.Values.{HasNumber, PushesAlone, scaled};
 ghost use Rattle.tpw_occam_code.specs.Computing.{ComputesTo, IsFixed, subscript_value};
 ghost use Rattle.tpw_occam_code.specs.Executing.{Assigns};
 ghost use Rattle.tpw_occam_code.specs.Assigning.{element_bytes, IsToStore, Writes, WritesPopped, ComputesOver, ComputesAbove, StoresIn, MakesOne, taken_value, HasSmallValue, AssignsAbove, KeepsParts, KeepsSubscript, StoresParts, StoresKept};
-ghost use Rattle.tpw_occam_core.specs.Arithmetic.{plain};
+ghost use Rattle.tpw_occam_code.specs.Ordering.{SettleAll, MakesMoves, MakesMove, KeepsValue, assignment_at};
 
 use crate::code::{Code, Step};
 use crate::emitter::{Emitter, Room};
 use crate::fault::CodeFault;
 use crate::items::Item;
-use crate::order::{Move, is_kept, keep_any, moves};
+use crate::order::{Move, keep_any, moves};
 use crate::range::FULL;
 use crate::subscripts::{Offset, base, checked, indexed, kept_byte, reduce, settled};
 use tp_decode::Instr;
@@ -97,12 +97,15 @@ impl Emitter<'_> {
         all: &[Assignment],
         moves: &[Move],
         line: u32,
-    ) -> Result<(), CodeFault> {
+    ) -> Result<(), CodeFault>
+        ensures knowledge { OnOk result (self.new ≡ self.old) }
+        ensures assigns { OnOk result (SettleAll all.now moves.now → Assigns self.old code.old code.new all.now) }
+    {
         if !keep_any(moves) {
             return self.make_moves(code, all, moves, Room::from_word(0, line));
         }
-        if self.fit_in_registers(all) {
-            return self.assign_by_registers(code, all, line);
+        if self.fit_in_registers(all, 3) {
+            return self.assign_by_registers(code, all, Room::from_word(0, line));
         }
         self.make_moves(code, all, moves, Room::from_word(all.len(), line))
     }
@@ -114,23 +117,60 @@ impl Emitter<'_> {
         all: &[Assignment],
         moves: &[Move],
         room: Room,
-    ) -> Result<(), CodeFault> {
-        for next in moves {
-            match next {
-                Move::Keep(i) => {
-                    if let Some(assignment) = all.get(*i) {
-                        self.value(code, assignment, room)?;
-                        code.emit(room.line, Step::Store(Item::Temporary(*i), 0))?;
-                    }
+    ) -> Result<(), CodeFault>
+        ensures knowledge { OnOk result (self.new ≡ self.old) }
+        ensures makes { OnOk result (room.registers ≡ 3 → MakesMoves self.old code.old code.new all.now moves.now room.kept) }
+    {
+        let [next, rest @ ..] = moves else {
+            return Ok(());
+        };
+        self.make_move(code, all, *next, room)?;
+        self.make_moves(code, all, rest, room)
+    }
+
+    /// Makes one move.
+    fn make_move(
+        &mut self,
+        code: &mut Code,
+        all: &[Assignment],
+        next: Move,
+        room: Room,
+    ) -> Result<(), CodeFault>
+        ensures knowledge { OnOk result (self.new ≡ self.old) }
+        ensures makes { OnOk result (room.registers ≡ 3 → MakesMove self.old code.old code.new all.now next room.kept) }
+    {
+        match next {
+            Move::Keep(i) => self.keep(code, all, i, room),
+            Move::Make(i, is_kept) => {
+                // each number is that of an assignment
+                if i >= all.len() {
+                    return Err(CodeFault::Workspace { line: room.line });
                 }
-                Move::Make(i) => {
-                    if let Some(assignment) = all.get(*i) {
-                        self.make(code, assignment, *i, is_kept(moves, *i), room)?;
-                    }
-                }
+                self.make(code, &all[i], i, is_kept, room)
             }
         }
-        Ok(())
+    }
+
+    /// Keeps a value as its target takes it in the word with its number.
+    fn keep(
+        &mut self,
+        code: &mut Code,
+        all: &[Assignment],
+        i: usize,
+        room: Room,
+    ) -> Result<(), CodeFault>
+        ensures knowledge { OnOk result (self.new ≡ self.old) }
+        ensures small { OnOk result (HasSmallValue self.old (assignment_at all.now i).value) }
+        ensures there { OnOk result (i < room.kept) }
+        ensures keeps { OnOk result (room.registers ≡ 3
+            → KeepsValue self.old code.old code.new (assignment_at all.now i) i room.kept) }
+    {
+        // each number is that of an assignment, for which there is a word
+        if i >= all.len() || i >= room.kept {
+            return Err(CodeFault::Workspace { line: room.line });
+        }
+        self.value(code, &all[i], room)?;
+        code.emit(room.line, Step::Store(Item::Temporary(i), 0))
     }
 
     /// Pushes the value of an assignment, as its target takes it.
@@ -282,25 +322,14 @@ impl Emitter<'_> {
         }
     }
 
-    /// Whether all values can be in registers at once.
-    fn fit_in_registers(&self, all: &[Assignment]) -> bool {
-        match all {
-            [one, two] => {
-                self.need(&one.value) <= 3
-                    && self.need(&two.value) <= 2
-                    && self.is_word(&one.target)
-                    && self.is_word(&two.target)
-            }
-            [one, two, three] => {
-                self.need(&one.value) <= 3
-                    && self.need(&two.value) <= 2
-                    && self.need(&three.value) <= 1
-                    && self.is_word(&one.target)
-                    && self.is_word(&two.target)
-                    && self.is_word(&three.target)
-            }
-            _ => false,
-        }
+    /// Whether all values can be in so many registers at once.
+    fn fit_in_registers(&self, all: &[Assignment], registers: u32) -> bool {
+        let [one, rest @ ..] = all else {
+            return true;
+        };
+        self.need(&one.value) <= registers
+            && self.is_word(&one.target)
+            && self.fit_in_registers(rest, registers.saturating_sub(1))
     }
 
     /// Pushes all values, and stores them from the last to the first.
@@ -308,17 +337,16 @@ impl Emitter<'_> {
         &mut self,
         code: &mut Code,
         all: &[Assignment],
-        line: u32,
-    ) -> Result<(), CodeFault> {
-        let mut room = Room::from_word(0, line);
-        for assignment in all {
-            self.expression(code, &assignment.value, room)?;
-            room = room.above();
-        }
-        for assignment in all.iter().rev() {
-            self.store_in_word(code, &assignment.target, line)?;
-        }
-        Ok(())
+        room: Room,
+    ) -> Result<(), CodeFault>
+        ensures knowledge { OnOk result (self.new ≡ self.old) }
+    {
+        let [one, rest @ ..] = all else {
+            return Ok(());
+        };
+        self.expression(code, &one.value, room)?;
+        self.assign_by_registers(code, rest, room.above())?;
+        self.store_in_word(code, &one.target, room.line)
     }
 
     /// Stores Areg in a target that is a word.
@@ -327,7 +355,9 @@ impl Emitter<'_> {
         code: &mut Code,
         target: &Target,
         line: u32,
-    ) -> Result<(), CodeFault> {
+    ) -> Result<(), CodeFault>
+        ensures knowledge { OnOk result (self.new ≡ self.old) }
+    {
         match target {
             Target::Variable(x) => store_variable(code, line, *x),
             Target::Element {
