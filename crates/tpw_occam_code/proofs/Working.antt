@@ -19,15 +19,16 @@ use Rattle.tpw_occam_core.specs.declared.process.Process.{Process}
 use Rattle.tpw_occam_core.specs.Arrays.{element}
 use Rattle.tpw_occam_core.specs.Meaning.{Store, first, first_bytes, received, after, run, kind_of, array_of, with_value, with_array, bytes_of}
 use Rattle.tpw_occam_core.specs.Sound.{is_sound, is_sound_process, is_sound_message, is_sound_place, are_declared, is_word, is_sized, globals, is_variable, is_name, is_array, storage_of, bytes_of as size_of}
+use Rattle.tpw_occam_code.specs.Program.{place_bytes}
 use Rattle.tpw_occam_code.specs.Code.{Lines, none_at}
 use Rattle.tpw_occam_code.specs.Symbolic.{Machine}
 use Rattle.tpw_occam_code.specs.Leading.{IsBefore, Does}
 use Rattle.tpw_occam_code.specs.Agreement.{Knowledge, fact_at, fact_of_kind, any_word, FitsFact, Knows}
 use Rattle.tpw_occam_code.specs.Computing.{IsPlace}
 use Rattle.tpw_occam_code.specs.Executing.{IsProcessPlace, MayRun, KnowsState, Matches, Executes, first_use, none_unset}
-use Rattle.tpw_occam_code.specs.Starting.{AreBytes, knowledge_of, place_bytes, FitsPlace, IsInScope, Receives, DoesLast, Sends, Begins, IsSent, Stops, Works}
+use Rattle.tpw_occam_code.specs.Starting.{AreBytes, knowledge_of, FitsPlace, IsInScope, Receives, DoesLast, Sends, Begins, IsSent, Stops, Works}
 use Rattle.tpw_occam_code.proofs.Ranges.{full_contains}
-use Rattle.tpw_occam_code.proofs.Starting.{index_zeros}
+use Rattle.tpw_occam_code.proofs.Starting.{index_zeros, size_at}
 use Rattle.tpw_occam_code.proofs.Standing.{and_first, and_second}
 use Rattle.tpw_occam_code.proofs.Leading.{leads_then, has_first, does_both}
 
@@ -177,12 +178,6 @@ set_bytes (one ∷ arrays) zero bytes small all zero i = small i
 set_bytes (one ∷ arrays) zero bytes small all (suc b) i = all (suc b) i
 set_bytes (one ∷ arrays) (suc a) bytes small all zero i = all zero i
 set_bytes (one ∷ arrays) (suc a) bytes small all (suc b) i = set_bytes arrays a bytes small (λ b. all (suc b)) b i
-
--- the size of an array
-pub size_at : (storages : List Storage) (a : ℕ) → slice_index (map size_of storages) a ≡ size_of (storage_of storages a)
-size_at [] a = refl
-size_at (one ∷ storages) zero = refl
-size_at (one ∷ storages) (suc a) = size_at storages a
 
 lengths_of : (arrays : List (List ℕ)) (a : ℕ) → length (slice_index_or arrays a []) ≡ slice_index (map length arrays) a
 lengths_of [] a = refl
