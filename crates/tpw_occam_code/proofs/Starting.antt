@@ -1,7 +1,7 @@
 -- A program that is made of a worker's code means what the worker does.
 use Rattle.std.proofs.Common.{◌≡◌, ◌⊎◌, inl, inr, ℕ, zero, suc, ◌+◌, ◌-◌, ◌*◌, ◌/◌, ◌%◌, ◌<◌, ◌≤◌, ◌^◌, Bool, true, false, List, [], ◌∷◌, ◌++◌, length, map}
 use Rattle.std.proofs.Common.{replicate, slice_get, Option, Some, None, refl, ap, sym, subst, ◌∙◌, arith, w32}
-use Rattle.std.specs.Prelude.{slice_index, slice_index_or, flat_map, All, IsTrue, if◌then◌else◌, nat_lt}
+use Rattle.std.specs.Prelude.{slice_index, slice_index_or, flat_map, All, IsTrue, ◌&&◌, if◌then◌else◌, nat_lt}
 use Rattle.std.specs.Int.{to_le_bytes}
 use Rattle.std.proofs.lemmas.Bool.{cases_lt, ltb-true, leb-true, eqb-true}
 use Rattle.std.proofs.lemmas.Option.{same_Some}
@@ -21,7 +21,7 @@ use Rattle.tpw_occam_core.specs.declared.worker.Storage.{Storage}
 use Rattle.tpw_occam_core.specs.declared.worker.Worker.{Worker}
 use Rattle.tpw_occam_core.specs.declared.process.Message.TheVariants as message
 use Rattle.tpw_occam_core.specs.Meaning.{Meant, meaning, meant, most_traced, first, after, bytes_of}
-use Rattle.tpw_occam_core.specs.Sound.{is_sound, is_sound_message, is_array, storage_of, are_declared, is_sized, globals, bytes_of as size_of}
+use Rattle.tpw_occam_core.specs.Sound.{is_sound, is_sound_message, is_sound_place, is_sound_process, is_array, storage_of, are_declared, is_sized, globals, bytes_of as size_of}
 use Rattle.tpw_occam_code.specs.declared.items.Item.{Item}
 use Rattle.tpw_occam_code.specs.declared.items.Item.TheVariants.{Variable, Constant}
 use Rattle.tpw_occam_code.specs.declared.items.Placed.{Placed}
@@ -66,6 +66,17 @@ index_behind_front : (xs ys : List ℕ) (k : ℕ) → slice_index (xs ++ ys) (le
 index_behind_front [] ys k = ap (slice_index ys) (omega arith)
 index_behind_front (x ∷ xs) ys k = index_next x (xs ++ ys) (length (x ∷ xs) + k) (length xs + k) (omega arith) ∙ index_behind_front xs ys k
 
+-- ---- what is sound
+
+pub sound_declared : (w : Worker) → IsTrue (is_sound w) → IsTrue (are_declared w)
+sound_declared w sound = and_first (are_declared w) _ (and_first _ _ (and_first _ _ sound))
+
+pub sound_message : (w : Worker) → IsTrue (is_sound w)
+    → IsTrue (is_sound_message (length w.variables.items) w.arrays.items (globals w) w.send)
+sound_message w sound =
+    and_second
+    (are_declared w && is_sound_place w w.receive && is_sound_process (length w.variables.items) w.arrays.items (globals w) w.body) _ sound
+
 -- ---- arrays
 
 -- arrays are short
@@ -87,12 +98,13 @@ pub result_size : (w : Worker) (a bytes : ℕ) → IsTrue (is_sound w) → w.sen
     → (slice_index (map size_of w.arrays.items) a < 2 ^ 32 → bytes ≡ slice_index (map size_of w.arrays.items) a)
     → 4 * (bytes / 4) ≡ size_of (storage_of w.arrays.items a)
 result_size w a bytes sound is same =
-    let declared : IsTrue (are_declared w) = and_first (are_declared w) _ (and_first _ _ (and_first _ _ sound)) in
-    let sent : IsTrue (is_sound_message (length w.variables.items) w.arrays.items (globals w) w.send) = and_second _ _ sound in
-    let array : IsTrue (is_sound_message (length w.variables.items) w.arrays.items (globals w) (message.Array a)) = subst (λ m. IsTrue (is_sound_message (length w.variables.items) w.arrays.items (globals w) m)) is sent in
-    let whole : size_of (storage_of w.arrays.items a) % 4 ≡ 0 =
-    eqb-true _ 0 (and_first _ _ (and_first _ _ (and_second (list_any (is_array a) (globals w)) _ array))) in
-    omega (arith, same (declared_small w a declared), size_at w.arrays.items a, whole)
+    omega (arith, same (declared_small w a (sound_declared w sound)), size_at w.arrays.items a, whole)
+  where
+    array : IsTrue (is_sound_message (length w.variables.items) w.arrays.items (globals w) (message.Array a))
+    array = subst (λ m. IsTrue (is_sound_message (length w.variables.items) w.arrays.items (globals w) m)) is (sound_message w sound)
+
+    whole : size_of (storage_of w.arrays.items a) % 4 ≡ 0
+    whole = eqb-true (size_of (storage_of w.arrays.items a) % 4) 0 (and_first _ _ (and_first _ _ (and_second (list_any (is_array a) (globals w)) _ array)))
 
 -- ---- words
 
@@ -294,7 +306,7 @@ gives_what_is_meant : (w : Worker) (code : Lines) (placed : List Placed) (progra
     → Works w code → (image : ImageValue) (packet : List ℕ) (run : Run) → IsAssembly program image → IsPacket image packet → RunsAlone image packet run
     → GivesMeaning run (meaning w packet)
 gives_what_is_meant w code placed program sound built works image packet run is fits alone =
-    let declared : IsTrue (are_declared w) = and_first (are_declared w) _ (and_first _ _ (and_first _ _ sound)) in
+    let declared = sound_declared w sound in
     let wptr : ℕ = mem_start + 4 * image.start in
     let addresses : List ℕ = addresses_from 0 is.lengths in
     let start : image.start ≡ program.start = ap (λ i. i.start) is.said in

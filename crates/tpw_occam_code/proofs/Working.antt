@@ -28,7 +28,7 @@ use Rattle.tpw_occam_code.specs.Computing.{IsPlace}
 use Rattle.tpw_occam_code.specs.Executing.{IsProcessPlace, MayRun, KnowsState, Matches, Executes, first_use, none_unset}
 use Rattle.tpw_occam_code.specs.Starting.{AreBytes, knowledge_of, FitsPlace, IsInScope, Receives, DoesLast, Sends, Begins, IsSent, Stops, Works}
 use Rattle.tpw_occam_code.proofs.Ranges.{full_contains}
-use Rattle.tpw_occam_code.proofs.Starting.{index_zeros, size_at}
+use Rattle.tpw_occam_code.proofs.Starting.{index_zeros, size_at, sound_declared, sound_message}
 use Rattle.tpw_occam_code.proofs.Standing.{and_first, and_second}
 use Rattle.tpw_occam_code.proofs.Leading.{leads_then, has_first, does_both}
 
@@ -243,20 +243,11 @@ zeros_fit storages p = record {
 module _ (run_knows : RunKnows) (w : Worker) (one two three : Lines) (sound : IsTrue (is_sound w)) (bytes : HasBytes w)
     (receives : Receives (knowledge_of w) (none_at 0) one w.receive) (executes : Executes (knowledge_of w) one two w.body)
     (sends : Sends (knowledge_of w) two three w.send) where
-  k : Knowledge
-  k = knowledge_of w
-
-  declared : IsTrue (are_declared w)
-  declared = and_first _ _ (and_first _ _ (and_first _ _ sound))
-
   stands : IsProcessPlace (knowledge_of w) w.arrays.items (globals w)
-  stands = first_place w declared
+  stands = first_place w (sound_declared w sound)
 
   body : IsTrue (is_sound_process (length w.variables.items) w.arrays.items (globals w) w.body)
   body = and_second (are_declared w && is_sound_place w w.receive) _ (and_first _ _ sound)
-
-  message : IsTrue (is_sound_message (length w.variables.items) w.arrays.items (globals w) w.send)
-  message = and_second (are_declared w && is_sound_place w w.receive && is_sound_process (length w.variables.items) w.arrays.items (globals w) w.body) _ sound
 
   runs : MayRun (globals w) none_unset (is_sound_process (length w.variables.items) w.arrays.items (globals w) w.body) (first_use w.body)
   runs = record { sound = body; assigned = λ x unset. absurd (false_true unset); declared = λ x unset. absurd (false_true unset) }
@@ -281,7 +272,7 @@ module _ (run_knows : RunKnows) (w : Worker) (one two three : Lines) (sound : Is
 
     sent : DoesLast (knowledge_of w).arrays two three (Matches (knowledge_of w) w.arrays.items (globals w) none_unset (after w packet))
         (IsSent w.send (after w packet))
-    sent = sends w.arrays.items (globals w) (after w packet) stands message knows_after
+    sent = sends w.arrays.items (globals w) (after w packet) stands (sound_message w sound) knows_after
 
     stops : (m : Machine) → Begins w three packet m → Stops m (IsSent w.send (after w packet) m)
     stops m begins =

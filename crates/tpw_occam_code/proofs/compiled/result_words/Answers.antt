@@ -1,5 +1,4 @@
-use Rattle.std.proofs.Common.{◌≡◌, ◌*◌, ◌/◌, ap, sym, ◌∙◌}
-use Rattle.std.specs.Prelude.{IsTrue}
+use Rattle.std.proofs.Common.{ap, sym, ◌∙◌}
 use Rattle.tpw_occam_code.specs.Program.{message_bytes}
 use Rattle.tpw_occam_code.proofs.Starting.{result_size}
 use Rattle.tpw_occam_code.proofs.compiled.result_words.Goals as goal
