@@ -30,7 +30,8 @@ use Rattle.tpw_occam_code.specs.Executing.{Matches, none_unset, cleared_bytes}
 use Rattle.tpw_occam_code.specs.Starting.{IsInput, Inputs, Receives, Outputs, Sends}
 use Rattle.tpw_occam_code.proofs.Keeping.{is_item-self, other_item}
 use Rattle.tpw_occam_code.proofs.Computing.{bytes_same, word_same}
-use Rattle.tpw_occam_code.proofs.Working.{packet_byte, size_at}
+use Rattle.tpw_occam_code.proofs.Starting.{size_at}
+use Rattle.tpw_occam_code.proofs.Working.{packet_byte}
 use Rattle.tpw_occam_code.proofs.Leading.{leads_then, has_first, get_last, step_is, does_step, does_served, does_both, does_less, makes_both}
 
 -- ---- an input

@@ -1,9 +1,9 @@
 -- A program that is made of a worker's code means what the worker does.
 use Rattle.std.proofs.Common.{◌≡◌, ◌⊎◌, inl, inr, ℕ, zero, suc, ◌+◌, ◌-◌, ◌*◌, ◌/◌, ◌%◌, ◌<◌, ◌≤◌, ◌^◌, Bool, true, false, List, [], ◌∷◌, ◌++◌, length, map}
 use Rattle.std.proofs.Common.{replicate, slice_get, Option, Some, None, refl, ap, sym, subst, ◌∙◌, arith, w32}
-use Rattle.std.specs.Prelude.{slice_index, slice_index_or, flat_map, All, IsTrue, if◌then◌else◌, nat_lt}
+use Rattle.std.specs.Prelude.{slice_index, slice_index_or, flat_map, All, IsTrue, ◌&&◌, if◌then◌else◌, nat_lt}
 use Rattle.std.specs.Int.{to_le_bytes}
-use Rattle.std.proofs.lemmas.Bool.{cases_lt, ltb-true, leb-true}
+use Rattle.std.proofs.lemmas.Bool.{cases_lt, ltb-true, leb-true, eqb-true}
 use Rattle.std.proofs.lemmas.Option.{same_Some}
 use Rattle.std.proofs.lemmas.Nat.{from_le_bytes-to_le_bytes_4}
 use Rattle.std.proofs.lemmas.List.Elements.{All-head, All-tail}
@@ -16,11 +16,12 @@ use Rattle.tpw_asm.specs.declared.program.Line.{Line}
 use Rattle.tpw_asm.specs.declared.program.Line.TheVariants.{Spelled}
 use Rattle.tpw_asm.specs.Layout.{addresses_from}
 use Rattle.tpw_asm.specs.Assembly.{IsAssembly}
-use Rattle.std.specs.List.{list_all}
+use Rattle.std.specs.List.{list_all, list_any}
 use Rattle.tpw_occam_core.specs.declared.worker.Storage.{Storage}
 use Rattle.tpw_occam_core.specs.declared.worker.Worker.{Worker}
+use Rattle.tpw_occam_core.specs.declared.process.Message.TheVariants as message
 use Rattle.tpw_occam_core.specs.Meaning.{Meant, meaning, meant, most_traced, first, after, bytes_of}
-use Rattle.tpw_occam_core.specs.Sound.{is_sound, are_declared, is_sized, globals, bytes_of as size_of}
+use Rattle.tpw_occam_core.specs.Sound.{is_sound, is_sound_message, is_sound_place, is_sound_process, is_array, storage_of, are_declared, is_sized, globals, bytes_of as size_of}
 use Rattle.tpw_occam_code.specs.declared.items.Item.{Item}
 use Rattle.tpw_occam_code.specs.declared.items.Item.TheVariants.{Variable, Constant}
 use Rattle.tpw_occam_code.specs.declared.items.Placed.{Placed}
@@ -65,6 +66,17 @@ index_behind_front : (xs ys : List ℕ) (k : ℕ) → slice_index (xs ++ ys) (le
 index_behind_front [] ys k = ap (slice_index ys) (omega arith)
 index_behind_front (x ∷ xs) ys k = index_next x (xs ++ ys) (length (x ∷ xs) + k) (length xs + k) (omega arith) ∙ index_behind_front xs ys k
 
+-- ---- what is sound
+
+pub sound_declared : (w : Worker) → IsTrue (is_sound w) → IsTrue (are_declared w)
+sound_declared w sound = and_first (are_declared w) _ (and_first _ _ (and_first _ _ sound))
+
+pub sound_message : (w : Worker) → IsTrue (is_sound w)
+    → IsTrue (is_sound_message (length w.variables.items) w.arrays.items (globals w) w.send)
+sound_message w sound =
+    and_second
+    (are_declared w && is_sound_place w w.receive && is_sound_process (length w.variables.items) w.arrays.items (globals w) w.body) _ sound
+
 -- ---- arrays
 
 -- arrays are short
@@ -75,6 +87,24 @@ declared_small w a declared = sized_small w.arrays.items a (and_first _ _ (and_f
     sized_small [] a sized = omega arith
     sized_small (one ∷ storages) zero sized = omega (arith, leb-true (size_of one) 2048 (and_second _ _ (and_first (is_sized one) _ sized)))
     sized_small (one ∷ storages) (suc a) sized = sized_small storages a (and_second (is_sized one) _ sized)
+
+-- the size of an array that is a message
+pub size_at : (storages : List Storage) (a : ℕ) → slice_index (map size_of storages) a ≡ size_of (storage_of storages a)
+size_at [] a = refl
+size_at (one ∷ storages) zero = refl
+size_at (one ∷ storages) (suc a) = size_at storages a
+
+pub result_size : (w : Worker) (a bytes : ℕ) → IsTrue (is_sound w) → w.send ≡ message.Array a
+    → (slice_index (map size_of w.arrays.items) a < 2 ^ 32 → bytes ≡ slice_index (map size_of w.arrays.items) a)
+    → 4 * (bytes / 4) ≡ size_of (storage_of w.arrays.items a)
+result_size w a bytes sound is same =
+    omega (arith, same (declared_small w a (sound_declared w sound)), size_at w.arrays.items a, whole)
+  where
+    array : IsTrue (is_sound_message (length w.variables.items) w.arrays.items (globals w) (message.Array a))
+    array = subst (λ m. IsTrue (is_sound_message (length w.variables.items) w.arrays.items (globals w) m)) is (sound_message w sound)
+
+    whole : size_of (storage_of w.arrays.items a) % 4 ≡ 0
+    whole = eqb-true (size_of (storage_of w.arrays.items a) % 4) 0 (and_first _ _ (and_first _ _ (and_second (list_any (is_array a) (globals w)) _ array)))
 
 -- ---- words
 
@@ -272,11 +302,11 @@ gives_meaning w packet run first last nothing sent gives = by_test (nat_lt most_
       gives.trace ∙ sent.traced,
     )
 
--- the program means what the worker does
-pub built_means : (w : Worker) (code : Lines) (placed : List Placed) (program : Program) → IsTrue (is_sound w) → IsBuilt w code placed program → Works w code
-    → Means w program
-built_means w code placed program sound built works image packet run is fits alone =
-    let declared : IsTrue (are_declared w) = and_first (are_declared w) _ (and_first _ _ (and_first _ _ sound)) in
+gives_what_is_meant : (w : Worker) (code : Lines) (placed : List Placed) (program : Program) → IsTrue (is_sound w) → IsBuilt w code placed program
+    → Works w code → (image : ImageValue) (packet : List ℕ) (run : Run) → IsAssembly program image → IsPacket image packet → RunsAlone image packet run
+    → GivesMeaning run (meaning w packet)
+gives_what_is_meant w code placed program sound built works image packet run is fits alone =
+    let declared = sound_declared w sound in
     let wptr : ℕ = mem_start + 4 * image.start in
     let addresses : List ℕ = addresses_from 0 is.lengths in
     let start : image.start ≡ program.start = ap (λ i. i.start) is.said in
@@ -290,3 +320,12 @@ built_means w code placed program sound built works image packet run is fits alo
     (program_carries program image is code.lines placed built.most (is_made_of w code placed program addresses wptr built) built.between
     (omega (arith, start, workspace, built.room (omega (arith, workspace, workspace_most image.version image.workspace is.in_range.workspace.1))))
     packet run alone {m = m} {last = stops.last} (first_is w code.lines placed program image is packet built.words) stops.way stops.stopped)
+
+-- the program means what the worker does
+pub built_means : (w : Worker) (code : Lines) (placed : List Placed) (program : Program) → IsTrue (is_sound w) → IsBuilt w code placed program → Works w code
+    → Means w program
+built_means w code placed program sound built works = record {
+  packet = built.packet sound;
+  result = built.result sound;
+  runs = λ image packet run is fits alone. gives_what_is_meant w code placed program sound built works image packet run is fits alone;
+}

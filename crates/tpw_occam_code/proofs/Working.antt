@@ -19,15 +19,16 @@ use Rattle.tpw_occam_core.specs.declared.process.Process.{Process}
 use Rattle.tpw_occam_core.specs.Arrays.{element}
 use Rattle.tpw_occam_core.specs.Meaning.{Store, first, first_bytes, received, after, run, kind_of, array_of, with_value, with_array, bytes_of}
 use Rattle.tpw_occam_core.specs.Sound.{is_sound, is_sound_process, is_sound_message, is_sound_place, are_declared, is_word, is_sized, globals, is_variable, is_name, is_array, storage_of, bytes_of as size_of}
+use Rattle.tpw_occam_code.specs.Program.{place_bytes}
 use Rattle.tpw_occam_code.specs.Code.{Lines, none_at}
 use Rattle.tpw_occam_code.specs.Symbolic.{Machine}
 use Rattle.tpw_occam_code.specs.Leading.{IsBefore, Does}
 use Rattle.tpw_occam_code.specs.Agreement.{Knowledge, fact_at, fact_of_kind, any_word, FitsFact, Knows}
 use Rattle.tpw_occam_code.specs.Computing.{IsPlace}
 use Rattle.tpw_occam_code.specs.Executing.{IsProcessPlace, MayRun, KnowsState, Matches, Executes, first_use, none_unset}
-use Rattle.tpw_occam_code.specs.Starting.{AreBytes, knowledge_of, place_bytes, FitsPlace, IsInScope, Receives, DoesLast, Sends, Begins, IsSent, Stops, Works}
+use Rattle.tpw_occam_code.specs.Starting.{AreBytes, knowledge_of, FitsPlace, IsInScope, Receives, DoesLast, Sends, Begins, IsSent, Stops, Works}
 use Rattle.tpw_occam_code.proofs.Ranges.{full_contains}
-use Rattle.tpw_occam_code.proofs.Starting.{index_zeros}
+use Rattle.tpw_occam_code.proofs.Starting.{index_zeros, size_at, sound_declared, sound_message}
 use Rattle.tpw_occam_code.proofs.Standing.{and_first, and_second}
 use Rattle.tpw_occam_code.proofs.Leading.{leads_then, has_first, does_both}
 
@@ -178,12 +179,6 @@ set_bytes (one ∷ arrays) zero bytes small all (suc b) i = all (suc b) i
 set_bytes (one ∷ arrays) (suc a) bytes small all zero i = all zero i
 set_bytes (one ∷ arrays) (suc a) bytes small all (suc b) i = set_bytes arrays a bytes small (λ b. all (suc b)) b i
 
--- the size of an array
-pub size_at : (storages : List Storage) (a : ℕ) → slice_index (map size_of storages) a ≡ size_of (storage_of storages a)
-size_at [] a = refl
-size_at (one ∷ storages) zero = refl
-size_at (one ∷ storages) (suc a) = size_at storages a
-
 lengths_of : (arrays : List (List ℕ)) (a : ℕ) → length (slice_index_or arrays a []) ≡ slice_index (map length arrays) a
 lengths_of [] a = refl
 lengths_of (one ∷ arrays) zero = refl
@@ -248,20 +243,11 @@ zeros_fit storages p = record {
 module _ (run_knows : RunKnows) (w : Worker) (one two three : Lines) (sound : IsTrue (is_sound w)) (bytes : HasBytes w)
     (receives : Receives (knowledge_of w) (none_at 0) one w.receive) (executes : Executes (knowledge_of w) one two w.body)
     (sends : Sends (knowledge_of w) two three w.send) where
-  k : Knowledge
-  k = knowledge_of w
-
-  declared : IsTrue (are_declared w)
-  declared = and_first _ _ (and_first _ _ (and_first _ _ sound))
-
   stands : IsProcessPlace (knowledge_of w) w.arrays.items (globals w)
-  stands = first_place w declared
+  stands = first_place w (sound_declared w sound)
 
   body : IsTrue (is_sound_process (length w.variables.items) w.arrays.items (globals w) w.body)
   body = and_second (are_declared w && is_sound_place w w.receive) _ (and_first _ _ sound)
-
-  message : IsTrue (is_sound_message (length w.variables.items) w.arrays.items (globals w) w.send)
-  message = and_second (are_declared w && is_sound_place w w.receive && is_sound_process (length w.variables.items) w.arrays.items (globals w) w.body) _ sound
 
   runs : MayRun (globals w) none_unset (is_sound_process (length w.variables.items) w.arrays.items (globals w) w.body) (first_use w.body)
   runs = record { sound = body; assigned = λ x unset. absurd (false_true unset); declared = λ x unset. absurd (false_true unset) }
@@ -286,7 +272,7 @@ module _ (run_knows : RunKnows) (w : Worker) (one two three : Lines) (sound : Is
 
     sent : DoesLast (knowledge_of w).arrays two three (Matches (knowledge_of w) w.arrays.items (globals w) none_unset (after w packet))
         (IsSent w.send (after w packet))
-    sent = sends w.arrays.items (globals w) (after w packet) stands message knows_after
+    sent = sends w.arrays.items (globals w) (after w packet) stands (sound_message w sound) knows_after
 
     stops : (m : Machine) → Begins w three packet m → Stops m (IsSent w.send (after w packet) m)
     stops m begins =

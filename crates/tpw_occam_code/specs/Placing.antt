@@ -14,11 +14,12 @@ use Rattle.tpw_occam_code.specs.declared.code.CodeLine.{CodeLine}
 use Rattle.tpw_occam_code.specs.declared.items.Item.{Item}
 use Rattle.tpw_occam_code.specs.declared.items.Item.TheVariants.{Zeros}
 use Rattle.tpw_occam_code.specs.declared.items.Placed.{Placed}
+use Rattle.tpw_occam_code.specs.Program.{place_bytes, message_bytes}
 use Rattle.tpw_occam_code.specs.Code.{Lines}
 use Rattle.tpw_occam_code.specs.Blocks.{is_item, bytes_at}
 use Rattle.tpw_occam_code.specs.Leading.{Serves}
 use Rattle.tpw_occam_code.specs.Executing.{cleared_bytes}
-use Rattle.tpw_occam_code.specs.Starting.{first_blocks, place_bytes}
+use Rattle.tpw_occam_code.specs.Starting.{first_blocks}
 use Rattle.tpw_occam_code.specs.Carried.{Site, operation_of}
 
 -- how many words an item has, and the local word that it begins with
@@ -97,3 +98,4 @@ pub record IsBuilt (w : Worker) (code : Lines) (placed : List Placed) (program :
   pub between : AreBetween 0 most placed
   pub room : program.workspace ≤ 512 → program.start + most ≤ program.workspace
   pub packet : IsTrue (is_sound w) → 4 * program.packet ≡ place_bytes w.arrays.items w.receive
+  pub result : IsTrue (is_sound w) → 4 * program.result ≡ message_bytes w.arrays.items w.send

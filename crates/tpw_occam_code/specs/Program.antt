@@ -4,13 +4,28 @@ use Rattle.tp_image.specs.Image.{ImageValue}
 use Rattle.tp_step.specs.Runs.{Run, RunsAlone}
 use Rattle.tpw_asm.specs.declared.program.Program.{Program}
 use Rattle.tpw_asm.specs.Assembly.{IsAssembly, AreItsAddresses}
+use Rattle.tpw_occam_core.specs.declared.process.Message.{Message}
+use Rattle.tpw_occam_core.specs.declared.process.Message.TheVariants as message
+use Rattle.tpw_occam_core.specs.declared.worker.Storage.{Storage}
+use Rattle.tpw_occam_core.specs.declared.worker.Place.{Place}
+use Rattle.tpw_occam_core.specs.declared.worker.Place.TheVariants as place
 use Rattle.tpw_occam_core.specs.declared.worker.Worker.{Worker}
 use Rattle.tpw_occam_core.specs.Meaning.{Meant, meaning, most_traced}
+use Rattle.tpw_occam_core.specs.Sound.{storage_of, bytes_of}
 
 -- its labels are places, jumps go forward, and its lines have addresses in a layout that is short enough for its
 -- version
 abbrev pub HasLayout : Program → Type 0
 HasLayout program = (addresses : List ℕ) × AreItsAddresses program addresses
+
+-- how many bytes go to a place, and how many a message has
+abbrev pub place_bytes : List Storage → Place → ℕ
+place_bytes storages (place.Variable x) = 4
+place_bytes storages (place.Array a) = bytes_of (storage_of storages a)
+
+abbrev pub message_bytes : List Storage → Message → ℕ
+message_bytes storages (message.Value e) = 4
+message_bytes storages (message.Array a) = bytes_of (storage_of storages a)
 
 -- a packet of an image
 pub record IsPacket (image : ImageValue) (packet : List ℕ) : Type 0 where
@@ -22,9 +37,10 @@ abbrev pub GivesMeaning : Run → Option Meant → Type 0
 GivesMeaning run (Some meant) = (run.result ≡ meant.result) × (run.error ≡ meant.flag) × (run.trace ≡ meant.traced)
 GivesMeaning run None = most_traced < length run.trace
 
--- A program means what a worker means: where the image that it is assembled to runs alone on a packet, the run gives what
--- the worker makes of the packet.
-abbrev pub Means : Worker → Program → Type 0
-Means w program =
-    (image : ImageValue) (packet : List ℕ) (run : Run) → IsAssembly program image → IsPacket image packet
-    → RunsAlone image packet run → GivesMeaning run (meaning w packet)
+-- A program means what a worker means: it takes packets and gives results of the worker's sizes, and where the image
+-- that it is assembled to runs alone on a packet, the run gives what the worker makes of the packet.
+pub record Means (w : Worker) (program : Program) : Type 0 where
+  pub packet : 4 * program.packet ≡ place_bytes w.arrays.items w.receive
+  pub result : 4 * program.result ≡ message_bytes w.arrays.items w.send
+  pub runs : (image : ImageValue) (bytes : List ℕ) (run : Run) → IsAssembly program image → IsPacket image bytes
+      → RunsAlone image bytes run → GivesMeaning run (meaning w bytes)

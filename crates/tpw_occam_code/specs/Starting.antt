@@ -11,11 +11,12 @@ use Rattle.tpw_occam_core.specs.declared.worker.Worker.{Worker}
 use Rattle.tpw_occam_core.specs.declared.scope.Entry.{Entry}
 use Rattle.tpw_occam_core.specs.declared.process.Message.{Message}
 use Rattle.tpw_occam_core.specs.Meaning.{Store, kind_of, first, first_bytes, received, after, bytes_of, flag_of}
-use Rattle.tpw_occam_core.specs.Sound.{globals, is_variable, is_array, is_word, is_sound_message, bytes_of as size_of, storage_of}
+use Rattle.tpw_occam_core.specs.Sound.{globals, is_variable, is_array, is_word, is_sound_message, bytes_of as size_of}
 use Rattle.tpw_occam_code.specs.declared.items.Item.{Item}
 use Rattle.tpw_occam_code.specs.declared.items.Item.TheVariants.{Variable, Temporary, Constant, Array, Zeros}
 use Rattle.tpw_occam_code.specs.declared.code.Step.TheVariants.{Pointer}
 use Rattle.tpw_occam_code.specs.declared.code.CodeLine.{CodeLine}
+use Rattle.tpw_occam_code.specs.Program.{place_bytes}
 use Rattle.tpw_occam_code.specs.Code.{Lines}
 use Rattle.tpw_occam_code.specs.Blocks.{Blocks, with_bytes}
 use Rattle.tpw_occam_code.specs.Symbolic.{Machine, Leads}
@@ -42,11 +43,6 @@ abbrev pub AreBytes : Storage → Type 0
 AreBytes storage = (i : ℕ) → slice_index (first_bytes storage) i < 256
 
 -- ---- packets
-
--- how many bytes go to a place
-abbrev pub place_bytes : List Storage → Place → ℕ
-place_bytes storages (place.Variable x) = 4
-place_bytes storages (place.Array a) = size_of (storage_of storages a)
 
 pub record FitsPlace (storages : List Storage) (p : Place) (packet : List ℕ) : Type 0 where
   pub size : length packet ≡ place_bytes storages p

@@ -2,9 +2,9 @@
 
 ghost use Rattle.std.specs.Prelude.{◌≡◌, ℕ, ◌*◌, ◌<◌, All, IfOk, IsTrue, OnOk, slice_index};
 ghost use Rattle.tpw_occam_core.specs.Sound.{is_sound};
-ghost use Rattle.tpw_occam_code.specs.Program.{HasLayout, Means};
+ghost use Rattle.tpw_occam_code.specs.Program.{HasLayout, Means, place_bytes, message_bytes};
 ghost use Rattle.tpw_occam_code.specs.Placing.{AreBetween, IsBuilt};
-ghost use Rattle.tpw_occam_code.specs.Starting.{AreBytes, Works, place_bytes};
+ghost use Rattle.tpw_occam_code.specs.Starting.{AreBytes, Works};
 
 use crate::code::Code;
 use crate::emitter::Emitter;
@@ -72,6 +72,7 @@ fn code_of(alloc: Global, worker: &Worker) -> Result<Code, CodeFault>
     Ok(code)
 }
 
+/// The words of a packet.
 fn packet_words(worker: &Worker) -> u32
     ensures { IsTrue (is_sound worker.now) → 4 * result ≡ place_bytes worker.now.arrays.items worker.now.receive }
 {
@@ -81,7 +82,10 @@ fn packet_words(worker: &Worker) -> u32
     }
 }
 
-fn result_words(worker: &Worker) -> u32 {
+/// The words of a result.
+fn result_words(worker: &Worker) -> u32
+    ensures { IsTrue (is_sound worker.now) → 4 * result ≡ message_bytes worker.now.arrays.items worker.now.send }
+{
     match &worker.send {
         Message::Value(_) => 1,
         Message::Array(a) => array_bytes(worker, *a) / 4,

@@ -1,6 +1,7 @@
-use Rattle.std.proofs.Common.{◌≡◌, ℕ, OnOk, refl, ap, sym, subst, ◌∙◌}
-use Rattle.std.proofs.lemmas.Result.{on_ok_weaker}
-use Rattle.tpw_occam_code.specs.Starting.{knowledge_of}
+use Rattle.std.proofs.Common.{◌≡◌, ℕ, sym, subst, ◌∙◌}
+use Rattle.tpw_occam_code.specs.Code.{none_at}
+use Rattle.tpw_occam_code.specs.Executing.{Executes}
+use Rattle.tpw_occam_code.specs.Starting.{knowledge_of, Receives, Sends}
 use Rattle.tpw_occam_code.proofs.Working.{code_works, has_bytes, RunKnows}
 use Rattle.tpw_occam_code.proofs.compiled.code_of.Goals as goal
 
@@ -9,4 +10,11 @@ run_knows : RunKnows
 run_knows = ?
 
 pub returns : goal.returns
-returns c = let r = c.in_ok-receive.ensures in let e = c.in_ok-process.ensures.executes in let kn = c.in_ok-process.ensures.knowledge in let s = c.in_ok-send.ensures in let n = c.in_ok-emitter.ensures in let k = c.know_arrays.ensures in let v = c.code in ?
+returns c sound =
+    let w = c.args.worker.now in
+    let is = c.in_ok-emitter.ensures in
+    code_works run_knows w c.receive.new.code c.process.new.code c.send.new.code sound (has_bytes w c.know_arrays.ensures)
+    (subst (λ k. Receives k (none_at 0) c.receive.new.code w.receive) is
+    (subst (λ old. Receives c.in_ok-emitter.emitter old c.receive.new.code w.receive) c.new-code.ensures c.in_ok-receive.ensures))
+    (subst (λ k. Executes k c.receive.new.code c.process.new.code w.body) is c.in_ok-process.ensures.executes)
+    (subst (λ k. Sends k c.process.new.code c.send.new.code w.send) (c.in_ok-process.ensures.knowledge ∙ is) c.in_ok-send.ensures)

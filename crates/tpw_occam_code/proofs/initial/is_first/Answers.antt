@@ -1,4 +1,4 @@
-use Rattle.std.proofs.Common.{◌≡◌, true, ℕ, ◌+◌, List, [], ◌∷◌, ap, sym, ◌∙◌, arith}
+use Rattle.std.proofs.Common.{◌≡◌, ℕ, [], ◌∷◌, ap, sym, ◌∙◌, arith}
 use lib.Pointwise.{bytes_decides}
 use Rattle.tpw_occam_code.specs.Blocks.{bytes_at}
 use Rattle.tpw_occam_code.specs.Starting.{first_blocks}

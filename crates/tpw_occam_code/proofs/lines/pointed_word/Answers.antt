@@ -1,14 +1,9 @@
-use Rattle.std.proofs.Common.{◌≡◌, ◌<◌, ◌≤◌, ◌*◌, ◌^◌, ℕ, map, OnOk, ap, sym, subst, ◌∙◌, arith}
-use Rattle.std.specs.Prelude.{slice_index, IsTrue}
+use Rattle.std.proofs.Common.{◌≡◌, ℕ, ap, arith}
 use Rattle.std.proofs.lemmas.Result.{on_ok_weaker}
-use Rattle.tpw_occam_core.specs.declared.worker.Worker.{Worker}
-use Rattle.tpw_occam_core.specs.Sound.{bytes_of, are_declared}
-use Rattle.tpw_occam_code.specs.declared.items.Item.{Item}
 use Rattle.tpw_occam_code.specs.declared.items.Item.TheVariants.{Array, Zeros}
 use Rattle.tpw_occam_code.specs.declared.code.Step.{Step}
 use Rattle.tpw_occam_code.specs.declared.code.Step.TheVariants.{Pointer}
-use Rattle.tpw_occam_code.specs.Leading.{word_bytes}
-use Rattle.tpw_occam_code.specs.Placing.{words_at, IsServed}
+use Rattle.tpw_occam_code.specs.Placing.{words_at}
 use Rattle.tpw_occam_code.proofs.Starting.{declared_small}
 use Rattle.tpw_occam_code.proofs.lines.pointed_word.Goals as goal
 

@@ -1,5 +1,4 @@
 use Rattle.std.proofs.lemmas.Result.{on_ok_weaker}
-use Rattle.tpw_occam_code.proofs.Working.{code_works}
 use Rattle.tpw_occam_code.proofs.Receiving.{inputs}
 use Rattle.tpw_occam_code.proofs.messages.input.Goals as goal
 

@@ -1,7 +1,7 @@
-use Rattle.std.proofs.Common.{◌≡◌, ℕ, Bool, true, false, List, [], ◌∷◌, ◌++◌, map, nat_eq, ◌||◌, refl, ap, sym, ◌∙◌}
+use Rattle.std.proofs.Common.{◌≡◌, ℕ, List, [], ◌∷◌, ◌++◌, map, nat_eq, ◌||◌, refl, ap, sym, ◌∙◌}
 use Rattle.std.specs.List.{list_any}
 use Rattle.tpw_occam_core.specs.declared.scope.Entry.TheVariants as entry
-use Rattle.tpw_occam_core.specs.Sound.{globals, is_array}
+use Rattle.tpw_occam_core.specs.Sound.{is_array}
 use Rattle.tpw_occam_code.proofs.uses.is_global.Goals as goal
 
 arrays_in : (arrays : List ℕ) (a : ℕ) → list_any (is_array a) (map entry.Array arrays) ≡ list_any (λ b. nat_eq b a) arrays

@@ -1,7 +1,4 @@
-use Rattle.std.proofs.Common.{◌≡◌, ◌<◌, ◌≤◌, ◌*◌, ◌^◌, ◌+◌, Bool, true, false, map, slice_index, ℕ, max, ap, sym, ◌∙◌, below_more, arith}
-use Rattle.std.specs.List.{list_any}
-use Rattle.tpw_occam_core.specs.Sound.{bytes_of, globals, is_array}
-use Rattle.tpw_occam_code.specs.Leading.{word_bytes}
+use Rattle.std.proofs.Common.{◌≡◌, Bool, true, false, sym, ◌∙◌, below_more, arith}
 use Rattle.tpw_occam_code.proofs.uses.zeros.Goals as goal
 use Rattle.tpw_occam_code.proofs.uses.zeros.Goals.{then-not-is_global, else-not-is_global}
 

@@ -1,4 +1,3 @@
-use Rattle.std.proofs.Common.{◌≡◌, ap, sym, ◌∙◌}
 use Rattle.std.proofs.lemmas.Result.{on_ok_weaker}
 use Rattle.tpw_occam_code.proofs.Receiving.{receives_variable, receives_array}
 use Rattle.tpw_occam_code.proofs.emitter.Emitter.receive.Goals as goal
