@@ -19,3 +19,4 @@ pub mod Executing
 pub mod Looping
 pub mod Storing
 pub mod Deciding
+pub mod Remaining
