@@ -30,7 +30,7 @@ use Rattle.tpw_occam_code.specs.Symbolic.{Machine, Leads, nowhere, onward, perfo
 use Rattle.tpw_occam_code.specs.Leading.{Does, IsBefore, Arrives, HasLines, Makes, HasConstants, HasWord}
 use Rattle.tpw_occam_code.specs.Agreement.{Knowledge, constant_in, with_fact, fact_of_kind, Knows, Agrees, LeavesItems, Stays}
 use Rattle.tpw_occam_code.specs.Computing.{IsPlace, MayStand, reads, Binds, Binding, ComputesBinding, Decided, Decides}
-use Rattle.tpw_occam_code.specs.Executing.{cleared, IsProcessPlace, MayRun, none_unset, KnowsState, Matches, LeavesCounts, ExecutesTo, Executes, Clears, Chooses, Starts, with_item_word, chosen_lines, is_skip, first_use, first_in, then_first, either_first, is_nothing, unset_after}
+use Rattle.tpw_occam_code.specs.Executing.{Follows, Remains, cleared, IsProcessPlace, MayRun, none_unset, KnowsState, Matches, LeavesCounts, ExecutesTo, Executes, Clears, Chooses, Starts, with_item_word, chosen_lines, is_skip, first_use, first_in, then_first, either_first, is_nothing, unset_after}
 use Rattle.tpw_occam_code.proofs.Leading.{does_both, does_less, does_step, does_nothing, step_is, leads_then, has_first}
 use Rattle.tpw_occam_code.proofs.Computing.{agrees_after}
 use Rattle.tpw_occam_code.proofs.Constructs.{constant_value}
@@ -38,7 +38,7 @@ use Rattle.tpw_occam_code.proofs.Keeping.{word_written, word_elsewhere}
 use Rattle.tpw_occam_code.proofs.Naming.{new_name, variable_differs}
 use Rattle.tpw_occam_code.proofs.Conditions.{does_branch, Branches, has_behind, jump_stands, cj_jumps, cj_passes, suc_not_zero}
 use Rattle.tpw_occam_code.proofs.Standing.{Place, and_first, and_second, or_first, or_second, suffices_two}
-use Rattle.tpw_occam_code.proofs.Knowing.{Follows, Remains, knows_fewer, knows_flagged, in_longer, last_in, Takes, value_takes, variable_takes, place_taken, knows_taken, HasRoom, room_stays, room_taken, matches_taken, matches_outside, matches_fewer, counts_then, counts_outside, counts_of_items, zero_fits, place_array, knows_array, array_outside}
+use Rattle.tpw_occam_code.proofs.Knowing.{knows_fewer, knows_flagged, in_longer, last_in, Takes, value_takes, variable_takes, place_taken, knows_taken, HasRoom, room_stays, room_taken, matches_taken, matches_outside, matches_fewer, counts_then, counts_outside, counts_of_items, zero_fits, place_array, knows_array, array_outside}
 
 false_true : ◌≡◌ {A = Bool} false true → ⊥
 false_true e = cc
@@ -373,7 +373,7 @@ pub chosen_none : (w : ℕ) (guarded rest : Store) → nat_eq w 0 ≡ true → c
 chosen_none zero guarded rest h = refl
 chosen_none (suc w) guarded rest h = absurd (false_true (sym (suc_not_zero w) ∙ h))
 
-not_zero : (c : ℕ) → (c ≡ 0 → ⊥) → nat_eq c 0 ≡ false
+pub not_zero : (c : ℕ) → (c ≡ 0 → ⊥) → nat_eq c 0 ≡ false
 not_zero zero some = absurd (some refl)
 not_zero (suc c) some = suc_not_zero c
 
@@ -700,7 +700,7 @@ choose_executes k old between some none new_code source e guarded rest decides o
     })
 
 -- where the rest does nothing
-skip_runs : (kinds : List Kind) (p : Process) (s : Store) → is_skip p ≡ true → run kinds p s ≡ s
+pub skip_runs : (kinds : List Kind) (p : Process) (s : Store) → is_skip p ≡ true → run kinds p s ≡ s
 skip_runs kinds process.Skip s h = refl
 skip_runs kinds (process.At' line p body) s h = skip_runs kinds body s h
 skip_runs kinds p s h = cc

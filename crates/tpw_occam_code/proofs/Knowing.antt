@@ -34,19 +34,6 @@ false_true e = cc
 none_some : {c : ℕ} → ◌≡◌ {A = Option ℕ} None (Some c) → ⊥
 none_some e = cc
 
--- ---- what processes keep
-
--- A state that a process leaves: it is known as before, and names that are no variables keep their values.
-pub record Follows (k : Knowledge) (scope : List Entry) (s t : Store) : Type 0 where
-  pub knows : KnowsState k scope t
-  pub values : (x : ℕ) → IsTrue (list_any (is_name x) scope) → list_any (is_variable x) scope ≡ false
-      → slice_index t.values x ≡ slice_index s.values x
-
-abbrev pub Remains : Knowledge → Process → Type 0
-Remains k p =
-    (storages : List Storage) (scope : List Entry) (s : Store) → IsProcessPlace k storages scope
-    → IsTrue (is_sound_process (length k.kinds) storages scope p) → KnowsState k scope s → Follows k scope s (run k.kinds p s)
-
 -- ---- states in which fewer names are assigned
 
 pub knows_fewer : (k : Knowledge) (scope : List Entry) (unset : ℕ → Bool) (s : Store) → Knows k scope none_unset s → Knows k scope unset s
@@ -139,7 +126,7 @@ fact_new k scope e x fact takes facts =
     let within : x < length k.kinds = ltb-true x _ (and_first _ _ takes.new) in
     slice_same k.facts x fact any_word (omega (arith, facts, within))
 
-name_either : (scope : List Entry) (e : Entry) (x y : ℕ) → Declares e x → IsTrue (list_any (is_name y) (scope ++ e ∷ []))
+pub name_either : (scope : List Entry) (e : Entry) (x y : ℕ) → Declares e x → IsTrue (list_any (is_name y) (scope ++ e ∷ []))
     → IsTrue (list_any (is_name y) scope) ⊎ (x ≡ y)
 name_either scope e x y declares h = elim (either_in (is_name y) scope e h) [
   | inl there ↦ inl there

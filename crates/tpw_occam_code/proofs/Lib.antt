@@ -43,3 +43,4 @@ pub mod Looping
 pub mod StoredWords
 pub mod Deciding
 pub mod Ordering
+pub mod Remaining

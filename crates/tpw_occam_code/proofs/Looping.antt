@@ -33,13 +33,13 @@ use Rattle.tpw_occam_code.specs.Ranges.{Contains}
 use Rattle.tpw_occam_code.specs.Symbolic.{Machine, Contents, address, distance, Leads, nowhere, onward, step, performed, effect, at_place, with_blocks, push}
 use Rattle.tpw_occam_code.specs.Leading.{Does, IsBefore, Arrives, HasLines, HasWord, Serves}
 use Rattle.tpw_occam_code.specs.Agreement.{Knowledge, with_fact, fact_at, counted_fact, constant_fact, FitsFact, LeavesItems, Stays}
-use Rattle.tpw_occam_code.specs.Executing.{IsProcessPlace, MayRun, none_unset, KnowsState, Matches, LeavesCounts, Executes, Repeats, Begins, with_item_word, first_use, is_nothing, unset_after}
+use Rattle.tpw_occam_code.specs.Executing.{Follows, Remains, IsProcessPlace, MayRun, none_unset, KnowsState, Matches, LeavesCounts, Executes, Repeats, Begins, with_item_word, first_use, is_nothing, unset_after}
 use Rattle.tpw_occam_code.proofs.Leading.{does_less, does_nothing, step_is, leads_then, has_first}
 use Rattle.tpw_occam_code.proofs.Keeping.{is_item-self, other_item, word_written}
 use Rattle.tpw_occam_code.proofs.Naming.{variable_differs, slice_same, constant_fits, new_name}
 use Rattle.tpw_occam_code.proofs.Conditions.{get_behind, suc_not_zero}
 use Rattle.tpw_occam_code.proofs.Standing.{Place, and_first, and_second}
-use Rattle.tpw_occam_code.proofs.Knowing.{Follows, Remains, in_longer, variable_named, same_any, declared_last, value_declares, Takes, value_takes, place_taken, knows_taken, knows_outside, fact_new, HasRoom, room_stays, matches_taken, matches_outside, matches_fewer, counts_then, counts_outside, counts_of_items}
+use Rattle.tpw_occam_code.proofs.Knowing.{in_longer, variable_named, same_any, declared_last, value_declares, Takes, value_takes, place_taken, knows_taken, knows_outside, fact_new, HasRoom, room_stays, matches_taken, matches_outside, matches_fewer, counts_then, counts_outside, counts_of_items}
 use Rattle.tpw_occam_code.proofs.Executing.{does_kept, matches_leaves, skip_executes}
 
 false_true : ◌≡◌ {A = Bool} false true → ⊥

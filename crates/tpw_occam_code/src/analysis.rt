@@ -1,10 +1,10 @@
 //! What is read and what is assigned.
 
-ghost use Rattle.std.specs.Prelude.{◌≡◌};
+ghost use Rattle.std.specs.Prelude.{◌≡◌, ◌<◌, ◌^◌};
 ghost use Rattle.std.specs.List.{list_any};
 ghost use Rattle.tpw_occam_code.specs.Computing.{reads};
 ghost use Rattle.tpw_occam_code.specs.Executing.{then_first, either_first, first_in, first_in_message, sources_read};
-ghost use Rattle.tpw_occam_code.specs.Executing.{is_target, first_in_assignments, first_use};
+ghost use Rattle.tpw_occam_code.specs.Executing.{is_target, first_in_assignments, first_use, HasWords, HaveWords};
 ghost use Rattle.tpw_occam_code.specs.Assigning.{reads_array, reads_target, are_near};
 
 use tpw_occam_core::{Assignment, Expression, Message, Process, Target};
@@ -255,5 +255,68 @@ pub(crate) fn first_use(p: &Process, x: usize) -> First
         }
         Process::Trace(m) => in_message(m, x),
         Process::At { line: _, body } => first_use(body, x),
+    }
+}
+
+/// A word.
+fn word(c: u32) -> u32
+    ensures same { result ≡ c }
+    ensures small { result < 2 ^ 32 }
+{
+    c
+}
+
+/// Does nothing: that each constant is a word is said by its type, and here by a contract.
+fn words(e: &Expression)
+    ensures { HasWords e.now }
+{
+    match e {
+        Expression::Constant(c) => {
+            word(*c);
+        }
+        Expression::Variable(_) => {}
+        Expression::Element {
+            array: _,
+            kind: _,
+            subscript,
+        } => words(subscript),
+        Expression::Checked {
+            below: _,
+            subscript,
+        } => words(subscript),
+        Expression::Binary {
+            operator: _,
+            left,
+            right,
+        } => {
+            words(left);
+            words(right);
+        }
+        Expression::Complement(e) | Expression::Not(e) | Expression::LowByte(e) => words(e),
+        Expression::And(left, right) | Expression::Or(left, right) => {
+            words(left);
+            words(right);
+        }
+        Expression::Let {
+            name: _,
+            value,
+            within,
+        } => {
+            words(value);
+            words(within);
+        }
+    }
+}
+
+/// .. so of each value that is assigned.
+pub(crate) fn words_of_all(list: &[Assignment])
+    ensures { HaveWords list.now }
+{
+    match list {
+        [] => {}
+        [first, more @ ..] => {
+            words(&first.value);
+            words_of_all(more);
+        }
     }
 }

@@ -10,8 +10,9 @@ ghost use Rattle.tpw_occam_code.specs.Leading.{Makes, HasConstants};
 ghost use Rattle.tpw_occam_code.specs.Executing.{is_skip, with_item_word, chosen_lines, Begins, Starts, loop_end};
 ghost use Rattle.tpw_occam_code.specs.Executing.{Clears, Executes, Chooses, Repeats, first_use};
 ghost use Rattle.tpw_occam_code.specs.Moving.{ClearsWords, Moves};
+ghost use Rattle.tpw_occam_code.specs.Executing.{Remains, ChoosesKnown, RepeatsKnown};
 
-use crate::analysis::{First, first_use};
+use crate::analysis::{First, first_use, words_of_all};
 use crate::code::{Code, Step, Turns};
 use crate::emitter::{Emitter, Room, constant, counted, fact_of};
 use crate::expressions::branch;
@@ -142,11 +143,15 @@ impl Emitter<'_> {
     ) -> Result<(), CodeFault>
         ensures knowledge { OnOk result (self.new ≡ self.old) }
         ensures executes { OnOk result (Executes self.old code.old code.new p.now) }
+        ensures remains { OnOk result (Remains self.old p.now) }
     {
         match p {
             Process::Skip => Ok(()),
             Process::Stop => code.instr(line, Instr::Seterr),
-            Process::Assign(list) => self.assignments(code, list, line),
+            Process::Assign(list) => {
+                words_of_all(list);
+                self.assignments(code, list, line)
+            }
             Process::Copy { to, from } => self.copy(code, *to, *from, line),
             Process::Sequence(first, second) => {
                 self.process(code, first, line)?;
@@ -222,6 +227,7 @@ impl Emitter<'_> {
     ) -> Result<(), CodeFault>
         ensures knowledge { OnOk result (self.new ≡ self.old) }
         ensures executes { OnOk result (Chooses self.old code.old code.new guard.now guarded.now rest.now) }
+        ensures remains { OnOk result (ChoosesKnown self.old guard.now guarded.now rest.now) }
     {
         if let Some(c) = self.constant_of(guard) {
             if c == 0 {
@@ -253,6 +259,7 @@ impl Emitter<'_> {
     ) -> Result<(), CodeFault>
         ensures knowledge { OnOk result (self.new ≡ self.old) }
         ensures executes { OnOk result (Repeats self.old code.old code.new index start count body.now) }
+        ensures remains { OnOk result (RepeatsKnown self.old index start count body.now) }
     {
         if count == 0 {
             return Ok(());
