@@ -1,5 +1,5 @@
 -- Assignments that are made one by one.
-use Rattle.std.proofs.Common.{take, drop, ◌≡◌, ◌≢◌, ◌⊎◌, inl, inr, ◌+◌, ◌^◌, ◌≤◌, ◌<◌, [], ◌∷◌, ◌++◌, ℕ, zero, suc, List, length, map, Option, Some, None, Bool, false, true, nat_eq, nat_lt, refl, ap, sym, subst, ◌∙◌, arith}
+use Rattle.std.proofs.Common.{take, drop, ◌≡◌, ◌≢◌, ◌⊎◌, inl, inr, ◌+◌, ◌^◌, ◌≤◌, ◌<◌, [], ◌∷◌, ◌++◌, ℕ, zero, suc, List, length, map, Option, Some, None, IfSome, Bool, false, true, nat_eq, nat_lt, refl, ap, sym, subst, ◌∙◌, arith}
 use Rattle.std.specs.Prelude.{slice_index, slice_set, slice_index_or, ◌||◌, ◌&&◌, not, IsTrue, if◌then◌else◌}
 use Rattle.std.specs.List.{list_any, list_all}
 use Rattle.std.proofs.Math.Bool.{or_assoc, or_comm, or-false}
@@ -233,3 +233,7 @@ picks_assigned kinds _ words _ _ _ s (before all one first rest less precedes ot
     (picks_assigned kinds all words one rest less s others)
     ∙ sym (pending_after kinds all words (assignment_at all one.number) first true i.word v.word (v.flag || i.flag) s
     (assigned kinds (pending all words less) (assigned kinds (a ∷ []) s)) precedes)
+
+pub some_weaker : {A : Type 0} (o : Option A) (P Q : A → Type 0) → ((x : A) → P x → Q x) → IfSome o P → IfSome o Q
+some_weaker None P Q f h = tt
+some_weaker (Some x) P Q f h = f x h

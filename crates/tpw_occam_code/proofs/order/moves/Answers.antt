@@ -1,6 +1,9 @@
-use Rattle.std.proofs.Common.{refl, ap, sym, subst, ◌∙◌, ◌≡◌, List, [], ◌∷◌, ◌++◌, append_assoc}
+use Rattle.std.proofs.Common.{refl, ap, sym, subst, ◌∙◌, ◌≡◌, List, [], ◌∷◌, ◌++◌, append_assoc, arith}
 use Rattle.std.proofs.lemmas.List.{append-nil}
+use Rattle.std.proofs.lemmas.Bool.{eqb-true}
+use Rattle.std.specs.Prelude.{vec_len}
 use Rattle.tpw_occam_code.specs.Ordering.{Settles}
+use Rattle.tpw_occam_code.proofs.Matching.{none_of}
 use Rattle.tpw_occam_code.proofs.order.moves.Goals as goal
 
 pub loop-preserved : goal.loop-preserved
@@ -13,4 +16,5 @@ pub returns : goal.returns
 returns c =
     (c.in_ok-waiting.waiting.items, (c.in_ok-waiting.ensures,
     subst (λ l. Settles c.args.all.now c.in_ok-waiting.waiting.items l) (append-nil c.loop.moves.items)
-    (c.loop.invariant [] ?)))
+    (c.loop.invariant [] (none_of c.loop.waiting.items
+    (let zero = eqb-true (vec_len c.loop.waiting) 0 (sym c.if-not-is_empty.ensures) in omega (arith, zero, c.loop.waiting.ok.0))))))
