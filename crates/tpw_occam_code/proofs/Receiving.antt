@@ -166,7 +166,7 @@ module _ (k : Knowledge) (storages : List Storage) (scope : List Entry) (s : Sto
           → HasWord (Variable y) (slice_index (slice_set s.values x (element Word packet 0)) y) end
       by_test y named set none true e =
           subst (λ z. HasWord (Variable z) (slice_index (slice_set s.values x (element Word packet 0)) z) end) (eqb-true x y e)
-              (here ∙ ap (to_le_bytes w32) (sym (get_or-set_same s.values x (element Word packet 0) 0 within)))
+          (here ∙ ap (to_le_bytes w32) (sym (get_or-set_same s.values x (element Word packet 0) 0 within)))
       by_test y named set none false e =
           let differs : y ≢ x = λ same. eqb-false x y e (sym same) in
           bytes_same end.blocks m.blocks (Variable y) 0 4 (λ i. elsewhere (Variable x) (Variable y) i input e)
@@ -195,11 +195,11 @@ module _ (k : Knowledge) (storages : List Storage) (scope : List Entry) (s : Sto
           → HasArray b (slice_index_or (slice_set s.arrays a packet) b []) end
       by_test b named true e =
           subst (λ z. HasArray z (slice_index_or (slice_set s.arrays a packet) z []) end) (eqb-true a b e)
-              (subst (λ bs. HasArray a bs end) (sym (get_or-set_same s.arrays a packet [] within)) here)
+          (subst (λ bs. HasArray a bs end) (sym (get_or-set_same s.arrays a packet [] within)) here)
       by_test b named false e =
           let differs : b ≢ a = λ same. eqb-false a b e (sym same) in
           subst (λ bs. HasArray b bs end) (sym (get_or-set_other s.arrays a b packet [] differs))
-              (λ i h. elsewhere (Array a) (Array b) i input e ∙ matches.agrees.arrays b named i h)
+          (λ i h. elsewhere (Array a) (Array b) i input e ∙ matches.agrees.arrays b named i h)
 
 within_some : (xs : List ℕ) (i : ℕ) → 0 < slice_index xs i → i < length xs
 within_some [] i some = absurd (omega (arith, some))

@@ -205,7 +205,7 @@ received_knows k storages scope (place.Variable x) packet s stands there fits kn
         let same = eqb-true x y e in
         let fact : fact_at k x ≡ any_word = stands.variables x there.0 ∙ word_fact (kind_of k.kinds x) there.1 in
         subst (λ z. FitsFact (fact_at k z) (slice_index (slice_set s.values x (element Word packet 0)) z)) same
-            (rw fact (rw (get_or-set_same s.values x (element Word packet 0) 0 within) (any_fits (element Word packet 0) (word_small packet fits.bytes))))
+        (rw fact (rw (get_or-set_same s.values x (element Word packet 0) 0 within) (any_fits (element Word packet 0) (word_small packet fits.bytes))))
     by_test y named set false e =
         let differs : y ≢ x = λ same. eqb-false x y e (sym same) in
         rw (get_or-set_other s.values x y (element Word packet 0) 0 differs) (knows.knows.names y named set)

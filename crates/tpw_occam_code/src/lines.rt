@@ -6,8 +6,8 @@ ghost use Rattle.tpw_occam_code.specs.Carried.{operation_of};
 ghost use Rattle.tpw_occam_code.specs.Placing.{words_at, local_at, places, line_at, HasOperand, IsServed, IsPlaced};
 
 use crate::code::{CodeLine, Step, Turns};
-use crate::items::{Item, Placed, START};
 use crate::fault::CodeFault;
+use crate::items::{Item, Placed, START};
 use crate::layout::place_of;
 use crate::uses::{array_words, zeros};
 use std::alloc::{AllocError, Global};
@@ -44,12 +44,7 @@ fn used_word(placed: &[Placed], item: Item, word: u32) -> Result<i32, CodeFault>
 
 /// The local word of a word that is pointed at. What begins there is long enough: an array has its bytes, and zeros are
 /// as many as are copied.
-fn pointed_word(
-    worker: &Worker,
-    placed: &[Placed],
-    item: Item,
-    word: u32,
-) -> Result<i32, CodeFault>
+fn pointed_word(worker: &Worker, placed: &[Placed], item: Item, word: u32) -> Result<i32, CodeFault>
     ensures word { IfOk result (λ local. local ≡ pos (local_at placed.now item + word)) }
     ensures small { OnOk result (local_at placed.now item + word < 2 ^ 31) }
     ensures room { OnOk result (IsServed worker.now placed.now (Pointer item word)) }

@@ -31,12 +31,7 @@ fn input(code: &mut Code, line: u32, item: Item, bytes: u32) -> Result<(), CodeF
 
 impl Emitter<'_> {
     /// Receives the packet.
-    pub(crate) fn receive(
-        &self,
-        code: &mut Code,
-        place: Place,
-        line: u32,
-    ) -> Result<(), CodeFault>
+    pub(crate) fn receive(&self, code: &mut Code, place: Place, line: u32) -> Result<(), CodeFault>
         ensures { OnOk result (Receives self.now code.old code.new place) }
     {
         match place {
@@ -89,12 +84,7 @@ impl Emitter<'_> {
     }
 
     /// Sends a trace.
-    pub(crate) fn trace(
-        &mut self,
-        code: &mut Code,
-        m: &Message,
-        line: u32,
-    ) -> Result<(), CodeFault>
+    pub(crate) fn trace(&mut self, code: &mut Code, m: &Message, line: u32) -> Result<(), CodeFault>
         ensures knowledge { OnOk result (self.new ≡ self.old) }
         ensures traces { OnOk result (Traces self.old code.old code.new m.now) }
     {
@@ -102,12 +92,7 @@ impl Emitter<'_> {
     }
 
     /// Sends the result, and stops.
-    pub(crate) fn send(
-        &mut self,
-        code: &mut Code,
-        m: &Message,
-        line: u32,
-    ) -> Result<(), CodeFault>
+    pub(crate) fn send(&mut self, code: &mut Code, m: &Message, line: u32) -> Result<(), CodeFault>
         ensures { OnOk result (Sends self.old code.old code.new m.now) }
     {
         self.output(code, m, LINK0_OUTPUT, line)?;
