@@ -37,8 +37,7 @@ pub struct Compiled {
 /// What bytes are is below 256. It says so to proofs, and does nothing.
 fn know_bytes(_bytes: &[u8])
     ensures { (i : ℕ) → slice_index _bytes.now i < 256 }
-{
-}
+{}
 
 /// .. the bytes of an array, ..
 fn know_array(storage: &Storage)
