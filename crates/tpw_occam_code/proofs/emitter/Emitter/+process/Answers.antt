@@ -1,13 +1,10 @@
-use Rattle.std.specs.Prelude.{pos, ◌+ℤ◌, ◌-ℤ◌}
-use Rattle.tp_decode.specs.Words.{signed}
-use Rattle.std.proofs.Common.{◌≡◌, ◌<◌, ◌≤◌, ℕ, ◌^◌, ◌+◌, Bool, true, false, List, [], ◌∷◌, ◌++◌, Some, None, OnOk, refl, ap, sym, subst, ◌∙◌, arith, w32, to_z, of_z}
+use Rattle.std.proofs.Common.{◌≡◌, ◌<◌, ◌≤◌, ℕ, ◌^◌, ◌+◌, Bool, true, false, List, [], ◌∷◌, ◌++◌, Some, None, OnOk, refl, ap, sym, subst, ◌∙◌, arith}
 use Rattle.std.proofs.lemmas.Result.{on_ok_weaker, IfOk-weaker}
 use Rattle.tpw_occam_core.specs.Meaning.{kind_of}
 use Rattle.tpw_occam_code.specs.Agreement.{with_fact, fact_at, fact_of_kind, constant_fact, counted_fact}
 use Rattle.tpw_occam_code.specs.Code.{none_at, place_behind}
 use Rattle.tpw_occam_code.specs.Computing.{Decides, Binds, ComputesBinding}
 use Rattle.tpw_occam_code.specs.Executing.{Executes, Chooses, Repeats, Remains, ChoosesKnown, RepeatsKnown, HaveWords, Assigns, Traces, Clears, Starts, first_use, is_skip}
-use Rattle.std.proofs.lemmas.Int.{of_z-to_z}
 use Rattle.tpw_occam_code.proofs.Standing.{place_of}
 use Rattle.tpw_occam_code.proofs.Naming.{restored}
 use Rattle.tpw_occam_code.proofs.Executing.{skip_executes, stop_executes, sequence_executes, value_executes, variable_executes, array_executes, never_executes, always_executes, choose_executes, branch_executes}
@@ -275,13 +272,10 @@ pub repeat-returns-clause-executes : goal.repeat-returns-clause-executes
 repeat-returns-clause-executes t c =
     let k = c.args.self.now in
     let x = c.args.index in
-    let set : c.set_fact-2.new.self ≡ counted k x c.between.result = c.set_fact-2.ensures ∙ ap (λ f. with_fact x f k) c.counted.ensures in
-    repeat_many k c.args.code.now c.begin_loop.new.code c.process-2.new.code c.end_loop.new.code c.args.line x c.args.start c.args.count c.between.result c.args.body.now
+    let set : c.set_fact-2.new.self ≡ counted k x c.indices.result = c.set_fact-2.ensures ∙ ap (λ f. with_fact x f k) c.counted.ensures in
+    repeat_many k c.args.code.now c.begin_loop.new.code c.process-2.new.code c.end_loop.new.code c.args.line x c.args.start c.args.count c.indices.result c.args.body.now
     _ _ c.in_ok-end_loop.ensures refl refl c.here-head.ensures.place c.if-count-eq0.false c.ranges.start.fits
-    (λ turns n below. turns_contained c.args.start c.args.count _ _ c.between.result c.ranges.start.fits turns
-    (c.from-first.ensures ∙ ap (λ z. to_z w32 (of_z w32 z)) c.cast_signed.ensures ∙ ap (to_z w32) (of_z-to_z w32 c.args.start c.ranges.start.fits))
-    (ap (λ z. (z +ℤ c.from.result) -ℤ pos 1) (c.from-first.ensures ∙ ap (λ z. to_z w32 (of_z w32 z)) c.cast_signed.ensures ∙ ap (to_z w32) (of_z-to_z w32 c.args.start c.ranges.start.fits)) ∙ ap (λ z. (signed c.args.start +ℤ z) -ℤ pos 1) c.from.ensures)
-    c.between.ensures.contains n below)
+    (λ turns n below. turns_contained c.args.start c.args.count _ _ c.indices.result c.ranges.start.fits turns refl refl c.indices.ensures n below)
     c.in_ok-begin_loop.ensures
     (subst (λ k. Remains k c.args.body.now) set c.in_ok-process-2.ensures.remains)
     (subst (λ k. Executes k c.begin_loop.new.code c.process-2.new.code c.args.body.now) set c.in_ok-process-2.ensures.executes)
@@ -290,10 +284,7 @@ pub repeat-returns-clause-remains : goal.repeat-returns-clause-remains
 repeat-returns-clause-remains t c =
     let k = c.args.self.now in
     let x = c.args.index in
-    let set : c.set_fact-2.new.self ≡ counted k x c.between.result = c.set_fact-2.ensures ∙ ap (λ f. with_fact x f k) c.counted.ensures in
-    repeat_remains k x c.args.start c.args.count c.between.result c.args.body.now
-    (λ turns n below. turns_contained c.args.start c.args.count _ _ c.between.result c.ranges.start.fits turns
-    (c.from-first.ensures ∙ ap (λ z. to_z w32 (of_z w32 z)) c.cast_signed.ensures ∙ ap (to_z w32) (of_z-to_z w32 c.args.start c.ranges.start.fits))
-    (ap (λ z. (z +ℤ c.from.result) -ℤ pos 1) (c.from-first.ensures ∙ ap (λ z. to_z w32 (of_z w32 z)) c.cast_signed.ensures ∙ ap (to_z w32) (of_z-to_z w32 c.args.start c.ranges.start.fits)) ∙ ap (λ z. (signed c.args.start +ℤ z) -ℤ pos 1) c.from.ensures)
-    c.between.ensures.contains n below)
+    let set : c.set_fact-2.new.self ≡ counted k x c.indices.result = c.set_fact-2.ensures ∙ ap (λ f. with_fact x f k) c.counted.ensures in
+    repeat_remains k x c.args.start c.args.count c.indices.result c.args.body.now
+    (λ turns n below. turns_contained c.args.start c.args.count _ _ c.indices.result c.ranges.start.fits turns refl refl c.indices.ensures n below)
     (subst (λ k. Remains k c.args.body.now) set c.in_ok-process-2.ensures.remains)
