@@ -20,3 +20,4 @@ pub mod Matching
 pub mod Reading
 pub mod KeptParts
 pub mod Ordering
+pub mod Moving

@@ -216,6 +216,7 @@ impl Emitter<'_> {
         ensures knowledge { OnOk result (self.new ≡ self.old) }
         ensures makes { OnOk result (room.registers ≡ 3
             → MakesOne self.old code.old code.new assignment.now number is_kept room.kept) }
+        ensures small { OnOk result (is_kept ≡ false → HasSmallValue self.old assignment.now.value) }
     {
         if is_kept {
             code.emit(room.line, Step::Load(Item::Temporary(number), 0))?;
