@@ -23,17 +23,18 @@ use Rattle.tpw_occam_core.specs.Sound.{is_name, is_array, is_sound_target, is_so
 use Rattle.tpw_occam_code.specs.declared.range.Range.{Range}
 use Rattle.tpw_occam_code.specs.Ranges.{from_to, Contains}
 use Rattle.tpw_occam_code.specs.Values.{scaled}
-use Rattle.tpw_occam_code.specs.Agreement.{Knowledge, any_word, fact_at, fact_of_kind, FitsFact, Knows}
+use Rattle.tpw_occam_code.specs.Agreement.{Knowledge, any_word, fact_at, fact_of_kind, FitsFact, Knows, Agrees, LeavesItems, Stays}
+use Rattle.tpw_occam_code.specs.declared.items.Item.{Item}
 use Rattle.tpw_occam_code.specs.declared.items.Item.TheVariants as item
 use Rattle.tpw_occam_code.specs.declared.code.Step.TheVariants.{Store as StoreTo}
 use Rattle.tpw_occam_code.specs.declared.order.Waiting.{Waiting}
 use Rattle.tpw_occam_code.specs.declared.order.Move.{Move}
 use Rattle.tpw_occam_code.specs.declared.order.Move.TheVariants.{Keep, Make}
 use Rattle.tpw_occam_code.specs.Code.{Lines, followed_by, line_of}
-use Rattle.tpw_occam_code.specs.Blocks.{bytes_at}
+use Rattle.tpw_occam_code.specs.Blocks.{with_bytes, bytes_at}
 use Rattle.tpw_occam_code.specs.Symbolic.{Machine}
 use Rattle.tpw_occam_code.specs.Leading.{Does, HasWord}
-use Rattle.tpw_occam_code.specs.Computing.{MayStand, ComputesTo}
+use Rattle.tpw_occam_code.specs.Computing.{MayStand, ComputesTo, reads}
 use Rattle.tpw_occam_code.specs.Executing.{sources_read, is_target, IsProcessPlace, KnowsState, Matches, LeavesCounts, Assigns}
 use Rattle.tpw_occam_code.specs.Assigning.{element_bytes, HasShape, taken, taken_value, unset_but, unset_by, HasSmallValue, MayMake, MayMakeAll, LeavesKept, source_of, after_one, MakesOne}
 use Rattle.tpw_occam_code.specs.Ordering.{PrecedesIn, assignment_at, waits, waiting_at, Picks, picked, before, Marks, marked, behind, AreAll, Settles, SettleAll, pending_one, pending, HasKept, MakesMoves, MakesMove, KeepsWord, KeepsValue}
@@ -47,7 +48,7 @@ use Rattle.tpw_occam_code.proofs.Reading.{set_beyond, value_flagged, subscript_f
 use Rattle.tpw_occam_code.proofs.Storing.{element_written, does_store}
 use Rattle.tpw_occam_code.proofs.Matching.{knows_shape, does_same, matches_less, knows_unset, make_takes, make_stands, word_stored, run_reads, run_sets}
 use Rattle.tpw_occam_code.proofs.KeptParts.{stored_shape, matches_left, items_leave, knows_flagged}
-use Rattle.tpw_occam_code.proofs.Ordering.{length_stored, picks_assigned}
+use Rattle.tpw_occam_code.proofs.Ordering.{length_stored, picks_assigned, after}
 
 none_some : {c : ℕ} → ◌≡◌ {A = Option ℕ} None (Some c) → ⊥
 none_some e = cc
@@ -176,6 +177,14 @@ picks_all P _ words _ _ _ (before all one first rest left precedes others) =
     ap (λ b. P (pending_one all words first) && b) (picks_all P all words one rest left others)
     ∙ swap_and (P (pending_one all words first)) (P (pending_one all words one)) (list_all P (pending all words left))
 
+and_both : (a b : Bool) → a ≡ true → b ≡ true → (a && b) ≡ true
+and_both true b h g = g
+and_both false b h g = h
+
+or_none : (a b : Bool) → a ≡ false → b ≡ false → (a || b) ≡ false
+or_none false b h g = g
+or_none true b h g = h
+
 -- what is kept of one that waits
 abbrev pub IsHeld : List Kind → List Assignment → (ℕ → ℕ) → (temporaries : ℕ) → Waiting → Machine → Type 0
 IsHeld kinds all words temporaries w m = w.is_kept ≡ true → (w.number < temporaries)
@@ -268,5 +277,257 @@ move_makes k old new all i is_kept temporaries has_small makes made more rest wa
           (matches_less k storages scope (unset_by (pending all words left) next_unset) (unset_by (pending all words waiting) unset) _ end
           (λ x h. both_set (unset x) (is_target x a.target) (list_any (λ b. is_target x b.target) (pending all words left))
           (sym (ap (λ b. unset x && not b) (picks_any (λ b. is_target x b.target) all words (waits i is_kept) waiting left picks)) ∙ h)) two.0),
+      counts_then scope m middle end after.2 two.1,
+    ))
+
+-- ---- one whose value is kept
+
+pub value_keeps : (k : Knowledge) (old between new : Lines) (source : ℕ) (a : Assignment) (i temporaries : ℕ)
+    → ComputesTo k old between a.value (taken_value k.kinds a) 3 temporaries
+    → new ≡ followed_by between (line_of source (StoreTo (item.Temporary i) 0) ∷ [])
+    → KeepsValue k old new a i temporaries
+value_keeps k old between new source a i temporaries computes save storages scope unset s place makes knows =
+    let known = knows_unset k scope unset s knows.knows in
+    let v = value_of a.value s in
+    let w = taken k.kinds a.target v.word in
+    let kept : Does k.arrays old new (Agrees k scope unset s)
+    (λ m end. LeavesItems scope 0 m end × (end.error ≡ (m.error || v.flag)) × HasWord (item.Temporary i) w end
+    × ((t at : ℕ) → t < temporaries → t ≢ i → end.blocks (item.Temporary t) at ≡ m.blocks (item.Temporary t) at)) =
+    does_both k.arrays old between new _ _ _ _ _
+    (computes storages scope unset s place.place (make_stands k storages scope unset a makes) (suffices_two k 3 a.value (omega arith) (omega arith)) known)
+    (does_store k.arrays between new source (item.Temporary i) 0 w save)
+    (λ m middle agrees after. after.0.areg)
+    (λ m middle end agrees after popped.
+    let writes = popped.writes in (
+      record {
+        blocks = λ other at stays. ap (λ b. b other at) writes.blocks ∙ stays_written scope i w other at middle stays
+            ∙ after.1.blocks other at (stays_more scope temporaries other stays);
+        to_come = writes.to_come ∙ after.1.to_come;
+        sent = writes.sent ∙ after.1.sent;
+        traced = writes.traced ∙ after.1.traced;
+      },
+      writes.error ∙ after.0.error,
+      ap (λ b. bytes_at b (item.Temporary i) 0 4) writes.blocks ∙ word_stored (item.Temporary i) w middle.blocks,
+      (λ t at less differs. ap (λ b. b (item.Temporary t) at) writes.blocks
+      ∙ other_item (item.Temporary i) (item.Temporary t) 0 at (to_le_bytes w32 w) middle.blocks (apart i t differs)
+      ∙ after.1.blocks (item.Temporary t) at less),
+    )) in
+    does_less k.arrays old new _ _ _ _ (does_same k.arrays old new _ _ kept)
+    (λ m said. said.agrees)
+    (λ m end said after. (
+      matches_left k storages scope unset s 0 v.flag m end said after.0.0 after.0.1 after.1 after.2,
+      record { counts = (items_leave scope 0 m end after.0.0).counts; held = after.0.2; others = after.0.3 },
+    ))
+  where
+    apart : (i t : ℕ) → t ≢ i → nat_eq i t ≡ false
+    apart i t differs = by_test (nat_eq i t) refl
+      where
+        by_test : (b : Bool) → nat_eq i t ≡ b → nat_eq i t ≡ false
+        by_test false e = e
+        by_test true e = absurd (differs (sym (eqb-true i t e)))
+
+    stays_written : (scope : List Entry) (i w : ℕ) (other : Item) (at : ℕ) (m : Machine) → Stays scope 0 other
+        → with_bytes (item.Temporary i) 0 (to_le_bytes w32 w) m.blocks other at ≡ m.blocks other at
+    stays_written scope i w (item.Variable x) at m stays = other_item (item.Temporary i) (item.Variable x) 0 at (to_le_bytes w32 w) m.blocks refl
+    stays_written scope i w (item.Temporary t) at m stays = absurd (omega (arith, stays))
+    stays_written scope i w (item.Constant c) at m stays = other_item (item.Temporary i) (item.Constant c) 0 at (to_le_bytes w32 w) m.blocks refl
+    stays_written scope i w (item.Array a) at m stays = other_item (item.Temporary i) (item.Array a) 0 at (to_le_bytes w32 w) m.blocks refl
+    stays_written scope i w item.Zeros at m stays = other_item (item.Temporary i) item.Zeros 0 at (to_le_bytes w32 w) m.blocks refl
+
+    stays_more : (scope : List Entry) (temporaries : ℕ) (other : Item) → Stays scope 0 other → Stays scope temporaries other
+    stays_more scope temporaries (item.Variable x) stays = stays
+    stays_more scope temporaries (item.Temporary t) stays = absurd (omega (arith, stays))
+    stays_more scope temporaries (item.Constant c) stays = tt
+    stays_more scope temporaries (item.Array a) stays = tt
+    stays_more scope temporaries item.Zeros stays = tt
+
+-- a word for one more number
+abbrev pub with_kept : ℕ → ℕ → (ℕ → ℕ) → ℕ → ℕ
+with_kept i word words n = if nat_eq n i then word else words n
+
+kept_same : (i word : ℕ) (words : ℕ → ℕ) → with_kept i word words i ≡ word
+kept_same i word words = rw (eq-eqb i i refl) refl
+
+kept_other : (i word : ℕ) (words : ℕ → ℕ) (n : ℕ) → n ≢ i → with_kept i word words n ≡ words n
+kept_other i word words n differs = by_test (nat_eq n i) refl
+  where
+    by_test : (b : Bool) → nat_eq n i ≡ b → with_kept i word words n ≡ words n
+    by_test true e = absurd (differs (eqb-true n i e))
+    by_test false e = rw e refl
+
+kept_short : (i word : ℕ) (words : ℕ → ℕ) → word < 2 ^ 32 → ((n : ℕ) → words n < 2 ^ 32) → (n : ℕ) → with_kept i word words n < 2 ^ 32
+kept_short i word words h small n = by_test (nat_eq n i)
+  where
+    by_test : (b : Bool) → (if b then word else words n) < 2 ^ 32
+    by_test true = h
+    by_test false = small n
+
+other_pending : (all : List Assignment) (words : ℕ → ℕ) (i word : ℕ) (w : Waiting) → w.number ≢ i
+    → pending_one all (with_kept i word words) w ≡ pending_one all words w
+other_pending all words i word w differs =
+    ap (λ n. record {
+      target = (assignment_at all w.number).target;
+      value = if w.is_kept then Constant n else (assignment_at all w.number).value;
+    }) (kept_other i word words w.number differs)
+
+others_pending : (all : List Assignment) (words : ℕ → ℕ) (i word : ℕ) (rest : List Waiting)
+    → ((at : ℕ) → at < length rest → (waiting_at rest at).number ≢ i) → pending all (with_kept i word words) rest ≡ pending all words rest
+others_pending all words i word [] differ = refl
+others_pending all words i word (w ∷ rest) differ =
+    ap (λ c. c ∷ pending all (with_kept i word words) rest) (other_pending all words i word w (differ 0 (omega arith)))
+    ∙ ap (λ l. pending_one all words w ∷ l) (others_pending all words i word rest (λ at less. differ (suc at) (omega (arith, less))))
+
+-- the assignment of the one that is marked, before and after
+abbrev pub kept_one : List Assignment → ℕ → ℕ → Assignment
+kept_one all i word = record { target = (assignment_at all i).target; value = Constant word }
+
+kept_is : (all : List Assignment) (words : ℕ → ℕ) (i word : ℕ) → pending_one all (with_kept i word words) (waits i true) ≡ kept_one all i word
+kept_is all words i word = ap (λ n. kept_one all i n) (kept_same i word words)
+
+-- what holds of each of those that are pending holds once one is marked
+marks_all : (P : Assignment → Bool) (all : List Assignment) (words : ℕ → ℕ) (i word : ℕ) (waiting left : List Waiting)
+    → (P (assignment_at all i) ≡ true → P (kept_one all i word) ≡ true) → Marks i waiting left
+    → list_all P (pending all words waiting) ≡ true → list_all P (pending all (with_kept i word words) left) ≡ true
+marks_all P all words _ word _ _ one (marked i rest differ) h =
+    and_both _ _ (ap P (kept_is all words i word) ∙ one (and_first _ _ h))
+    (ap (list_all P) (others_pending all words i word rest differ) ∙ and_second (P (assignment_at all i)) _ h)
+marks_all P all words _ word _ _ one (behind i first rest left differs more) h =
+    and_both _ _ (ap P (other_pending all words i word first differs) ∙ and_first _ _ h)
+    (marks_all P all words i word rest left one more (and_second (P (pending_one all words first)) _ h))
+
+marks_none : (P : Assignment → Bool) (all : List Assignment) (words : ℕ → ℕ) (i word : ℕ) (waiting left : List Waiting)
+    → (P (assignment_at all i) ≡ false → P (kept_one all i word) ≡ false) → Marks i waiting left
+    → list_any P (pending all words waiting) ≡ false → list_any P (pending all (with_kept i word words) left) ≡ false
+marks_none P all words _ word _ _ one (marked i rest differ) h =
+    or_none _ _ (ap P (kept_is all words i word) ∙ one (or_first _ _ h))
+    (ap (list_any P) (others_pending all words i word rest differ) ∙ or_second (P (assignment_at all i)) _ h)
+marks_none P all words _ word _ _ one (behind i first rest left differs more) h =
+    or_none _ _ (ap P (other_pending all words i word first differs) ∙ or_first _ _ h)
+    (marks_none P all words i word rest left one more (or_second (P (pending_one all words first)) _ h))
+
+-- .. and of the one that is marked
+marks_one : (P : Assignment → Bool) (all : List Assignment) (words : ℕ → ℕ) (i : ℕ) (waiting left : List Waiting)
+    → Marks i waiting left → list_all P (pending all words waiting) ≡ true → P (assignment_at all i) ≡ true
+marks_one P all words _ _ _ (marked i rest differ) h = and_first _ _ h
+marks_one P all words _ _ _ (behind i first rest left differs more) h =
+    marks_one P all words i rest left more (and_second (P (pending_one all words first)) _ h)
+
+marks_one_none : (P : Assignment → Bool) (all : List Assignment) (words : ℕ → ℕ) (i : ℕ) (waiting left : List Waiting)
+    → Marks i waiting left → list_any P (pending all words waiting) ≡ false → P (assignment_at all i) ≡ false
+marks_one_none P all words _ _ _ (marked i rest differ) h = or_first _ _ h
+marks_one_none P all words _ _ _ (behind i first rest left differs more) h =
+    marks_one_none P all words i rest left more (or_second (P (pending_one all words first)) _ h)
+
+marks_same : (P : Assignment → Bool) (all : List Assignment) (words : ℕ → ℕ) (i word : ℕ) (waiting left : List Waiting)
+    → P (kept_one all i word) ≡ P (assignment_at all i) → Marks i waiting left
+    → list_any P (pending all (with_kept i word words) left) ≡ list_any P (pending all words waiting)
+marks_same P all words _ word _ _ one (marked i rest differ) =
+    ap (λ b. b || list_any P (pending all (with_kept i word words) rest)) (ap P (kept_is all words i word) ∙ one)
+    ∙ ap (λ l. P (assignment_at all i) || list_any P l) (others_pending all words i word rest differ)
+marks_same P all words _ word _ _ one (behind i first rest left differs more) =
+    ap (λ c. P c || list_any P (pending all (with_kept i word words) left)) (other_pending all words i word first differs)
+    ∙ ap (λ b. P (pending_one all words first) || b) (marks_same P all words i word rest left one more)
+
+flagged_twice : (f g : Bool) (s : Store) → flagged g (flagged f s) ≡ flagged (f || g) s
+flagged_twice f g s = ap (λ h. record s { flag = h }) (or_assoc s.flag f g)
+
+-- where a value is kept, it is as if it were evaluated later
+marks_assigned : (kinds : List Kind) (all : List Assignment) (words : ℕ → ℕ) (i : ℕ) (waiting left : List Waiting) (s : Store) → Marks i waiting left
+    → assigned kinds (pending all (with_kept i (value_of (assignment_at all i).value s).word words) left) (flagged (value_of (assignment_at all i).value s).flag s)
+    ≡ assigned kinds (pending all words waiting) s
+marks_assigned kinds all words _ _ _ s (marked i rest differ) =
+    let one = assignment_at all i in
+    let v = value_of one.value s in
+    let j = subscript_of one.target s in
+    let t = flagged v.flag s in
+    let r = assigned kinds (pending all words rest) s in
+    ap (λ c. assigned kinds (c ∷ pending all (with_kept i v.word words) rest) t) (kept_is all words i v.word)
+    ∙ ap (λ l. assigned kinds (kept_one all i v.word ∷ l) t) (others_pending all words i v.word rest differ)
+    ∙ ap (λ (y : Answer). after kinds one.target y.word v.word y.flag (assigned kinds (pending all words rest) t)) (subscript_flagged one.target v.flag s)
+    ∙ ap (after kinds one.target j.word v.word j.flag) (assigned_flagged kinds (pending all words rest) v.flag s)
+    ∙ ap (flagged j.flag) (stored_flagged kinds one.target j.word v.word v.flag r)
+    ∙ flagged_twice v.flag j.flag (stored kinds one.target j.word v.word r)
+marks_assigned kinds all words _ _ _ s (behind i first rest left differs more) =
+    let v = value_of (assignment_at all i).value s in
+    let c = pending_one all words first in
+    let t = flagged v.flag s in
+    let r = assigned kinds (pending all (with_kept i v.word words) left) t in
+    ap (λ d. assigned kinds (d ∷ pending all (with_kept i v.word words) left) t) (other_pending all words i v.word first differs)
+    ∙ ap (λ (y : Answer). after kinds c.target (subscript_of c.target t).word y.word (y.flag || (subscript_of c.target t).flag) r) (value_flagged c.value v.flag s)
+    ∙ ap (λ (y : Answer). after kinds c.target y.word (value_of c.value s).word ((value_of c.value s).flag || y.flag) r) (subscript_flagged c.target v.flag s)
+    ∙ ap (after kinds c.target (subscript_of c.target s).word (value_of c.value s).word ((value_of c.value s).flag || (subscript_of c.target s).flag))
+    (marks_assigned kinds all words i rest left s more)
+
+other_held : (kinds : List Kind) (all : List Assignment) (words : ℕ → ℕ) (temporaries i v : ℕ) (w : Waiting) (m end : Machine)
+    → w.number ≢ i → ((t at : ℕ) → t < temporaries → t ≢ i → end.blocks (item.Temporary t) at ≡ m.blocks (item.Temporary t) at)
+    → IsHeld kinds all words temporaries w m → IsHeld kinds all (with_kept i v words) temporaries w end
+other_held kinds all words temporaries i v w m end differs others has e =
+    let held = has e in (
+      held.0,
+      subst (λ n. HasWord (item.Temporary w.number) (taken kinds (assignment_at all w.number).target n) end) (sym (kept_other i v words w.number differs))
+          (bytes_same end.blocks m.blocks (item.Temporary w.number) 0 4 (λ at. others w.number at held.0 differs) ∙ held.1),
+    )
+
+others_held : (kinds : List Kind) (all : List Assignment) (words : ℕ → ℕ) (temporaries i v : ℕ) (rest : List Waiting) (m end : Machine)
+    → ((at : ℕ) → at < length rest → (waiting_at rest at).number ≢ i)
+    → ((t at : ℕ) → t < temporaries → t ≢ i → end.blocks (item.Temporary t) at ≡ m.blocks (item.Temporary t) at)
+    → HasKept kinds all words temporaries rest m → HasKept kinds all (with_kept i v words) temporaries rest end
+others_held kinds all words temporaries i v [] m end differ others has = tt
+others_held kinds all words temporaries i v (w ∷ rest) m end differ others has = (
+  other_held kinds all words temporaries i v w m end (differ 0 (omega arith)) others has.0,
+  others_held kinds all words temporaries i v rest m end (λ at less. differ (suc at) (omega (arith, less))) others has.1,
+)
+
+marks_kept : (scope : List Entry) (kinds : List Kind) (all : List Assignment) (words : ℕ → ℕ) (temporaries i v : ℕ) (waiting left : List Waiting) (m end : Machine)
+    → i < temporaries → KeepsWord scope temporaries i (taken kinds (assignment_at all i).target v) m end → Marks i waiting left
+    → HasKept kinds all words temporaries waiting m → HasKept kinds all (with_kept i v words) temporaries left end
+marks_kept scope kinds all words temporaries _ v _ _ m end there keeps (marked i rest differ) has = (
+  (λ e. (there, subst (λ n. HasWord (item.Temporary i) (taken kinds (assignment_at all i).target n) end) (sym (kept_same i v words)) keeps.held)),
+  others_held kinds all words temporaries i v rest m end differ keeps.others has.1,
+)
+marks_kept scope kinds all words temporaries _ v _ _ m end there keeps (behind i first rest left differs more) has = (
+  other_held kinds all words temporaries i v first m end differs keeps.others has.0,
+  marks_kept scope kinds all words temporaries i v rest left m end there keeps more has.1,
+)
+
+pub move_keeps : (k : Knowledge) (old new : Lines) (all : List Assignment) (i temporaries : ℕ) → i < temporaries
+    → HasSmallValue k (assignment_at all i).value → KeepsValue k old new (assignment_at all i) i temporaries
+    → MakesMove k old new all (Keep i) temporaries
+move_keeps k old new all i temporaries there has_small keeps made more rest waiting words settles small storages scope unset s place may knows =
+    let left = settles.0 in
+    let marks : Marks i waiting left = settles.1.0 in
+    let one = assignment_at all i in
+    let known = knows_unset k scope unset s knows.knows in
+    let v = value_of one.value s in
+    let count = length k.kinds in
+    let one_may : MayMake k storages scope unset one = record {
+      sound = marks_one (is_sound_assignment count storages scope) all words i waiting left marks may.sound;
+      assigned = λ x h. marks_one_none (sources_read x) all words i waiting left marks (may.assigned x h);
+    } in
+    let words_then = with_kept i v.word words in
+    let word_small : v.word < 2 ^ 32 = has_small storages scope unset s place.place (make_stands k storages scope unset one one_may) known in
+    let left_may : MayMakeAll k storages scope unset (pending all words_then left) = record {
+      sound = marks_all (is_sound_assignment count storages scope) all words i v.word waiting left
+          (λ h. and_both _ _ (and_first _ _ h) refl) marks may.sound;
+      assigned = λ x h. marks_none (sources_read x) all words i v.word waiting left
+          (λ e. or_second (reads one.value x) _ e) marks (may.assigned x h);
+    } in
+    does_both k.arrays old new made _ _ _ _ _
+    (does_less k.arrays old new _ _ (λ m. Matches k storages scope unset s m × HasKept k.kinds all words temporaries waiting m)
+    (λ m end. Matches k storages scope unset (flagged v.flag s) end × HasKept k.kinds all words_then temporaries left end × LeavesCounts scope m end)
+    (keeps storages scope unset s place one_may knows) (λ m said. said.0)
+    (λ m end said after. (
+      after.0,
+      marks_kept scope k.kinds all words temporaries i v.word waiting left m end there after.1 marks said.1,
+      after.1.counts,
+    )))
+    (rest left words_then settles.1.1 (kept_short i v.word words word_small small) storages scope unset (flagged v.flag s) place left_may
+    (knows_flagged k scope v.flag s knows))
+    (λ m middle said after. (after.0, after.1))
+    (λ m middle end said after two. (
+      subst (λ z. Matches k storages scope (unset_by (pending all words waiting) unset) z end)
+          (marks_assigned k.kinds all words i waiting left s marks)
+          (matches_less k storages scope (unset_by (pending all words_then left) unset) (unset_by (pending all words waiting) unset) _ end
+          (λ x h. ap (λ b. unset x && not b) (marks_same (λ b. is_target x b.target) all words i v.word waiting left refl marks) ∙ h) two.0),
       counts_then scope m middle end after.2 two.1,
     ))

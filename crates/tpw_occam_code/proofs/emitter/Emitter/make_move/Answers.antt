@@ -4,11 +4,15 @@ use Rattle.tpw_occam_code.specs.Assigning.{MakesOne, HasSmallValue}
 use Rattle.tpw_occam_code.specs.Ordering.{MakesMove, assignment_at}
 use Rattle.tpw_occam_code.proofs.Standing.{on_ok_both}
 use Rattle.tpw_occam_code.proofs.Ordering.{get_same}
-use Rattle.tpw_occam_code.proofs.Moving.{move_makes}
+use Rattle.tpw_occam_code.proofs.Moving.{move_makes, move_keeps}
 use Rattle.tpw_occam_code.proofs.emitter.Emitter.make_move.Goals as goal
 
 pub returns-in-Keep-clause-makes : goal.returns-in-Keep-clause-makes
-returns-in-Keep-clause-makes c = ?
+returns-in-Keep-clause-makes c =
+    on_ok_weaker c.keep.result (λ all three.
+    let k = c.args.self.now in
+    rw c.in-Keep.is (move_keeps k c.args.code.now c.keep.new.code c.args.all.now c.in-Keep.i c.args.room.kept all.0 all.1.0 (all.1.1 three)))
+    (on_ok_both _ _ c.keep.result c.keep.ensures.there (on_ok_both _ _ c.keep.result c.keep.ensures.small c.keep.ensures.keeps))
 
 pub returns-else-i-all-clause-makes : goal.returns-else-i-all-clause-makes
 returns-else-i-all-clause-makes c =
