@@ -531,3 +531,60 @@ move_keeps k old new all i temporaries there has_small keeps made more rest wait
           (λ x h. ap (λ b. unset x && not b) (marks_same (λ b. is_target x b.target) all words i v.word waiting left refl marks) ∙ h) two.0),
       counts_then scope m middle end after.2 two.1,
     ))
+
+-- ---- all moves
+
+pub moves_none : (k : Knowledge) (code : Lines) (all : List Assignment) (temporaries : ℕ) → MakesMoves k code code all [] temporaries
+moves_none k code all temporaries waiting words settles small storages scope unset s place may knows =
+    does_less k.arrays code code _ _ _ _ (does_nothing k.arrays code) (λ m said. tt)
+    (λ m end said is. subst
+    (λ z. Matches k storages scope (unset_by (pending all words waiting) unset) (assigned k.kinds (pending all words waiting) s) z × LeavesCounts scope m z) (sym is) (
+      subst (λ w. Matches k storages scope (unset_by (pending all words w) unset) (assigned k.kinds (pending all words w) s) m) (sym settles)
+          (matches_less k storages scope unset (unset_by [] unset) s m (λ x h. still (unset x) h) said.0),
+      record { counts = λ x j there. refl; to_come = refl; sent = refl },
+    ))
+  where
+    still : (u : Bool) → (u && true) ≡ false → u ≡ false
+    still false h = refl
+    still true h = h
+
+pending_from : (f : Waiting → Assignment) (waiting : List Waiting) (all : List Assignment) → length waiting ≡ length all
+    → ((i : ℕ) → i < length all → f (waiting_at waiting i) ≡ assignment_at all i) → map f waiting ≡ all
+pending_from f [] [] long same = refl
+pending_from f [] (a ∷ all) long same = absurd (omega (arith, long))
+pending_from f (w ∷ waiting) [] long same = absurd (omega (arith, long))
+pending_from f (w ∷ waiting) (a ∷ all) long same =
+    ap (λ c. c ∷ map f waiting) (same 0 (omega arith))
+    ∙ ap (λ l. a ∷ l) (pending_from f waiting all (omega (arith, long)) (λ i less. same (suc i) (omega (arith, less))))
+
+none_kept : (kinds : List Kind) (all : List Assignment) (words : ℕ → ℕ) (temporaries : ℕ) (waiting : List Waiting) (m : Machine)
+    → ((i : ℕ) → i < length waiting → (waiting_at waiting i).is_kept ≡ false) → HasKept kinds all words temporaries waiting m
+none_kept kinds all words temporaries [] m none = tt
+none_kept kinds all words temporaries (w ∷ waiting) m none = (
+  (λ e. absurd (true_false (sym e ∙ none 0 (omega arith)))),
+  none_kept kinds all words temporaries waiting m (λ i less. none (suc i) (omega (arith, less))),
+)
+  where
+    true_false : ◌≡◌ {A = Bool} true false → ⊥
+    true_false e = cc
+
+-- once all are made, one by one, it is as if they were made together
+pub moves_assign : (k : Knowledge) (old new : Lines) (all : List Assignment) (moves : List Move) (temporaries : ℕ) → SettleAll all moves
+    → MakesMoves k old new all moves temporaries → Assigns k old new all
+moves_assign k old new all moves temporaries settle makes storages scope unset s place may knows =
+    let waiting = settle.0 in
+    let are : AreAll (length all) waiting = settle.1.0 in
+    let words : ℕ → ℕ = λ n. 0 in
+    let same : pending all words waiting ≡ all =
+    pending_from (pending_one all words) waiting all are.long (λ i less. ap (pending_one all words) (are.each i less)) in
+    let all_may : MayMakeAll k storages scope unset all = record { sound = may.sound; assigned = λ x h. run_reads storages scope unset _ all x may h } in
+    does_less k.arrays old new _ _ _ _
+    (subst (λ l. Does k.arrays old new (λ m. Matches k storages scope unset s m × HasKept k.kinds all words temporaries waiting m)
+    (λ m end. Matches k storages scope (unset_by l unset) (assigned k.kinds l s) end × LeavesCounts scope m end)) same
+    (makes waiting words settle.1.1 (λ n. omega arith) storages scope unset s place (subst (λ l. MayMakeAll k storages scope unset l) (sym same) all_may) knows))
+    (λ m said. (said, none_kept k.kinds all words temporaries waiting m (λ i less.
+    let long = are.long in ap (λ (w : Waiting). w.is_kept) (are.each i (omega (arith, less, long))))))
+    (λ m end said after. (
+      matches_less k storages scope (unset_by all unset) _ _ end (λ x h. run_sets scope unset _ all x may h) after.0,
+      after.1,
+    ))

@@ -12,3 +12,4 @@ pub mod Computing
 pub mod Executing
 pub mod Assigning
 pub mod Ordering
+pub mod Registers
