@@ -21,3 +21,4 @@ pub mod Reading
 pub mod KeptParts
 pub mod Ordering
 pub mod Moving
+pub mod Registers

@@ -142,7 +142,7 @@ knows_stored k storages scope (target.Element a view e) i word s place sound sma
       sizes = shape.sizes;
     }
 
-counts_then : (scope : List Entry) (m middle end : Machine) → LeavesCounts scope m middle → LeavesCounts scope middle end → LeavesCounts scope m end
+pub counts_then : (scope : List Entry) (m middle end : Machine) → LeavesCounts scope m middle → LeavesCounts scope middle end → LeavesCounts scope m end
 counts_then scope m middle end one two = record {
   counts = λ x j there. two.counts x j there ∙ one.counts x j there;
   to_come = two.to_come ∙ one.to_come;
