@@ -209,14 +209,14 @@ predecessor_known k p left q right before value is known storages scope unset s 
 
 -- ---- code that is passed over where Areg is 0
 
-get_behind : {A : Type 0} (xs ys : List A) (i : ℕ) → slice_get (xs ++ ys) (length xs + i) ≡ slice_get ys i
+pub get_behind : {A : Type 0} (xs ys : List A) (i : ℕ) → slice_get (xs ++ ys) (length xs + i) ≡ slice_get ys i
 get_behind [] ys i = ap (slice_get ys) (omega arith)
 get_behind (x ∷ xs) ys i =
     let next : suc (length xs) + i ≡ suc (length xs + i) = omega arith in
     ap (slice_get (x ∷ xs ++ ys)) next ∙ get_behind xs ys i
 
 -- lines that stand in code that has others before them
-has_behind : (between more new : Lines) (line : CodeLine) (m : Machine) → new ≡ joined (followed_by between (line ∷ [])) more
+pub has_behind : (between more new : Lines) (line : CodeLine) (m : Machine) → new ≡ joined (followed_by between (line ∷ [])) more
     → more.base ≡ place_behind between + 1 → HasLines new m → HasLines more m
 has_behind between more new line m is base has i h =
     let front = between.lines ++ line ∷ [] in
@@ -226,7 +226,7 @@ has_behind between more new line m is base has i h =
     ap (slice_get m.code) (omega (arith, base, long, ap (λ l. l.base) is)) ∙ has (length front + i) there
     ∙ ap (λ l. slice_get l.lines (length front + i)) is ∙ get_behind front more.lines i
 
-jump_stands : (between more new : Lines) (line : CodeLine) (m : Machine) → new ≡ joined (followed_by between (line ∷ [])) more
+pub jump_stands : (between more new : Lines) (line : CodeLine) (m : Machine) → new ≡ joined (followed_by between (line ∷ [])) more
     → HasLines new m → slice_get m.code (place_behind between) ≡ Some line
 jump_stands between more new line m is has =
     let rest = line ∷ more.lines in
@@ -244,14 +244,14 @@ pub record Branches (Before2 : Machine → Type 0) (After2 After3 : Machine → 
   pub before : (n : ℕ) → word ≡ suc n → (p : ℕ) → Before2 (at_place p (pop middle))
   pub after : (n : ℕ) → word ≡ suc n → (p : ℕ) (end : Machine) → After2 (at_place p (pop middle)) end → After3 m end
 
-cj_jumps : (to p : ℕ) (m : Machine) → m.areg ≡ number 0 → performed (CjTo to) (at_place p m) ≡ Some (at_place to m)
+pub cj_jumps : (to p : ℕ) (m : Machine) → m.areg ≡ number 0 → performed (CjTo to) (at_place p m) ≡ Some (at_place to m)
 unfolding performed
 cj_jumps to p m areg = rw areg refl
 
-suc_not_zero : (n : ℕ) → nat_eq (suc n) 0 ≡ false
+pub suc_not_zero : (n : ℕ) → nat_eq (suc n) 0 ≡ false
 suc_not_zero n = grind (arith, nat_tests)
 
-cj_passes : (to p n : ℕ) (m : Machine) → m.areg ≡ number (suc n) → performed (CjTo to) (at_place p m) ≡ Some (at_place p (pop m))
+pub cj_passes : (to p n : ℕ) (m : Machine) → m.areg ≡ number (suc n) → performed (CjTo to) (at_place p m) ≡ Some (at_place p (pop m))
 unfolding performed
 cj_passes to p n m areg = rw areg (rw (suc_not_zero n) refl)
 

@@ -200,7 +200,7 @@ constant_value k storages scope unset s e c stands knows is = cc
 -- ---- elements
 
 -- an array in scope
-seen_array : (storages : List Storage) (scope : List Entry) (a : ℕ) (view : Kind) → is_seen storages scope a view ≡ true
+pub seen_array : (storages : List Storage) (scope : List Entry) (a : ℕ) (view : Kind) → is_seen storages scope a view ≡ true
     → list_any (is_array a) scope ≡ true
 seen_array storages scope a kind.Word e = and_first _ _ e
 seen_array storages scope a kind.Byte e = e
@@ -212,7 +212,7 @@ slice_bytes (storage ∷ storages) zero = refl
 slice_bytes (storage ∷ storages) (suc a) = slice_bytes storages a
 
 -- an array seen as words has whole ones
-seen_size : (k : Knowledge) (storages : List Storage) (scope : List Entry) (a : ℕ) (view : Kind) → IsPlace k storages scope
+pub seen_size : (k : Knowledge) (storages : List Storage) (scope : List Entry) (a : ℕ) (view : Kind) → IsPlace k storages scope
     → is_seen storages scope a view ≡ true → 0 < elements_of view (slice_index k.arrays a)
 seen_size k storages scope a kind.Word place e =
     let least = place.least a (seen_array storages scope a kind.Word e) in
@@ -221,11 +221,11 @@ seen_size k storages scope a kind.Word place e =
     omega (arith, least, whole, same)
 seen_size k storages scope a kind.Byte place e = place.least a e
 
-size_is : (view : Kind) (bytes : List ℕ) (n : ℕ) → length bytes ≡ n → elements_of view n ≡ size view bytes
+pub size_is : (view : Kind) (bytes : List ℕ) (n : ℕ) → length bytes ≡ n → elements_of view n ≡ size view bytes
 size_is kind.Word bytes n e = ap (λ m. m / 4) (sym e)
 size_is kind.Byte bytes n e = sym e
 
-elements_most : (view : Kind) (n : ℕ) → n ≤ 2048 → elements_of view n ≤ 2 ^ 31
+pub elements_most : (view : Kind) (n : ℕ) → n ≤ 2048 → elements_of view n ≤ 2 ^ 31
 elements_most kind.Word n h = omega arith
 elements_most kind.Byte n h = omega arith
 
@@ -488,14 +488,14 @@ sum_plain operator v c (inr is) h =
     rw is (ap wrapped whole ∙ ap plain low)
 
 -- what is known where an element has an offset from a variable
-record OffsetFacts (k : Knowledge) (scope : List Entry) (unset : ℕ → Bool) (s : Store) (a : ℕ) (e : Expression) (x c : ℕ) : Type 0 where
-  there : IsTrue (list_any (is_name x) scope)
-  set : unset x ≡ false
-  small : slice_index s.values x < 2 ^ 32
-  below : slice_index s.values x + c < size kind.Word (array_of s a)
-  value : value_of e s ≡ plain (slice_index s.values x + c)
+pub record OffsetFacts (k : Knowledge) (scope : List Entry) (unset : ℕ → Bool) (s : Store) (a : ℕ) (e : Expression) (x c : ℕ) : Type 0 where
+  pub there : IsTrue (list_any (is_name x) scope)
+  pub set : unset x ≡ false
+  pub small : slice_index s.values x < 2 ^ 32
+  pub below : slice_index s.values x + c < size kind.Word (array_of s a)
+  pub value : value_of e s ≡ plain (slice_index s.values x + c)
 
-offset_facts : (k : Knowledge) (storages : List Storage) (scope : List Entry) (unset : ℕ → Bool) (s : Store) (a : ℕ) (view : Kind) (e : Expression) (x c : ℕ)
+pub offset_facts : (k : Knowledge) (storages : List Storage) (scope : List Entry) (unset : ℕ → Bool) (s : Store) (a : ℕ) (view : Kind) (e : Expression) (x c : ℕ)
     → IsOffset k a view e x c → slice_index k.arrays a ≤ 2048 → length (array_of s a) ≡ slice_index k.arrays a
     → MayStand k storages scope unset e → Knows k scope unset s → OffsetFacts k scope unset s a e x c
 offset_facts k storages scope unset s a view e x c is most long stands knows =

@@ -7,6 +7,7 @@ use Rattle.tpw_occam_code.specs.declared.code.CodeLine.{CodeLine}
 use Rattle.tpw_occam_code.specs.Code.{Lines, place_behind, followed_by, line_of}
 use Rattle.tpw_occam_code.specs.Symbolic.{Machine, Leads, nowhere, onward, step, performed, at_place}
 use Rattle.tpw_occam_code.specs.Leading.{Serves, HasLines, IsBefore, Arrives, Does, Makes}
+use Rattle.tpw_occam_code.specs.Moving.{HasStep}
 
 -- ---- ways
 
@@ -58,14 +59,14 @@ pub step_is : (m : Machine) (line : CodeLine) → m.stopped ≡ false → slice_
 unfolding step
 step_is m line running at = rw running (rw at refl)
 
--- one line more, whose step makes of a machine what f says; its item is large enough
-pub does_served : (w : List ℕ) (old new : Lines) (source : ℕ) (made : Step) (Before : Machine → Type 0)
+-- one line more, whose step makes of a machine what f says; it stands in the code, and its item is large enough
+pub does_placed : (w : List ℕ) (old new : Lines) (source : ℕ) (made : Step) (Before : Machine → Type 0)
     (f : Machine → Machine)
     → new ≡ followed_by old (line_of source made ∷ [])
     → ((m : Machine) → Before m → Serves w m.sizes made → performed made (at_place (m.place + 1) m) ≡ Some (at_place (m.place + 1) (f m)))
     → ((m : Machine) → (f m).code ≡ m.code) → ((m : Machine) → (f m).sizes ≡ m.sizes) → ((m : Machine) → (f m).stopped ≡ m.stopped)
-    → Does w old new Before (λ m end. (end ≡ at_place (place_behind new) (f m)) × Serves w m.sizes made)
-does_served w old new source made Before f is performs code_stays sizes_stay stopped_stays = record {
+    → Does w old new Before (λ m end. (end ≡ at_place (place_behind new) (f m)) × Serves w m.sizes made × HasStep m made)
+does_placed w old new source made Before f is performs code_stays sizes_stay stopped_stays = record {
   base = ap (λ l. l.base) is;
   more = line_of source made ∷ [];
   lines = ap (λ l. l.lines) is;
@@ -85,18 +86,22 @@ does_served w old new source made Before f is performs code_stays sizes_stay sto
         running = stopped_stays m ∙ before.running;
         same_code = code_stays m;
         same_sizes = sizes_stay m;
-        after = (ap (λ p. at_place p (f m)) next, before.served m.place line at);
+        after = (
+          ap (λ p. at_place p (f m)) next,
+          before.served m.place line at,
+          record { place = m.place; line = line; there = at; is = refl },
+        );
       };
 }
 
--- said less
-pub does_less : (w : List ℕ) (old new : Lines)
+-- said less, of machines of the same code and sizes
+pub does_within : (w : List ℕ) (old new : Lines)
     (Before : Machine → Type 0) (After : Machine → Machine → Type 0)
     (Before2 : Machine → Type 0) (After2 : Machine → Machine → Type 0)
     → Does w old new Before After → ((m : Machine) → Before2 m → Before m)
-    → ((m end : Machine) → Before2 m → After m end → After2 m end)
+    → ((m end : Machine) → end.code ≡ m.code → end.sizes ≡ m.sizes → Before2 m → After m end → After2 m end)
     → Does w old new Before2 After2
-does_less w old new Before After Before2 After2 one before after = record {
+does_within w old new Before After Before2 After2 one before after = record {
   base = one.base;
   more = one.more;
   lines = one.lines;
@@ -109,9 +114,31 @@ does_less w old new Before After Before2 After2 one before after = record {
         running = a.running;
         same_code = a.same_code;
         same_sizes = a.same_sizes;
-        after = after m a.end said a.after;
+        after = after m a.end a.same_code a.same_sizes said a.after;
       };
 }
+
+-- said less
+pub does_less : (w : List ℕ) (old new : Lines)
+    (Before : Machine → Type 0) (After : Machine → Machine → Type 0)
+    (Before2 : Machine → Type 0) (After2 : Machine → Machine → Type 0)
+    → Does w old new Before After → ((m : Machine) → Before2 m → Before m)
+    → ((m end : Machine) → Before2 m → After m end → After2 m end)
+    → Does w old new Before2 After2
+does_less w old new Before After Before2 After2 one before after =
+    does_within w old new Before After Before2 After2 one before (λ m end code sizes. after m end)
+
+-- .. its item is large enough
+pub does_served : (w : List ℕ) (old new : Lines) (source : ℕ) (made : Step) (Before : Machine → Type 0)
+    (f : Machine → Machine)
+    → new ≡ followed_by old (line_of source made ∷ [])
+    → ((m : Machine) → Before m → Serves w m.sizes made → performed made (at_place (m.place + 1) m) ≡ Some (at_place (m.place + 1) (f m)))
+    → ((m : Machine) → (f m).code ≡ m.code) → ((m : Machine) → (f m).sizes ≡ m.sizes) → ((m : Machine) → (f m).stopped ≡ m.stopped)
+    → Does w old new Before (λ m end. (end ≡ at_place (place_behind new) (f m)) × Serves w m.sizes made)
+does_served w old new source made Before f is performs code_stays sizes_stay stopped_stays =
+    does_less w old new Before _ Before _
+    (does_placed w old new source made Before f is performs code_stays sizes_stay stopped_stays)
+    (λ m said. said) (λ m end said after. (after.0, after.1))
 
 pub does_step : (w : List ℕ) (old new : Lines) (source : ℕ) (made : Step) (Before : Machine → Type 0)
     (f : Machine → Machine)

@@ -14,6 +14,16 @@ pub mod TwoOperands
 pub mod Inverses
 pub mod Conditions
 pub mod Naming
+pub mod Moving
+pub mod Copying
+pub mod Sending
+pub mod Knowing
+pub mod Executing
+pub mod Storing
+pub mod Assigning
+pub mod Matching
+pub mod Reading
+pub mod KeptParts
 pub mod Carrying
 pub mod CarryingNumbers
 pub mod CarryingMemory
@@ -29,3 +39,8 @@ pub mod CarryingWhole
 pub mod Starting
 pub mod Working
 pub mod Receiving
+pub mod Looping
+pub mod StoredWords
+pub mod Deciding
+pub mod Ordering
+pub mod Remaining

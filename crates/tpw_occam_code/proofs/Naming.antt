@@ -48,7 +48,7 @@ none_some e = cc
 
 -- ---- scopes
 
-any_last : {A : Type 0} (P : A → Bool) (xs : List A) (x : A) → list_any P (xs ++ x ∷ []) ≡ (list_any P xs || P x)
+pub any_last : {A : Type 0} (P : A → Bool) (xs : List A) (x : A) → list_any P (xs ++ x ∷ []) ≡ (list_any P xs || P x)
 any_last P [] x = or-false (P x)
 any_last P (y ∷ xs) x = ap (λ b. P y || b) (any_last P xs x) ∙ sym (or_assoc (P y) (list_any P xs) (P x))
 
@@ -63,11 +63,11 @@ name_in scope x y h = by_parts (list_any (is_name y) scope) refl
 array_in : (scope : List Entry) (x a : ℕ) → IsTrue (list_any (is_array a) (scope ++ entry.Value x ∷ [])) → IsTrue (list_any (is_array a) scope)
 array_in scope x a h = sym (or-false _) ∙ sym (any_last (is_array a) scope (entry.Value x)) ∙ h
 
-name_stays : (scope : List Entry) (x y : ℕ) → IsTrue (list_any (is_name y) scope) → IsTrue (list_any (is_name y) (scope ++ entry.Value x ∷ []))
+pub name_stays : (scope : List Entry) (x y : ℕ) → IsTrue (list_any (is_name y) scope) → IsTrue (list_any (is_name y) (scope ++ entry.Value x ∷ []))
 name_stays scope x y h = any_last (is_name y) scope (entry.Value x) ∙ ap (λ b. b || nat_eq x y) h
 
 -- a new name is not in scope
-new_name : (count : ℕ) (scope : List Entry) (x y : ℕ) → IsTrue (is_new_name count scope x) → IsTrue (list_any (is_name y) scope) → nat_eq x y ≡ false
+pub new_name : (count : ℕ) (scope : List Entry) (x y : ℕ) → IsTrue (is_new_name count scope x) → IsTrue (list_any (is_name y) scope) → nat_eq x y ≡ false
 new_name count scope x y new there = by_test (nat_eq x y) refl
   where
     not_in : (b : Bool) → not b ≡ true → b ≡ true → ⊥
@@ -81,12 +81,12 @@ new_name count scope x y new there = by_test (nat_eq x y) refl
 
 -- ---- facts and values of names
 
-slice_same : {A : Type 0} (xs : List A) (x : ℕ) (a d : A) → x < length xs → slice_index_or (slice_set xs x a) x d ≡ a
+pub slice_same : {A : Type 0} (xs : List A) (x : ℕ) (a d : A) → x < length xs → slice_index_or (slice_set xs x a) x d ≡ a
 slice_same [] x a d h = absurd (omega (arith, h))
 slice_same (y ∷ xs) zero a d h = refl
 slice_same (y ∷ xs) (suc x) a d h = slice_same xs x a d (omega (arith, h))
 
-slice_other : {A : Type 0} (xs : List A) (x y : ℕ) (a d : A) → nat_eq x y ≡ false → slice_index_or (slice_set xs x a) y d ≡ slice_index_or xs y d
+pub slice_other : {A : Type 0} (xs : List A) (x y : ℕ) (a d : A) → nat_eq x y ≡ false → slice_index_or (slice_set xs x a) y d ≡ slice_index_or xs y d
 slice_other [] x y a d h = refl
 slice_other (z ∷ xs) zero zero a d h = cc
 slice_other (z ∷ xs) zero (suc y) a d h = refl
@@ -96,7 +96,7 @@ slice_other (z ∷ xs) (suc x) (suc y) a d h = slice_other xs x y a d (same_next
     same_next : (x y : ℕ) → nat_eq (suc x) (suc y) ≡ false → nat_eq x y ≡ false
     same_next x y h = grind (arith, nat_tests)
 
-slice_length : {A : Type 0} (xs : List A) (x : ℕ) (a : A) → length (slice_set xs x a) ≡ length xs
+pub slice_length : {A : Type 0} (xs : List A) (x : ℕ) (a : A) → length (slice_set xs x a) ≡ length xs
 slice_length [] x a = refl
 slice_length (y ∷ xs) zero a = refl
 slice_length (y ∷ xs) (suc x) a = ap suc (slice_length xs x a)
@@ -155,7 +155,7 @@ agrees_name k scope unset kept s x v fact m end agrees leaves new facts count wo
 
 -- ---- a constant
 
-constant_fits : (c : ℕ) → c < 2 ^ 32 → FitsFact (constant_fact c) c
+pub constant_fits : (c : ℕ) → c < 2 ^ 32 → FitsFact (constant_fact c) c
 constant_fits c h = record {
   small = h;
   source = record { low = omega (arith, ints); high = omega (arith, ints) };
@@ -203,7 +203,7 @@ value_binds k x e value known storages scope unset s place stands knows new =
     knows_name k scope unset s x (value_of e s).word (valued_fact value.source) knows new place.facts
     (value_fits value (value_of e s).word (known storages scope unset s place stands knows))
 
-variable_differs : (count : ℕ) (scope : List Entry) (kept x : ℕ) → IsTrue (is_new_name count scope x) → (i : Item) → Stays scope kept i
+pub variable_differs : (count : ℕ) (scope : List Entry) (kept x : ℕ) → IsTrue (is_new_name count scope x) → (i : Item) → Stays scope kept i
     → is_item (item.Variable x) i ≡ false
 variable_differs count scope kept x new (item.Variable y) stays = new_name count scope x y new stays
 variable_differs count scope kept x new (item.Temporary t) stays = refl

@@ -29,7 +29,7 @@ use Rattle.tpw_occam_code.specs.declared.emitter.Room.{Room}
 use Rattle.tpw_occam_code.specs.Code.{Lines}
 use Rattle.tpw_occam_code.specs.Leading.{Does}
 use Rattle.tpw_occam_code.specs.Values.{Holds, HasOperands, Pushes}
-use Rattle.tpw_occam_code.specs.Symbolic.{Machine}
+use Rattle.tpw_occam_code.specs.Symbolic.{Machine, number}
 use Rattle.tpw_occam_code.specs.Agreement.{Knowledge, elements_of, fact_at, constant_in, Knows, Agrees, LeavesItems}
 
 -- ---- registers
@@ -294,3 +294,31 @@ pub record IsOffset (k : Knowledge) (a : ℕ) (view : Kind) (e : Expression) (x 
   pub right : Expression
   pub is : e ≡ Binary' operator p left q right
   pub offset : IsOffsetOf k a view left right x c
+
+-- ---- conditions
+
+-- What is 0 exactly where a value is 0 is pushed.
+pub record Decided (made : Answer) (scope : List Entry) (kept : ℕ) (m end : Machine) : Type 0 where
+  pub word : ℕ
+  pub areg : end.areg ≡ number word
+  pub same : (word == 0) ≡ (made.word == 0)
+  pub error : end.error ≡ (m.error || made.flag)
+  pub leaves : LeavesItems scope kept m end
+
+-- the code of a condition
+abbrev pub Decides : Knowledge → (old new : Lines) → Expression → (registers kept : ℕ) → Type 0
+Decides k old new e registers kept =
+    (storages : List Storage) (scope : List Entry) (unset : ℕ → Bool) (s : Store) → IsPlace k storages scope
+    → MayStand k storages scope unset e → 2 ≤ registers → registers ≤ 3 → Knows k scope unset s
+    → Does k.arrays old new (Agrees k scope unset s) (Decided (value_of e s) scope kept)
+
+-- .. and of one that two operands are not equal
+abbrev pub unequal_value : (left right : Expression) → Store → Answer
+unequal_value left right s = followed (applied_value Equal left right s) (λ a. plain (truth (a == 0)))
+
+abbrev pub DecidesUnequal : Knowledge → (old new : Lines) → (left right : Expression) → (registers kept : ℕ) → Type 0
+DecidesUnequal k old new left right registers kept =
+    (storages : List Storage) (scope : List Entry) (unset : ℕ → Bool) (s : Store) → IsPlace k storages scope
+    → MayStand k storages scope unset left → MayStand k storages scope unset right → 2 ≤ registers → registers ≤ 3
+    → Knows k scope unset s
+    → Does k.arrays old new (Agrees k scope unset s) (Decided (unequal_value left right s) scope kept)

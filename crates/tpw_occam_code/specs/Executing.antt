@@ -1,11 +1,16 @@
 -- What the code of a process does.
-use Rattle.std.specs.Prelude.{◌≡◌, ◌≢◌, ℕ, ◌+◌, ◌*◌, ◌<◌, ◌≤◌, Bool, true, false, ◌||◌, ◌&&◌, ◌==◌, if◌then◌else◌, nat_le}
-use Rattle.std.specs.Prelude.{List, [], ◌∷◌, ◌++◌, length, map, replicate, slice_index, slice_get, Some, IsTrue}
+use Rattle.std.specs.Prelude.{◌≡◌, ◌≢◌, ℕ, ◌+◌, ◌*◌, ◌^◌, ◌<◌, ◌≤◌, Bool, true, false, ◌||◌, ◌&&◌, ◌==◌, if◌then◌else◌, nat_le}
+use Rattle.std.specs.Prelude.{List, [], ◌∷◌, ◌++◌, length, map, replicate, slice_index, slice_get, Some, IsTrue, Box}
+use Rattle.std.specs.Global.{Global}
+use Rattle.tp_decode.specs.declared.instr.Instr.TheVariants.{Lend}
 use Rattle.std.specs.List.{list_all, list_any}
 use Rattle.tpw_occam_core.specs.declared.worker.Storage.{Storage}
 use Rattle.tpw_occam_core.specs.declared.scope.Entry.{Entry}
 use Rattle.tpw_occam_core.specs.declared.scope.Entry.TheVariants as entry
 use Rattle.tpw_occam_core.specs.declared.expression.Expression.{Expression}
+use Rattle.tpw_occam_core.specs.declared.expression.Expression.TheVariants as expression
+use Rattle.tpw_occam_core.specs.declared.expression.Expression.TheVariants.{Constant, Element', Checked', Binary'}
+use Rattle.tpw_occam_core.specs.declared.expression.Expression.TheVariants.{Complement', Not', LowByte', And', Or', Let'}
 use Rattle.tpw_occam_core.specs.declared.process.Target.{Target}
 use Rattle.tpw_occam_core.specs.declared.process.Target.TheVariants as target
 use Rattle.tpw_occam_core.specs.declared.process.Assignment.{Assignment}
@@ -18,12 +23,15 @@ use Rattle.tpw_occam_core.specs.Sound.{is_variable, is_name, is_new_array, is_si
 use Rattle.tpw_occam_core.specs.Sound.{is_sound_process}
 use Rattle.tpw_occam_code.specs.declared.analysis.First.{First}
 use Rattle.tpw_occam_code.specs.declared.analysis.First.TheVariants.{Nothing, Assigned, Read}
+use Rattle.tpw_occam_code.specs.declared.items.Item.{Item}
 use Rattle.tpw_occam_code.specs.declared.items.Item.TheVariants.{Variable, Zeros}
-use Rattle.tpw_occam_code.specs.declared.code.Step.TheVariants.{Pointer}
+use Rattle.tpw_occam_code.specs.declared.code.Step.TheVariants.{Plain, Pointer, JumpTo, CjTo, Distance}
 use Rattle.tpw_occam_code.specs.declared.code.CodeLine.{CodeLine}
-use Rattle.tpw_occam_code.specs.Code.{Lines}
-use Rattle.tpw_occam_code.specs.Symbolic.{Machine}
-use Rattle.tpw_occam_code.specs.Leading.{Does, word_bytes}
+use Rattle.tpw_occam_code.specs.declared.code.Turns.{Turns}
+use Rattle.tpw_occam_code.specs.Code.{Lines, followed_by, joined, line_of, place_behind}
+use Rattle.tpw_occam_code.specs.Blocks.{with_word}
+use Rattle.tpw_occam_code.specs.Symbolic.{Machine, number, push, pop, with_blocks, at_place}
+use Rattle.tpw_occam_code.specs.Leading.{Does, Makes, HasConstants, word_bytes}
 use Rattle.tpw_occam_code.specs.Agreement.{Knowledge, fact_at, fact_of_kind, Knows, Agrees}
 use Rattle.tpw_occam_code.specs.Computing.{IsPlace, reads}
 
@@ -175,3 +183,86 @@ Clears k old new a =
 abbrev pub Executes : Knowledge → (old new : Lines) → Process → Type 0
 Executes k old new p =
     ExecutesTo k old new (λ count storages scope. is_sound_process count storages scope p) (first_use p) (run k.kinds p)
+
+-- ---- parts
+
+-- a number takes the place of a word of an item; one register is lost
+abbrev pub with_item_word : Item → ℕ → ℕ → Machine → Machine
+with_item_word i word value m = pop (with_blocks (with_word i (4 * word) value m.blocks) (push (number value) m))
+
+-- a process that does nothing
+abbrev pub is_skip : Process → Bool
+is_skip process.Skip = true
+is_skip (process.At' line p body) = is_skip body
+is_skip p = false
+
+-- a variable is made 0 where a process may read it first
+abbrev pub Starts : First → (old new : Lines) → ℕ → Type 0
+Starts Read old new x = Makes old new HasConstants (with_item_word (Variable x) 0 0)
+Starts found old new x = new ≡ old
+
+-- lines for where Areg is not 0, and for where it is
+abbrev pub chosen_lines : Lines → ℕ → (some none : Lines) → Lines
+chosen_lines old source some none =
+    joined (followed_by (joined (followed_by old (line_of source (CjTo (place_behind some + 1)) ∷ [])) some)
+    (line_of source (JumpTo (place_behind none)) ∷ [])) none
+
+-- the words of a loop's index and count
+abbrev pub Begins : (old new : Lines) → (x start count : ℕ) → Type 0
+Begins old new x start count =
+    (arrays : List ℕ) → Does arrays old new HasConstants
+    (λ m end. (end ≡ at_place (place_behind new) (with_item_word (Variable x) 1 count (with_item_word (Variable x) 0 start m)))
+    × (8 ≤ m.sizes (Variable x)))
+
+-- the lines at the end of a turn
+abbrev pub loop_end : Lines → Turns → List CodeLine
+loop_end old turns =
+    line_of turns.source (Pointer (Variable turns.index) 0)
+    ∷ line_of turns.source (Distance turns.head (place_behind old + 3))
+    ∷ line_of turns.source (Plain Lend) ∷ []
+
+-- the code of IF and of loops
+abbrev pub Chooses : Knowledge → (old new : Lines) → Expression → (guarded rest : Process) → Type 0
+Chooses k old new e guarded rest = (p q : Box (Unit {0}) Global) → Executes k old new (process.If' e p guarded q rest)
+
+abbrev pub Repeats : Knowledge → (old new : Lines) → (x start count : ℕ) → Process → Type 0
+Repeats k old new x start count body = (p : Box (Unit {0}) Global) → Executes k old new (process.Repeat' x start count p body)
+
+-- ---- what stays known
+
+-- every constant of an expression is a word
+abbrev pub HasWords : Expression → Type 0
+HasWords (Constant c) = c < 2 ^ 32
+HasWords (expression.Variable x) = Unit {0}
+HasWords (Element' a kind p e) = HasWords e
+HasWords (Checked' below p e) = HasWords e
+HasWords (Binary' operator p e q f) = HasWords e × HasWords f
+HasWords (Complement' p e) = HasWords e
+HasWords (Not' p e) = HasWords e
+HasWords (LowByte' p e) = HasWords e
+HasWords (And' p e q f) = HasWords e × HasWords f
+HasWords (Or' p e q f) = HasWords e × HasWords f
+HasWords (Let' x p e q f) = HasWords e × HasWords f
+
+-- .. and of each value that is assigned
+abbrev pub HaveWords : List Assignment → Type 0
+HaveWords [] = Unit {0}
+HaveWords (a ∷ more) = HasWords a.value × HaveWords more
+
+-- A state that a process leaves: it is known as before, and names that are no variables keep their values.
+pub record Follows (k : Knowledge) (scope : List Entry) (s t : Store) : Type 0 where
+  pub knows : KnowsState k scope t
+  pub values : (x : ℕ) → IsTrue (list_any (is_name x) scope) → list_any (is_variable x) scope ≡ false
+      → slice_index t.values x ≡ slice_index s.values x
+
+abbrev pub Remains : Knowledge → Process → Type 0
+Remains k p =
+    (storages : List Storage) (scope : List Entry) (s : Store) → IsProcessPlace k storages scope
+    → IsTrue (is_sound_process (length k.kinds) storages scope p) → KnowsState k scope s → Follows k scope s (run k.kinds p s)
+
+-- .. of IF and of loops
+abbrev pub ChoosesKnown : Knowledge → Expression → (guarded rest : Process) → Type 0
+ChoosesKnown k e guarded rest = (p q : Box (Unit {0}) Global) → Remains k (process.If' e p guarded q rest)
+
+abbrev pub RepeatsKnown : Knowledge → (x start count : ℕ) → Process → Type 0
+RepeatsKnown k x start count body = (p : Box (Unit {0}) Global) → Remains k (process.Repeat' x start count p body)

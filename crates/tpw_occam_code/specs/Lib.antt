@@ -11,5 +11,9 @@ pub mod Values
 pub mod Agreement
 pub mod Computing
 pub mod Executing
+pub mod Moving
+pub mod Sending
+pub mod Assigning
 pub mod Starting
 pub mod Placing
+pub mod Ordering

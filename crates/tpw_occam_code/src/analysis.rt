@@ -1,9 +1,18 @@
 //! What is read and what is assigned.
 
+ghost use Rattle.std.specs.Prelude.{◌≡◌, ◌<◌, ◌^◌};
+ghost use Rattle.std.specs.List.{list_any};
+ghost use Rattle.tpw_occam_code.specs.Computing.{reads};
+ghost use Rattle.tpw_occam_code.specs.Executing.{then_first, either_first, first_in, first_in_message, sources_read};
+ghost use Rattle.tpw_occam_code.specs.Executing.{is_target, first_in_assignments, first_use, HasWords, HaveWords};
+ghost use Rattle.tpw_occam_code.specs.Assigning.{reads_array, reads_target, are_near};
+
 use tpw_occam_core::{Assignment, Expression, Message, Process, Target};
 
 /// Whether an expression reads a variable.
-pub(crate) fn reads_variable(e: &Expression, x: usize) -> bool {
+pub(crate) fn reads_variable(e: &Expression, x: usize) -> bool
+    ensures { result ≡ reads e.now x }
+{
     match e {
         Expression::Constant(_) => false,
         Expression::Variable(y) => *y == x,
@@ -36,7 +45,9 @@ pub(crate) fn reads_variable(e: &Expression, x: usize) -> bool {
 }
 
 /// Whether an expression reads an array.
-fn reads_array(e: &Expression, a: usize) -> bool {
+fn reads_array(e: &Expression, a: usize) -> bool
+    ensures { result ≡ reads_array e.now a }
+{
     match e {
         Expression::Constant(_) | Expression::Variable(_) => false,
         Expression::Element {
@@ -68,7 +79,9 @@ fn reads_array(e: &Expression, a: usize) -> bool {
 }
 
 /// Whether an expression may read a target.
-pub(crate) fn is_read(e: &Expression, target: &Target) -> bool {
+pub(crate) fn is_read(e: &Expression, target: &Target) -> bool
+    ensures { result ≡ reads_target e.now target.now }
+{
     match target {
         Target::Variable(x) => reads_variable(e, *x),
         Target::Element {
@@ -80,7 +93,9 @@ pub(crate) fn is_read(e: &Expression, target: &Target) -> bool {
 }
 
 /// Whether two targets may be one place.
-pub(crate) fn may_be_same(one: &Target, other: &Target) -> bool {
+pub(crate) fn may_be_same(one: &Target, other: &Target) -> bool
+    ensures { result ≡ are_near one.now other.now }
+{
     match (one, other) {
         (Target::Variable(x), Target::Variable(y)) => *x == *y,
         (
@@ -109,20 +124,31 @@ pub(crate) enum First {
 
 impl First {
     /// What happens first, here or else in what follows.
-    fn then(self, next: First) -> First {
+    fn then(self, next: First) -> First
+        ensures { result ≡ then_first self next }
+    {
         match self {
             First::Nothing => next,
-            _ => self,
+            First::Assigned => First::Assigned,
+            First::Read => First::Read,
         }
     }
 
     /// What happens first on either of two ways: nothing is assigned where one way leaves that to what follows.
-    fn or(self, other: First) -> First {
-        if self == other { self } else { First::Read }
+    fn or(self, other: First) -> First
+        ensures { result ≡ either_first self other }
+    {
+        match (self, other) {
+            (First::Nothing, First::Nothing) => First::Nothing,
+            (First::Assigned, First::Assigned) => First::Assigned,
+            _ => First::Read,
+        }
     }
 }
 
-fn in_expression(e: &Expression, x: usize) -> First {
+fn in_expression(e: &Expression, x: usize) -> First
+    ensures { result ≡ first_in e.now x }
+{
     if reads_variable(e, x) {
         First::Read
     } else {
@@ -130,53 +156,78 @@ fn in_expression(e: &Expression, x: usize) -> First {
     }
 }
 
-fn in_message(m: &Message, x: usize) -> First {
+fn in_message(m: &Message, x: usize) -> First
+    ensures { result ≡ first_in_message m.now x }
+{
     match m {
         Message::Value(e) => in_expression(e, x),
         Message::Array(_) => First::Nothing,
     }
 }
 
-/// What the values and subscripts of an assignment do.
-fn in_sources(assignment: &Assignment, x: usize) -> First {
-    let value = in_expression(&assignment.value, x);
+/// Whether the value or the subscript of an assignment reads a variable.
+fn sources_read(x: usize, assignment: &Assignment) -> bool
+    ensures { result ≡ sources_read x assignment.now }
+{
     match &assignment.target {
-        Target::Variable(_) => value,
+        Target::Variable(_) => reads_variable(&assignment.value, x),
         Target::Element {
             array: _,
             kind: _,
             subscript,
-        } => value.then(in_expression(subscript, x)),
+        } => reads_variable(&assignment.value, x) || reads_variable(subscript, x),
     }
 }
 
-fn is_target(assignment: &Assignment, x: usize) -> bool {
-    match &assignment.target {
+/// Whether a target is a variable.
+fn is_target(x: usize, target: &Target) -> bool
+    ensures { result ≡ is_target x target.now }
+{
+    match target {
         Target::Variable(y) => *y == x,
-        _ => false,
+        Target::Element {
+            array: _,
+            kind: _,
+            subscript: _,
+        } => false,
     }
 }
 
-fn in_assignments(list: &[Assignment], x: usize) -> First {
-    if list.iter().any(|a| in_sources(a, x) == First::Read) {
-        First::Read
-    } else if list.iter().any(|a| is_target(a, x)) {
-        First::Assigned
-    } else {
-        First::Nothing
+/// Whether any assignment reads a variable.
+fn any_reads(list: &[Assignment], x: usize) -> bool
+    ensures { result ≡ list_any (sources_read x) list.now }
+{
+    list.iter().any(|a| sources_read(x, a))
+}
+
+/// Whether a variable is assigned to.
+fn any_assigns(list: &[Assignment], x: usize) -> bool
+    ensures { result ≡ list_any (λ a. is_target x a.target) list.now }
+{
+    list.iter().any(|a| is_target(x, &a.target))
+}
+
+fn in_assignments(list: &[Assignment], x: usize) -> First
+    ensures { result ≡ first_in_assignments list.now x }
+{
+    if any_reads(list, x) {
+        return First::Read;
     }
+    if any_assigns(list, x) {
+        return First::Assigned;
+    }
+    First::Nothing
 }
 
 /// What a process does first to a variable.
-pub(crate) fn first_use(p: &Process, x: usize) -> First {
+pub(crate) fn first_use(p: &Process, x: usize) -> First
+    ensures { result ≡ first_use p.now x }
+{
     match p {
         Process::Skip | Process::Stop => First::Nothing,
         Process::Assign(list) => in_assignments(list, x),
         Process::Copy { to: _, from: _ } => First::Nothing,
-        Process::Sequence(first, second) => match first_use(first, x) {
-            First::Nothing => first_use(second, x),
-            found => found,
-        },
+        Process::Sequence(first, second) => first_use(first, x).then(first_use(second, x)),
         Process::Repeat {
             index: _,
             start: _,
@@ -204,5 +255,68 @@ pub(crate) fn first_use(p: &Process, x: usize) -> First {
         }
         Process::Trace(m) => in_message(m, x),
         Process::At { line: _, body } => first_use(body, x),
+    }
+}
+
+/// A word.
+fn word(c: u32) -> u32
+    ensures same { result ≡ c }
+    ensures small { result < 2 ^ 32 }
+{
+    c
+}
+
+/// Does nothing: that each constant is a word is said by its type, and here by a contract.
+fn words(e: &Expression)
+    ensures { HasWords e.now }
+{
+    match e {
+        Expression::Constant(c) => {
+            word(*c);
+        }
+        Expression::Variable(_) => {}
+        Expression::Element {
+            array: _,
+            kind: _,
+            subscript,
+        } => words(subscript),
+        Expression::Checked {
+            below: _,
+            subscript,
+        } => words(subscript),
+        Expression::Binary {
+            operator: _,
+            left,
+            right,
+        } => {
+            words(left);
+            words(right);
+        }
+        Expression::Complement(e) | Expression::Not(e) | Expression::LowByte(e) => words(e),
+        Expression::And(left, right) | Expression::Or(left, right) => {
+            words(left);
+            words(right);
+        }
+        Expression::Let {
+            name: _,
+            value,
+            within,
+        } => {
+            words(value);
+            words(within);
+        }
+    }
+}
+
+/// .. so of each value that is assigned.
+pub(crate) fn words_of_all(list: &[Assignment])
+    ensures { HaveWords list.now }
+{
+    match list {
+        [] => {}
+        [first, more @ ..] => {
+            words(&first.value);
+            words_of_all(more);
+        }
     }
 }

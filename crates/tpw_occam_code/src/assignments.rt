@@ -1,39 +1,69 @@
 //! Code of assignments.
 
-ghost use Rattle.std.specs.Prelude.{◌≡◌, OnOk};
+ghost use Rattle.std.specs.Prelude.{◌≡◌, ◌<◌, ◌≤◌, ◌+◌, ◌*◌, ◌^◌, ℕ, List, length, slice_index, true, false, OnOk, IfOk, IfSome};
+ghost use Rattle.std.specs.Int.{w32, to_le_bytes};
+ghost use Rattle.tpw_occam_core.specs.declared.kind.Kind.TheVariants.{Word};
+ghost use Rattle.tpw_occam_core.specs.declared.process.Target.TheVariants as target;
+ghost use Rattle.tpw_occam_core.specs.Arrays.{size};
+ghost use Rattle.tpw_occam_code.specs.declared.items.Item.TheVariants as item;
+ghost use Rattle.tpw_occam_code.specs.Leading.{Does, HasWord};
+ghost use Rattle.tpw_occam_code.specs.Values.{HasNumber, PushesAlone, scaled};
+ghost use Rattle.tpw_occam_code.specs.Computing.{ComputesTo, IsFixed, subscript_value};
 ghost use Rattle.tpw_occam_code.specs.Executing.{Assigns};
+ghost use Rattle.tpw_occam_code.specs.Assigning.{element_bytes, IsToStore, Writes, WritesPopped, ComputesOver, ComputesAbove, StoresIn, MakesOne, taken_value, HasSmallValue, AssignsAbove, KeepsParts, KeepsSubscript, StoresParts, StoresKept};
+ghost use Rattle.tpw_occam_code.specs.Ordering.{SettleAll, MakesMoves, MakesMove, KeepsValue, assignment_at};
 
 use crate::code::{Code, Step};
 use crate::emitter::{Emitter, Room};
 use crate::fault::CodeFault;
 use crate::items::Item;
-use crate::order::{Move, is_kept, keep_any, moves};
+use crate::order::{Move, keep_any, moves};
 use crate::range::FULL;
-use crate::subscripts::{base, checked, indexed, kept_byte, reduce, settled};
+use crate::subscripts::{Offset, base, checked, indexed, kept_byte, reduce, settled};
 use tp_decode::Instr;
 use tpw_occam_core::{Assignment, Expression, Kind, Target};
 
 /// Stores Areg in a variable.
-fn store_variable(code: &mut Code, line: u32, x: usize) -> Result<(), CodeFault> {
+fn store_variable(code: &mut Code, line: u32, x: usize) -> Result<(), CodeFault>
+    ensures { OnOk result ((arrays : List ℕ) (word : ℕ) → Does arrays code.old code.new (HasNumber word)
+        (WritesPopped (item.Variable x) 0 (to_le_bytes w32 word))) }
+{
     code.emit(line, Step::Store(Item::Variable(x), 0))
 }
 
 /// Stores Areg in a word of an array.
-fn store_word(code: &mut Code, line: u32, array: usize, word: u32) -> Result<(), CodeFault> {
+fn store_word(code: &mut Code, line: u32, array: usize, word: u32) -> Result<(), CodeFault>
+    ensures { OnOk result ((arrays : List ℕ) (value : ℕ) → Does arrays code.old code.new (HasNumber value)
+        (WritesPopped (item.Array array) (4 * word) (to_le_bytes w32 value))) }
+{
     code.emit(line, Step::Store(Item::Array(array), word))
 }
 
 /// Stores Breg at the address in Areg.
-fn store_at(code: &mut Code, line: u32, kind: Kind) -> Result<(), CodeFault> {
+fn store_at(code: &mut Code, line: u32, kind: Kind) -> Result<(), CodeFault>
+    ensures { OnOk result ((arrays bytes : List ℕ) (a i word : ℕ) → i < size kind bytes → Does arrays code.old code.new
+        (IsToStore kind a i word (length bytes)) (Writes (item.Array a) (scaled kind i) (element_bytes kind word))) }
+{
     match kind {
         Kind::Word => code.instr(line, Instr::Stnl(0)),
         Kind::Byte => code.instr(line, Instr::Sb),
     }
 }
 
+/// Stores Areg in the word of an array at an offset.
+fn store_offset(code: &mut Code, line: u32, array: usize, offset: Offset) -> Result<(), CodeFault>
+    ensures { OnOk result ((arrays bytes : List ℕ) (v word : ℕ) → v < 2 ^ 32 → length bytes ≡ slice_index arrays array
+        → v + offset.constant < size Word bytes → length bytes ≤ 2048 → Does arrays code.old code.new
+        (λ m. HasWord (item.Variable offset.variable) v m × HasNumber word m)
+        (Writes (item.Array array) (4 * (v + offset.constant)) (to_le_bytes w32 word))) }
+{
+    base(code, line, array, offset)?;
+    code.instr(line, Instr::Stnl(offset.constant.cast_signed()))
+}
+
 impl Emitter<'_> {
-    /// Makes assignments that are made together: one by one where an order allows that; else with all values in
-    /// registers; else one by one with some values in words; else with all values and subscripts in words.
+    /// Makes assignments that are made together: one alone, or one by one where an order allows that; else with all
+    /// values in registers; else one by one with some values in words; else with all values and subscripts in words.
     pub(crate) fn assignments(
         &mut self,
         code: &mut Code,
@@ -43,13 +73,41 @@ impl Emitter<'_> {
         ensures knowledge { OnOk result (self.new ≡ self.old) }
         ensures assigns { OnOk result (Assigns self.old code.old code.new all.now) }
     {
-        match moves(self.alloc, all)? {
-            Some(moves) if !keep_any(&moves) || !self.fit_in_registers(all) => {
-                self.make_moves(code, all, &moves, line)
-            }
-            Some(_) => self.assign_by_registers(code, all, line),
-            None => self.assign_by_words(code, all, line),
+        if let [one] = all {
+            return self.make(code, one, 0, false, Room::from_word(0, line));
         }
+        self.several(code, all, line)
+    }
+
+    /// Makes several assignments.
+    fn several(&mut self, code: &mut Code, all: &[Assignment], line: u32) -> Result<(), CodeFault>
+        ensures knowledge { OnOk result (self.new ≡ self.old) }
+        ensures assigns { OnOk result (Assigns self.old code.old code.new all.now) }
+    {
+        if let Some(moves) = moves(self.alloc, all)? {
+            return self.by_moves(code, all, &moves, line);
+        }
+        self.assign_by_words(code, all, Room::from_word(0, line))
+    }
+
+    /// Makes several assignments for which there is an order.
+    fn by_moves(
+        &mut self,
+        code: &mut Code,
+        all: &[Assignment],
+        moves: &[Move],
+        line: u32,
+    ) -> Result<(), CodeFault>
+        ensures knowledge { OnOk result (self.new ≡ self.old) }
+        ensures assigns { OnOk result (SettleAll all.now moves.now → Assigns self.old code.old code.new all.now) }
+    {
+        if !keep_any(moves) {
+            return self.make_moves(code, all, moves, Room::from_word(0, line));
+        }
+        if self.fit_in_registers(all, 3) {
+            return self.assign_by_registers(code, all, Room::from_word(0, line));
+        }
+        self.make_moves(code, all, moves, Room::from_word(all.len(), line))
     }
 
     /// Makes assignments one by one.
@@ -58,28 +116,61 @@ impl Emitter<'_> {
         code: &mut Code,
         all: &[Assignment],
         moves: &[Move],
-        line: u32,
-    ) -> Result<(), CodeFault> {
-        let room = match keep_any(moves) {
-            true => Room::from_word(all.len(), line),
-            false => Room::from_word(0, line),
+        room: Room,
+    ) -> Result<(), CodeFault>
+        ensures knowledge { OnOk result (self.new ≡ self.old) }
+        ensures makes { OnOk result (room.registers ≡ 3 → MakesMoves self.old code.old code.new all.now moves.now room.kept) }
+    {
+        let [next, rest @ ..] = moves else {
+            return Ok(());
         };
-        for next in moves {
-            match next {
-                Move::Keep(i) => {
-                    if let Some(assignment) = all.get(*i) {
-                        self.value(code, assignment, room)?;
-                        code.emit(line, Step::Store(Item::Temporary(*i), 0))?;
-                    }
+        self.make_move(code, all, *next, room)?;
+        self.make_moves(code, all, rest, room)
+    }
+
+    /// Makes one move.
+    fn make_move(
+        &mut self,
+        code: &mut Code,
+        all: &[Assignment],
+        next: Move,
+        room: Room,
+    ) -> Result<(), CodeFault>
+        ensures knowledge { OnOk result (self.new ≡ self.old) }
+        ensures makes { OnOk result (room.registers ≡ 3 → MakesMove self.old code.old code.new all.now next room.kept) }
+    {
+        match next {
+            Move::Keep(i) => self.keep(code, all, i, room),
+            Move::Make(i, is_kept) => {
+                // each number is that of an assignment
+                if i >= all.len() {
+                    return Err(CodeFault::Workspace { line: room.line });
                 }
-                Move::Make(i) => {
-                    if let Some(assignment) = all.get(*i) {
-                        self.make(code, assignment, *i, is_kept(moves, *i), room)?;
-                    }
-                }
+                self.make(code, &all[i], i, is_kept, room)
             }
         }
-        Ok(())
+    }
+
+    /// Keeps a value as its target takes it in the word with its number.
+    fn keep(
+        &mut self,
+        code: &mut Code,
+        all: &[Assignment],
+        i: usize,
+        room: Room,
+    ) -> Result<(), CodeFault>
+        ensures knowledge { OnOk result (self.new ≡ self.old) }
+        ensures small { OnOk result (HasSmallValue self.old (assignment_at all.now i).value) }
+        ensures there { OnOk result (i < room.kept) }
+        ensures keeps { OnOk result (room.registers ≡ 3
+            → KeepsValue self.old code.old code.new (assignment_at all.now i) i room.kept) }
+    {
+        // each number is that of an assignment, for which there is a word
+        if i >= all.len() || i >= room.kept {
+            return Err(CodeFault::Workspace { line: room.line });
+        }
+        self.value(code, &all[i], room)?;
+        code.emit(room.line, Step::Store(Item::Temporary(i), 0))
     }
 
     /// Pushes the value of an assignment, as its target takes it.
@@ -88,33 +179,22 @@ impl Emitter<'_> {
         code: &mut Code,
         assignment: &Assignment,
         room: Room,
-    ) -> Result<(), CodeFault> {
+    ) -> Result<(), CodeFault>
+        ensures knowledge { OnOk result (self.new ≡ self.old) }
+        ensures computes { OnOk result (2 ≤ room.registers → ComputesTo self.old code.old code.new assignment.now.value
+            (taken_value self.old.kinds assignment.now) room.registers room.kept) }
+        ensures small { OnOk result (HasSmallValue self.old assignment.now.value) }
+    {
         let value = self.expression(code, &assignment.value, room)?;
-        match &assignment.target {
-            Target::Variable(x) if self.kind(*x) == Kind::Byte => {
-                kept_byte(code, room.line, value)
+        if let Target::Variable(x) = &assignment.target {
+            if let Kind::Byte = self.kind(*x) {
+                return kept_byte(code, room.line, value);
             }
-            _ => Ok(()),
         }
+        Ok(())
     }
 
-    /// Pushes the value of an assignment, which may be kept.
-    fn value_or_word(
-        &mut self,
-        code: &mut Code,
-        assignment: &Assignment,
-        number: usize,
-        is_kept: bool,
-        room: Room,
-    ) -> Result<(), CodeFault> {
-        if is_kept {
-            code.emit(room.line, Step::Load(Item::Temporary(number), 0))
-        } else {
-            self.value(code, assignment, room)
-        }
-    }
-
-    /// Makes one assignment, whose value may be kept.
+    /// Makes one assignment, whose value may be kept in a word.
     fn make(
         &mut self,
         code: &mut Code,
@@ -122,28 +202,38 @@ impl Emitter<'_> {
         number: usize,
         is_kept: bool,
         room: Room,
-    ) -> Result<(), CodeFault> {
+    ) -> Result<(), CodeFault>
+        ensures knowledge { OnOk result (self.new ≡ self.old) }
+        ensures makes { OnOk result (room.registers ≡ 3
+            → MakesOne self.old code.old code.new assignment.now number is_kept room.kept) }
+    {
+        if is_kept {
+            code.emit(room.line, Step::Load(Item::Temporary(number), 0))?;
+            return self.store(code, &assignment.target, room);
+        }
+        self.value(code, assignment, room)?;
+        self.store(code, &assignment.target, room)
+    }
+
+    /// Stores Areg in a target.
+    fn store(&mut self, code: &mut Code, target: &Target, room: Room) -> Result<(), CodeFault>
+        ensures knowledge { OnOk result (self.new ≡ self.old) }
+        ensures stores { OnOk result (room.registers ≡ 3 → StoresIn self.old code.old code.new target.now room.kept) }
+    {
         let line = room.line;
-        match &assignment.target {
-            Target::Variable(x) => {
-                self.value_or_word(code, assignment, number, is_kept, room)?;
-                store_variable(code, line, *x)
-            }
+        match target {
+            Target::Variable(x) => store_variable(code, line, *x),
             Target::Element {
                 array,
                 kind,
                 subscript,
             } => {
                 if let Some(word) = self.fixed_word(*array, *kind, subscript) {
-                    self.value_or_word(code, assignment, number, is_kept, room)?;
                     return store_word(code, line, *array, word);
                 }
                 if let Some(offset) = self.offset_subscript(*array, *kind, subscript) {
-                    self.value_or_word(code, assignment, number, is_kept, room)?;
-                    base(code, line, *array, offset)?;
-                    return code.instr(line, Instr::Stnl(offset.constant.cast_signed()));
+                    return store_offset(code, line, *array, offset);
                 }
-                self.value_or_word(code, assignment, number, is_kept, room)?;
                 self.store_element(code, *array, *kind, subscript, room)
             }
         }
@@ -157,17 +247,35 @@ impl Emitter<'_> {
         kind: Kind,
         subscript: &Expression,
         room: Room,
-    ) -> Result<(), CodeFault> {
-        let line = room.line;
+    ) -> Result<(), CodeFault>
+        ensures knowledge { OnOk result (self.new ≡ self.old) }
+        ensures stores { OnOk result (room.registers ≡ 3
+            → StoresIn self.old code.old code.new (target.Element array kind subscript.now) room.kept) }
+    {
         let size = self.elements(array, kind);
+        self.subscript_over(code, subscript, size, room)?;
+        indexed(code, room.line, array, kind)?;
+        store_at(code, room.line, kind)
+    }
+
+    /// Pushes a subscript above what Areg holds.
+    fn subscript_over(
+        &mut self,
+        code: &mut Code,
+        subscript: &Expression,
+        size: u32,
+        room: Room,
+    ) -> Result<(), CodeFault>
+        ensures knowledge { OnOk result (self.new ≡ self.old) }
+        ensures computes { OnOk result (0 < size → size ≤ 2 ^ 31 → room.registers ≡ 3
+            → ComputesOver self.old code.old code.new subscript.now (subscript_value subscript.now size) room.kept) }
+    {
         if self.need(subscript) <= 2 {
             self.subscript(code, subscript, size, room.above())?;
-        } else {
-            code.emit(line, Step::Store(room.word(), 0))?;
-            self.subscript_above(code, subscript, size, room)?;
+            return Ok(());
         }
-        indexed(code, line, array, kind)?;
-        store_at(code, line, kind)
+        code.emit(room.line, Step::Store(room.word(), 0))?;
+        self.subscript_above(code, subscript, size, room)
     }
 
     /// Pushes what was kept last, and above it a subscript that needs all registers.
@@ -177,7 +285,11 @@ impl Emitter<'_> {
         subscript: &Expression,
         size: u32,
         room: Room,
-    ) -> Result<(), CodeFault> {
+    ) -> Result<(), CodeFault>
+        ensures knowledge { OnOk result (self.new ≡ self.old) }
+        ensures computes { OnOk result (0 < size → size ≤ 2 ^ 31 → room.registers ≡ 3
+            → ComputesAbove self.old code.old code.new subscript.now (subscript_value subscript.now size) room.kept) }
+    {
         let line = room.line;
         let i = self.expression(code, subscript, room.beside()?)?;
         let i = checked(code, line, i, size)?;
@@ -188,7 +300,10 @@ impl Emitter<'_> {
     }
 
     /// The word of an element of words with a constant subscript.
-    fn fixed_word(&self, array: usize, kind: Kind, subscript: &Expression) -> Option<u32> {
+    fn fixed_word(&self, array: usize, kind: Kind, subscript: &Expression) -> Option<u32>
+        ensures fixed { IfSome result (λ c. IsFixed self.now array kind subscript.now c) }
+        ensures words { IfSome result (λ c. kind ≡ Word) }
+    {
         match kind {
             Kind::Word => self.fixed_subscript(array, kind, subscript),
             Kind::Byte => None,
@@ -207,25 +322,14 @@ impl Emitter<'_> {
         }
     }
 
-    /// Whether all values can be in registers at once.
-    fn fit_in_registers(&self, all: &[Assignment]) -> bool {
-        match all {
-            [one, two] => {
-                self.need(&one.value) <= 3
-                    && self.need(&two.value) <= 2
-                    && self.is_word(&one.target)
-                    && self.is_word(&two.target)
-            }
-            [one, two, three] => {
-                self.need(&one.value) <= 3
-                    && self.need(&two.value) <= 2
-                    && self.need(&three.value) <= 1
-                    && self.is_word(&one.target)
-                    && self.is_word(&two.target)
-                    && self.is_word(&three.target)
-            }
-            _ => false,
-        }
+    /// Whether all values can be in so many registers at once.
+    fn fit_in_registers(&self, all: &[Assignment], registers: u32) -> bool {
+        let [one, rest @ ..] = all else {
+            return true;
+        };
+        self.need(&one.value) <= registers
+            && self.is_word(&one.target)
+            && self.fit_in_registers(rest, registers.saturating_sub(1))
     }
 
     /// Pushes all values, and stores them from the last to the first.
@@ -233,17 +337,16 @@ impl Emitter<'_> {
         &mut self,
         code: &mut Code,
         all: &[Assignment],
-        line: u32,
-    ) -> Result<(), CodeFault> {
-        let mut room = Room::from_word(0, line);
-        for assignment in all {
-            self.expression(code, &assignment.value, room)?;
-            room = room.above();
-        }
-        for assignment in all.iter().rev() {
-            self.store_in_word(code, &assignment.target, line)?;
-        }
-        Ok(())
+        room: Room,
+    ) -> Result<(), CodeFault>
+        ensures knowledge { OnOk result (self.new ≡ self.old) }
+    {
+        let [one, rest @ ..] = all else {
+            return Ok(());
+        };
+        self.expression(code, &one.value, room)?;
+        self.assign_by_registers(code, rest, room.above())?;
+        self.store_in_word(code, &one.target, room.line)
     }
 
     /// Stores Areg in a target that is a word.
@@ -252,7 +355,9 @@ impl Emitter<'_> {
         code: &mut Code,
         target: &Target,
         line: u32,
-    ) -> Result<(), CodeFault> {
+    ) -> Result<(), CodeFault>
+        ensures knowledge { OnOk result (self.new ≡ self.old) }
+    {
         match target {
             Target::Variable(x) => store_variable(code, line, *x),
             Target::Element {
@@ -272,15 +377,17 @@ impl Emitter<'_> {
         &mut self,
         code: &mut Code,
         all: &[Assignment],
-        line: u32,
-    ) -> Result<(), CodeFault> {
-        for (number, assignment) in all.iter().enumerate() {
-            self.keep_parts(code, assignment, number, line)?;
-        }
-        for (number, assignment) in all.iter().enumerate().rev() {
-            self.store_parts(code, &assignment.target, number, line)?;
-        }
-        Ok(())
+        room: Room,
+    ) -> Result<(), CodeFault>
+        ensures knowledge { OnOk result (self.new ≡ self.old) }
+        ensures assigns { OnOk result (room.registers ≡ 3 → AssignsAbove self.old code.old code.new all.now room.kept) }
+    {
+        let [one, rest @ ..] = all else {
+            return Ok(());
+        };
+        self.keep_parts(code, one, room)?;
+        self.assign_by_words(code, rest, room.beside()?.beside()?)?;
+        self.store_parts(code, &one.target, room)
     }
 
     /// Keeps a value as its target takes it, and the target's subscript, checked, if it has one.
@@ -288,47 +395,71 @@ impl Emitter<'_> {
         &mut self,
         code: &mut Code,
         assignment: &Assignment,
-        number: usize,
-        line: u32,
-    ) -> Result<(), CodeFault> {
-        let room = Room::from_word(number.saturating_mul(2), line);
+        room: Room,
+    ) -> Result<(), CodeFault>
+        ensures knowledge { OnOk result (self.new ≡ self.old) }
+        ensures keeps { OnOk result (room.registers ≡ 3 → KeepsParts self.old code.old code.new assignment.now room.kept) }
+        ensures small { OnOk result (HasSmallValue self.old assignment.now.value) }
+    {
         self.value(code, assignment, room)?;
-        code.emit(line, Step::Store(room.word(), 0))?;
+        code.emit(room.line, Step::Store(room.word(), 0))?;
         if let Target::Element {
             array,
             kind,
             subscript,
         } = &assignment.target
         {
-            let i = self.expression(code, subscript, room.beside()?)?;
-            checked(code, line, i, self.elements(*array, *kind))?;
-            code.emit(line, Step::Store(room.beside()?.word(), 0))?;
+            return self.keep_subscript(code, *array, *kind, subscript, room.beside()?);
         }
         Ok(())
     }
 
-    /// Stores a value that was kept in its target.
-    fn store_parts(
+    /// Keeps a subscript, checked.
+    fn keep_subscript(
         &mut self,
         code: &mut Code,
-        target: &Target,
-        number: usize,
-        line: u32,
-    ) -> Result<(), CodeFault> {
-        let room = Room::from_word(number.saturating_mul(2), line);
-        code.emit(line, Step::Load(room.word(), 0))?;
+        array: usize,
+        kind: Kind,
+        subscript: &Expression,
+        room: Room,
+    ) -> Result<(), CodeFault>
+        ensures knowledge { OnOk result (self.new ≡ self.old) }
+        ensures keeps { OnOk result (room.registers ≡ 3
+            → KeepsSubscript self.old code.old code.new array kind subscript.now room.kept) }
+    {
+        let i = self.expression(code, subscript, room)?;
+        checked(code, room.line, i, self.elements(array, kind))?;
+        code.emit(room.line, Step::Store(room.word(), 0))
+    }
+
+    /// Stores a value that was kept in its target.
+    fn store_parts(&self, code: &mut Code, target: &Target, room: Room) -> Result<(), CodeFault>
+        ensures { OnOk result (StoresParts self.now code.old code.new target.now room.kept) }
+    {
+        code.emit(room.line, Step::Load(room.word(), 0))?;
         match target {
-            Target::Variable(x) => store_variable(code, line, *x),
+            Target::Variable(x) => store_variable(code, room.line, *x),
             Target::Element {
                 array,
                 kind,
                 subscript: _,
-            } => {
-                code.emit(line, Step::Load(room.beside()?.word(), 0))?;
-                reduce(code, line, FULL, self.elements(*array, *kind))?;
-                indexed(code, line, *array, *kind)?;
-                store_at(code, line, *kind)
-            }
+            } => self.store_kept(code, *array, *kind, room.beside()?),
         }
+    }
+
+    /// Stores Areg in an element whose subscript was kept.
+    fn store_kept(
+        &self,
+        code: &mut Code,
+        array: usize,
+        kind: Kind,
+        room: Room,
+    ) -> Result<(), CodeFault>
+        ensures { OnOk result (StoresKept self.now code.old code.new array kind room.kept) }
+    {
+        code.emit(room.line, Step::Load(room.word(), 0))?;
+        reduce(code, room.line, FULL, self.elements(array, kind))?;
+        indexed(code, room.line, array, kind)?;
+        store_at(code, room.line, kind)
     }
 }

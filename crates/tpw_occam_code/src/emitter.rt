@@ -1,13 +1,13 @@
 //! What is known while code is made.
 
-ghost use Rattle.std.specs.Prelude.{◌≡◌, ◌<◌, ◌^◌, ◌+◌, ◌-◌, ℕ, List, Some, OnOk, IfOk, IfSome, map, slice_index};
+ghost use Rattle.std.specs.Prelude.{◌≡◌, ◌<◌, ◌^◌, ◌+◌, ◌-◌, ◌*◌, ℕ, List, Some, OnOk, IfOk, IfSome, map, slice_index};
 ghost use Rattle.tpw_occam_core.specs.Meaning.{kind_of};
 ghost use Rattle.tpw_occam_code.specs.Agreement.{fact_of_kind, valued_fact, constant_fact, counted_fact, fact_at, with_fact};
 ghost use Rattle.tpw_occam_code.specs.Agreement.{constant_in, elements_of};
 ghost use Rattle.tpw_occam_code.specs.Computing.{is_short as short};
 ghost use Rattle.tpw_occam_code.specs.declared.items.Item.TheVariants.{Temporary};
 ghost use Rattle.tpw_occam_code.specs.Symbolic.{Machine, push, number, performed};
-ghost use Rattle.tpw_occam_code.specs.Leading.{Makes, HasConstants, Serves};
+ghost use Rattle.tpw_occam_code.specs.Leading.{Makes, HasConstants, Serves, word_bytes};
 ghost use Rattle.tpw_occam_code.specs.Starting.{knowledge_of};
 
 use crate::code::{Code, Step};
@@ -92,7 +92,9 @@ pub(crate) struct Room {
 
 impl Room {
     /// All registers, and all words from one on.
-    pub(crate) fn from_word(kept: usize, line: u32) -> Room {
+    pub(crate) fn from_word(kept: usize, line: u32) -> Room
+        ensures { result ≡ record { registers = 3; kept = kept; line = line } }
+    {
         Room {
             registers: 3,
             kept,
@@ -226,7 +228,9 @@ impl<'a> Emitter<'a> {
     }
 
     /// The words of an array.
-    pub(crate) fn words(&self, array: usize) -> u32 {
+    pub(crate) fn words(&self, array: usize) -> u32
+        ensures { slice_index self.now.arrays array < 2 ^ 32 → 4 * result ≡ word_bytes (slice_index self.now.arrays array) }
+    {
         self.bytes(array).div_ceil(4)
     }
 

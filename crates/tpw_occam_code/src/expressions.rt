@@ -11,7 +11,7 @@ ghost use Rattle.tpw_occam_code.specs.declared.code.Step.TheVariants.{CjTo};
 ghost use Rattle.tpw_occam_code.specs.Code.{joined, followed_by, line_of, place_behind};
 ghost use Rattle.tpw_occam_code.specs.Agreement.{with_fact};
 ghost use Rattle.tpw_occam_code.specs.Values.{Holds};
-ghost use Rattle.tpw_occam_code.specs.Computing.{Binds, ComputesBinding, Computes, ComputesTo, IsKnown, IsKnownOf, IsSuccessor, IsPredecessor, inverse_of};
+ghost use Rattle.tpw_occam_code.specs.Computing.{Binds, ComputesBinding, Computes, ComputesTo, IsKnown, IsKnownOf, IsSuccessor, IsPredecessor, inverse_of, Decides, DecidesUnequal};
 
 use crate::code::{Code, Step};
 use crate::emitter::{Emitter, Room, constant, valued};
@@ -243,15 +243,20 @@ impl Emitter<'_> {
         code: &mut Code,
         e: &Expression,
         room: Room,
-    ) -> Result<(), CodeFault> {
+    ) -> Result<(), CodeFault>
+        ensures knowledge { OnOk result (self.new ≡ self.old) }
+        ensures decides { OnOk result (Decides self.old code.old code.new e.now room.registers room.kept) }
+    {
         if let Expression::Not(equal) = e {
             if let Expression::Binary {
-                operator: Operator::Equal,
+                operator,
                 left,
                 right,
             } = &**equal
             {
-                return self.difference(code, left, right, room);
+                if let Operator::Equal = *operator {
+                    return self.difference(code, left, right, room);
+                }
             }
         }
         self.expression(code, e, room)?;
@@ -265,16 +270,20 @@ impl Emitter<'_> {
         left: &Expression,
         right: &Expression,
         room: Room,
-    ) -> Result<(), CodeFault> {
-        if self.constant_of(right) == Some(0) {
+    ) -> Result<(), CodeFault>
+        ensures knowledge { OnOk result (self.new ≡ self.old) }
+        ensures decides { OnOk result (DecidesUnequal self.old code.old code.new left.now right.now room.registers room.kept) }
+    {
+        if let Some(0) = self.constant_of(right) {
             self.expression(code, left, room)?;
-        } else if self.constant_of(left) == Some(0) {
-            self.expression(code, right, room)?;
-        } else {
-            self.operands(code, left, right, room, true)?;
-            code.instr(room.line, Instr::Diff)?;
+            return Ok(());
         }
-        Ok(())
+        if let Some(0) = self.constant_of(left) {
+            self.expression(code, right, room)?;
+            return Ok(());
+        }
+        self.operands(code, left, right, room, true)?;
+        code.instr(room.line, Instr::Diff)
     }
 }
 

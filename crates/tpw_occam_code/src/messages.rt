@@ -1,9 +1,9 @@
 //! Code of messages.
 
-ghost use Rattle.std.specs.Prelude.{◌≡◌, OnOk};
+ghost use Rattle.std.specs.Prelude.{◌≡◌, IfOk, OnOk};
 ghost use Rattle.tpw_occam_code.specs.Executing.{Traces};
-ghost use Rattle.tpw_occam_code.specs.Starting.{Inputs, Outputs, Receives, Sends};
-ghost use Rattle.tp_step.specs.Effects.{link0_output};
+ghost use Rattle.tpw_occam_code.specs.Sending.{HasRoom, KeepsValue, SendsBytes, SendsMessage, address_of};
+ghost use Rattle.tpw_occam_code.specs.Starting.{Inputs, Receives, Sends};
 
 use crate::code::{Code, Step};
 use crate::emitter::{Emitter, Room};
@@ -18,6 +18,41 @@ const LINK0_OUTPUT: u32 = 0x8000_0000;
 const LINK1_OUTPUT: u32 = 0x8000_0004;
 
 const LINK0_INPUT: u32 = 0x8000_0010;
+
+/// Where messages go.
+#[derive(Clone, Copy)]
+enum Channel {
+    Result,
+    Trace,
+}
+
+impl Channel {
+    /// The channel's address.
+    fn address(self) -> u32
+        ensures { result ≡ address_of self }
+    {
+        match self {
+            Channel::Result => LINK0_OUTPUT,
+            Channel::Trace => LINK1_OUTPUT,
+        }
+    }
+}
+
+/// Sends so many bytes of an item, from its first on.
+fn send_bytes(
+    code: &mut Code,
+    line: u32,
+    channel: Channel,
+    item: Item,
+    bytes: u32,
+) -> Result<(), CodeFault>
+    ensures { OnOk result (SendsBytes code.old code.new channel item bytes) }
+{
+    code.emit(line, Step::Pointer(item, 0))?;
+    code.constant(line, channel.address())?;
+    code.constant(line, bytes)?;
+    code.instr(line, Instr::Output)
+}
 
 /// Receives so many bytes, from an item's first on.
 fn input(code: &mut Code, line: u32, item: Item, bytes: u32) -> Result<(), CodeFault>
@@ -40,23 +75,21 @@ impl Emitter<'_> {
         }
     }
 
-    /// The item that has a message's bytes already, if there is one.
-    fn item_of(&self, m: &Message) -> Option<Item> {
-        match m {
-            Message::Array(a) => Some(Item::Array(*a)),
-            Message::Value(Expression::Variable(x)) if self.fact(*x).constant.is_none() => {
-                Some(Item::Variable(*x))
+    /// Leaves the value of an expression in the word of an item: a variable's own, or the first that is kept.
+    fn keep_value(&mut self, code: &mut Code, e: &Expression, line: u32) -> Result<Item, CodeFault>
+        ensures knowledge { OnOk result (self.new ≡ self.old) }
+        ensures room { IfOk result (λ item. HasRoom item) }
+        ensures keeps { IfOk result (λ item. KeepsValue self.old code.old code.new e.now item) }
+    {
+        if let Expression::Variable(x) = e {
+            if self.fact(*x).constant.is_none() {
+                return Ok(Item::Variable(*x));
             }
-            Message::Value(_) => None,
         }
-    }
-
-    /// How many bytes a message has.
-    fn message_bytes(&self, m: &Message) -> u32 {
-        match m {
-            Message::Array(a) => self.bytes(*a),
-            Message::Value(_) => 4,
-        }
+        let room = Room::from_word(0, line);
+        self.expression(code, e, room)?;
+        code.emit(line, Step::Store(room.word(), 0))?;
+        Ok(room.word())
     }
 
     /// Sends a message on a channel.
@@ -64,23 +97,19 @@ impl Emitter<'_> {
         &mut self,
         code: &mut Code,
         m: &Message,
-        channel: u32,
+        channel: Channel,
         line: u32,
     ) -> Result<(), CodeFault>
-        ensures { OnOk result (channel ≡ link0_output → Outputs self.old code.old code.new m.now) }
+        ensures knowledge { OnOk result (self.new ≡ self.old) }
+        ensures sends { OnOk result (SendsMessage self.old code.old code.new channel m.now) }
     {
-        let room = Room::from_word(0, line);
-        if let Message::Value(e) = m {
-            if self.item_of(m).is_none() {
-                self.expression(code, e, room)?;
-                code.emit(line, Step::Store(room.word(), 0))?;
+        match m {
+            Message::Array(a) => send_bytes(code, line, channel, Item::Array(*a), self.bytes(*a)),
+            Message::Value(e) => {
+                let item = self.keep_value(code, e, line)?;
+                send_bytes(code, line, channel, item, 4)
             }
         }
-        let item = self.item_of(m).unwrap_or(room.word());
-        code.emit(line, Step::Pointer(item, 0))?;
-        code.constant(line, channel)?;
-        code.constant(line, self.message_bytes(m))?;
-        code.instr(line, Instr::Output)
     }
 
     /// Sends a trace.
@@ -88,14 +117,14 @@ impl Emitter<'_> {
         ensures knowledge { OnOk result (self.new ≡ self.old) }
         ensures traces { OnOk result (Traces self.old code.old code.new m.now) }
     {
-        self.output(code, m, LINK1_OUTPUT, line)
+        self.output(code, m, Channel::Trace, line)
     }
 
     /// Sends the result, and stops.
     pub(crate) fn send(&mut self, code: &mut Code, m: &Message, line: u32) -> Result<(), CodeFault>
         ensures { OnOk result (Sends self.old code.old code.new m.now) }
     {
-        self.output(code, m, LINK0_OUTPUT, line)?;
+        self.output(code, m, Channel::Result, line)?;
         code.instr(line, Instr::Stopp)
     }
 }

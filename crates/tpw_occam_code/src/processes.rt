@@ -1,10 +1,18 @@
 //! Code of processes. No register is in use between processes, and no word is kept.
 
-ghost use Rattle.std.specs.Prelude.{◌≡◌, OnOk};
+ghost use Rattle.std.specs.Prelude.{◌≡◌, ◌≤◌, ◌+◌, ◌*◌, [], ◌∷◌, OnOk};
+ghost use Rattle.std.specs.Global.{Global};
+ghost use Rattle.tpw_occam_core.specs.declared.expression.Expression.TheVariants as expression;
 ghost use Rattle.tpw_occam_core.specs.declared.process.Process.TheVariants as process;
-ghost use Rattle.tpw_occam_code.specs.Executing.{Clears, Executes};
+ghost use Rattle.tpw_occam_code.specs.declared.items.Item.TheVariants.{Variable};
+ghost use Rattle.tpw_occam_code.specs.Code.{followed_by, with_loop, place_behind};
+ghost use Rattle.tpw_occam_code.specs.Leading.{Makes, HasConstants};
+ghost use Rattle.tpw_occam_code.specs.Executing.{is_skip, with_item_word, chosen_lines, Begins, Starts, loop_end};
+ghost use Rattle.tpw_occam_code.specs.Executing.{Clears, Executes, Chooses, Repeats, first_use};
+ghost use Rattle.tpw_occam_code.specs.Moving.{ClearsWords, Moves};
+ghost use Rattle.tpw_occam_code.specs.Executing.{Remains, ChoosesKnown, RepeatsKnown};
 
-use crate::analysis::{First, first_use};
+use crate::analysis::{First, first_use, words_of_all};
 use crate::code::{Code, Step, Turns};
 use crate::emitter::{Emitter, Room, constant, counted, fact_of};
 use crate::expressions::branch;
@@ -20,7 +28,9 @@ const FEW_WORDS: u32 = 2;
 pub(crate) const MAX_WORDS: u32 = 32;
 
 /// Whether a process does nothing.
-fn is_skip(p: &Process) -> bool {
+fn is_skip(p: &Process) -> bool
+    ensures { result ≡ is_skip p.now }
+{
     match p {
         Process::Skip => true,
         Process::At { line: _, body } => is_skip(body),
@@ -29,13 +39,28 @@ fn is_skip(p: &Process) -> bool {
 }
 
 /// Makes a word 0.
-fn clear(code: &mut Code, line: u32, item: Item, word: u32) -> Result<(), CodeFault> {
+fn clear(code: &mut Code, line: u32, item: Item, word: u32) -> Result<(), CodeFault>
+    ensures { OnOk result (Makes code.old code.new HasConstants (with_item_word item word 0)) }
+{
     code.constant(line, 0)?;
     code.emit(line, Step::Store(item, word))
 }
 
+/// Makes a variable 0 where a process may read it before it is assigned to.
+fn clear_first(code: &mut Code, line: u32, x: usize, body: &Process) -> Result<(), CodeFault>
+    ensures { OnOk result (Starts (first_use body.now x) code.old code.new x) }
+{
+    match first_use(body, x) {
+        First::Read => clear(code, line, Item::Variable(x), 0),
+        First::Assigned => Ok(()),
+        First::Nothing => Ok(()),
+    }
+}
+
 /// Makes the words of an array 0 one by one.
-fn clear_words(code: &mut Code, line: u32, a: usize, words: u32) -> Result<(), CodeFault> {
+fn clear_words(code: &mut Code, line: u32, a: usize, words: u32) -> Result<(), CodeFault>
+    ensures { OnOk result (ClearsWords code.old code.new a words words) }
+{
     for word in 0..words {
         clear(code, line, Item::Array(a), word)?;
     }
@@ -49,7 +74,9 @@ fn move_words(
     from: Item,
     to: (Item, u32),
     words: u32,
-) -> Result<(), CodeFault> {
+) -> Result<(), CodeFault>
+    ensures { OnOk result (words ≤ 512 → Moves code.old code.new from to.0 to.1 (4 * words)) }
+{
     code.emit(line, Step::Pointer(from, 0))?;
     code.emit(line, Step::Pointer(to.0, to.1))?;
     code.constant(line, words.saturating_mul(4))?;
@@ -57,7 +84,9 @@ fn move_words(
 }
 
 /// Makes the words of an array 0 by copies of words that stay 0.
-fn clear_by_moves(code: &mut Code, line: u32, a: usize, words: u32) -> Result<(), CodeFault> {
+fn clear_by_moves(code: &mut Code, line: u32, a: usize, words: u32) -> Result<(), CodeFault>
+    ensures { OnOk result (words ≤ 512 → ClearsWords code.old code.new a words words) }
+{
     for part in 0..words.div_ceil(MAX_WORDS) {
         let first = part.saturating_mul(MAX_WORDS);
         let count = words.saturating_sub(first).min(MAX_WORDS);
@@ -67,7 +96,9 @@ fn clear_by_moves(code: &mut Code, line: u32, a: usize, words: u32) -> Result<()
 }
 
 /// Appends code for where Areg is not 0, and where it is.
-fn choose(code: &mut Code, line: u32, yes: &Code, no: &Code) -> Result<(), CodeFault> {
+fn choose(code: &mut Code, line: u32, yes: &Code, no: &Code) -> Result<(), CodeFault>
+    ensures { OnOk result (code.new ≡ chosen_lines code.old line yes.now no.now) }
+{
     code.emit(line, Step::CjTo(yes.here() + 1))?;
     code.append(line, yes)?;
     code.emit(line, Step::JumpTo(no.here()))?;
@@ -75,13 +106,9 @@ fn choose(code: &mut Code, line: u32, yes: &Code, no: &Code) -> Result<(), CodeF
 }
 
 /// Appends the beginning of a loop.
-fn begin_loop(
-    code: &mut Code,
-    line: u32,
-    x: usize,
-    start: u32,
-    count: u32,
-) -> Result<(), CodeFault> {
+fn begin_loop(code: &mut Code, line: u32, x: usize, start: u32, count: u32) -> Result<(), CodeFault>
+    ensures { OnOk result (Begins code.old code.new x start count) }
+{
     code.constant(line, start)?;
     code.emit(line, Step::Store(Item::Variable(x), 0))?;
     code.constant(line, count)?;
@@ -89,7 +116,10 @@ fn begin_loop(
 }
 
 /// Appends the end of a loop whose first line is at a place, and adds the loop.
-fn end_loop(code: &mut Code, turns: Turns) -> Result<(), CodeFault> {
+fn end_loop(code: &mut Code, turns: Turns) -> Result<(), CodeFault>
+    ensures { OnOk result (code.new ≡ with_loop (followed_by code.old (loop_end code.old turns))
+        (record turns { lend = place_behind code.old + 2 })) }
+{
     let line = turns.source;
     code.emit(line, Step::Pointer(Item::Variable(turns.index), 0))?;
     let distance = Step::Distance {
@@ -113,11 +143,15 @@ impl Emitter<'_> {
     ) -> Result<(), CodeFault>
         ensures knowledge { OnOk result (self.new ≡ self.old) }
         ensures executes { OnOk result (Executes self.old code.old code.new p.now) }
+        ensures remains { OnOk result (Remains self.old p.now) }
     {
         match p {
             Process::Skip => Ok(()),
             Process::Stop => code.instr(line, Instr::Seterr),
-            Process::Assign(list) => self.assignments(code, list, line),
+            Process::Assign(list) => {
+                words_of_all(list);
+                self.assignments(code, list, line)
+            }
             Process::Copy { to, from } => self.copy(code, *to, *from, line),
             Process::Sequence(first, second) => {
                 self.process(code, first, line)?;
@@ -137,9 +171,7 @@ impl Emitter<'_> {
             Process::Variable { name, body } => {
                 let before = self.fact(*name);
                 self.set_fact(*name, fact_of(self.kind(*name)));
-                if first_use(body, *name) == First::Read {
-                    clear(code, line, Item::Variable(*name), 0)?;
-                }
+                clear_first(code, line, *name, body)?;
                 self.process(code, body, line)?;
                 self.set_fact(*name, before);
                 Ok(())
@@ -192,11 +224,16 @@ impl Emitter<'_> {
         guarded: &Process,
         rest: &Process,
         line: u32,
-    ) -> Result<(), CodeFault> {
-        match self.constant_of(guard) {
-            Some(0) => return self.process(code, rest, line),
-            Some(_) => return self.process(code, guarded, line),
-            None => {}
+    ) -> Result<(), CodeFault>
+        ensures knowledge { OnOk result (self.new ≡ self.old) }
+        ensures executes { OnOk result (Chooses self.old code.old code.new guard.now guarded.now rest.now) }
+        ensures remains { OnOk result (ChoosesKnown self.old guard.now guarded.now rest.now) }
+    {
+        if let Some(c) = self.constant_of(guard) {
+            if c == 0 {
+                return self.process(code, rest, line);
+            }
+            return self.process(code, guarded, line);
         }
         self.condition(code, guard, Room::from_word(0, line))?;
         let mut yes = code.behind_one(self.alloc, line)?;
@@ -219,7 +256,11 @@ impl Emitter<'_> {
         count: u32,
         body: &Process,
         line: u32,
-    ) -> Result<(), CodeFault> {
+    ) -> Result<(), CodeFault>
+        ensures knowledge { OnOk result (self.new ≡ self.old) }
+        ensures executes { OnOk result (Repeats self.old code.old code.new index start count body.now) }
+        ensures remains { OnOk result (RepeatsKnown self.old index start count body.now) }
+    {
         if count == 0 {
             return Ok(());
         }
@@ -227,23 +268,24 @@ impl Emitter<'_> {
         if count == 1 {
             self.set_fact(index, constant(start));
             self.process(code, body, line)?;
-        } else {
-            let first = i64::from(start.cast_signed());
-            let last = first + i64::from(count) - 1;
-            self.set_fact(index, counted(Range::between(first, last)));
-            begin_loop(code, line, index, start, count)?;
-            let head = code.here();
-            self.process(code, body, line)?;
-            let turns = Turns {
-                head,
-                lend: head,
-                index,
-                start,
-                count,
-                source: line,
-            };
-            end_loop(code, turns)?;
+            self.set_fact(index, before);
+            return Ok(());
         }
+        let first = i64::from(start.cast_signed());
+        let last = first + i64::from(count) - 1;
+        self.set_fact(index, counted(Range::between(first, last)));
+        begin_loop(code, line, index, start, count)?;
+        let head = code.here();
+        self.process(code, body, line)?;
+        let turns = Turns {
+            head,
+            lend: head,
+            index,
+            start,
+            count,
+            source: line,
+        };
+        end_loop(code, turns)?;
         self.set_fact(index, before);
         Ok(())
     }

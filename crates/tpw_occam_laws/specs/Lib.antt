@@ -1,0 +1,2 @@
+-- What a reader must believe: the laws cite it.
+pub mod Meanings
