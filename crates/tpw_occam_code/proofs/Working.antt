@@ -33,9 +33,9 @@ use Rattle.tpw_occam_code.proofs.Standing.{and_first, and_second}
 use Rattle.tpw_occam_code.proofs.Leading.{leads_then, has_first, does_both}
 
 -- what is known of a state is known of what a process makes of it
-abbrev pub RunKnows : Type 0
-RunKnows =
-    (k : Knowledge) (storages : List Storage) (scope : List Entry) (p : Process) (s : Store) → IsProcessPlace k storages scope
+abbrev pub KnowsAfter : Knowledge → Process → Type 0
+KnowsAfter k p =
+    (storages : List Storage) (scope : List Entry) (s : Store) → IsProcessPlace k storages scope
     → IsTrue (is_sound_process (length k.kinds) storages scope p) → KnowsState k scope s → KnowsState k scope (run k.kinds p s)
 
 -- bytes of tables are bytes
@@ -240,7 +240,7 @@ zeros_fit storages p = record {
   bytes = λ i d h. rw (get_or-replicate (place_bytes storages p) i 0 d (omega (arith, h, length-replicate {A = ℕ} (place_bytes storages p) 0))) (omega arith);
 }
 
-module _ (run_knows : RunKnows) (w : Worker) (one two three : Lines) (sound : IsTrue (is_sound w)) (bytes : HasBytes w)
+module _ (w : Worker) (one two three : Lines) (remains : KnowsAfter (knowledge_of w) w.body) (sound : IsTrue (is_sound w)) (bytes : HasBytes w)
     (receives : Receives (knowledge_of w) (none_at 0) one w.receive) (executes : Executes (knowledge_of w) one two w.body)
     (sends : Sends (knowledge_of w) two three w.send) where
   stands : IsProcessPlace (knowledge_of w) w.arrays.items (globals w)
@@ -257,7 +257,7 @@ module _ (run_knows : RunKnows) (w : Worker) (one two three : Lines) (sound : Is
     knows_before = received_knows (knowledge_of w) w.arrays.items (globals w) w.receive packet (first w) stands (in_scope w sound) fits (first_knows w bytes)
 
     knows_after : KnowsState (knowledge_of w) (globals w) (after w packet)
-    knows_after = run_knows (knowledge_of w) w.arrays.items (globals w) w.body (received w.receive packet (first w)) stands body knows_before
+    knows_after = remains w.arrays.items (globals w) (received w.receive packet (first w)) stands body knows_before
 
     -- the code before the result
     does : Does (knowledge_of w).arrays (none_at 0) two
