@@ -110,13 +110,7 @@ fn indices(start: u32, count: u32) -> Range
 }
 
 /// Appends the beginning of a loop.
-fn begin_loop(
-    code: &mut Code,
-    line: u32,
-    x: usize,
-    start: u32,
-    count: u32,
-) -> Result<(), CodeFault>
+fn begin_loop(code: &mut Code, line: u32, x: usize, start: u32, count: u32) -> Result<(), CodeFault>
     ensures { OnOk result (Begins code.old code.new x start count) }
 {
     code.constant(line, start)?;
