@@ -2,6 +2,7 @@ use Rattle.std.proofs.Common.{◌≡◌, ◌<◌, ◌≤◌, ℕ, ◌^◌, ◌+�
 use Rattle.std.proofs.lemmas.Result.{on_ok_weaker, IfOk-weaker}
 use Rattle.tpw_occam_core.specs.Meaning.{kind_of}
 use Rattle.tpw_occam_code.specs.Agreement.{with_fact, fact_at, fact_of_kind, constant_fact, counted_fact}
+use Rattle.tpw_occam_code.specs.declared.code.Turns.{Turns}
 use Rattle.tpw_occam_code.specs.Code.{none_at, place_behind}
 use Rattle.tpw_occam_code.specs.Computing.{Decides, Binds, ComputesBinding}
 use Rattle.tpw_occam_code.specs.Executing.{Executes, Chooses, Repeats, Remains, ChoosesKnown, RepeatsKnown, HaveWords, Assigns, Traces, Clears, Starts, first_use, is_skip}
@@ -273,8 +274,16 @@ repeat-returns-clause-executes t c =
     let k = c.args.self.now in
     let x = c.args.index in
     let set : c.set_fact-2.new.self ≡ counted k x c.indices.result = c.set_fact-2.ensures ∙ ap (λ f. with_fact x f k) c.counted.ensures in
+    let ended : Turns = record {
+      head = c.here-head.result;
+      lend = c.here-head.result;
+      index = x;
+      start = c.args.start;
+      count = c.args.count;
+      source = c.args.line;
+    } in
     repeat_many k c.args.code.now c.begin_loop.new.code c.process-2.new.code c.end_loop.new.code c.args.line x c.args.start c.args.count c.indices.result c.args.body.now
-    _ _ c.in_ok-end_loop.ensures refl refl c.here-head.ensures.place c.if-count-eq0.false c.ranges.start.fits
+    ended _ c.in_ok-end_loop.ensures refl refl c.here-head.ensures.place c.if-count-eq0.false c.ranges.start.fits
     (λ turns n below. turns_contained c.args.start c.args.count _ _ c.indices.result c.ranges.start.fits turns refl refl c.indices.ensures n below)
     c.in_ok-begin_loop.ensures
     (subst (λ k. Remains k c.args.body.now) set c.in_ok-process-2.ensures.remains)
