@@ -347,9 +347,10 @@ parts_stay scope kinds t temporaries word i m end leaves parts =
 pub words_none : (k : Knowledge) (code : Lines) (temporaries : ℕ) → AssignsAbove k code code [] temporaries
 words_none k code temporaries storages scope unset s place may knows =
     does_less k.arrays code code _ _ _ _ (does_nothing k.arrays code) (λ m said. tt)
-    (λ m end said is. subst (λ z. Matches k storages scope (unset_by [] unset) s z × LeavesKept scope temporaries m z) (sym is)
-    (matches_less k storages scope unset (unset_by [] unset) s m (λ x h. still (unset x) h) said,
-    record { counts = record { counts = λ x j there. refl; to_come = refl; sent = refl }; words = λ n at less. refl }))
+    (λ m end said is. subst (λ z. Matches k storages scope (unset_by [] unset) s z × LeavesKept scope temporaries m z) (sym is) (
+      matches_less k storages scope unset (unset_by [] unset) s m (λ x h. still (unset x) h) said,
+      record { counts = record { counts = λ x j there. refl; to_come = refl; sent = refl }; words = λ n at less. refl },
+    ))
   where
     still : (u : Bool) → (u && true) ≡ false → u ≡ false
     still false h = refl

@@ -52,12 +52,7 @@ fn store_at(code: &mut Code, line: u32, kind: Kind) -> Result<(), CodeFault>
 }
 
 /// Stores Areg in the word of an array at an offset.
-fn store_offset(
-    code: &mut Code,
-    line: u32,
-    array: usize,
-    offset: Offset,
-) -> Result<(), CodeFault>
+fn store_offset(code: &mut Code, line: u32, array: usize, offset: Offset) -> Result<(), CodeFault>
     ensures { OnOk result ((arrays bytes : List ℕ) (v word : ℕ) → v < 2 ^ 32 → length bytes ≡ slice_index arrays array
         → v + offset.constant < size Word bytes → length bytes ≤ 2048 → Does arrays code.old code.new
         (λ m. HasWord (item.Variable offset.variable) v m × HasNumber word m)
@@ -86,12 +81,7 @@ impl Emitter<'_> {
     }
 
     /// Makes several assignments.
-    fn several(
-        &mut self,
-        code: &mut Code,
-        all: &[Assignment],
-        line: u32,
-    ) -> Result<(), CodeFault>
+    fn several(&mut self, code: &mut Code, all: &[Assignment], line: u32) -> Result<(), CodeFault>
         ensures knowledge { OnOk result (self.new ≡ self.old) }
         ensures assigns { OnOk result (Assigns self.old code.old code.new all.now) }
     {

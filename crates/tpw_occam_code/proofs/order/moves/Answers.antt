@@ -13,8 +13,12 @@ loop-preserved c rest settled =
     (c.loop.invariant (c.in-Some.next ∷ rest) (c.next_move.new.waiting.items, (c.in-Some.ensures, settled)))
 
 pub returns : goal.returns
-returns c =
-    (c.in_ok-waiting.waiting.items, (c.in_ok-waiting.ensures,
+returns c = (
+  c.in_ok-waiting.waiting.items,
+  (
+    c.in_ok-waiting.ensures,
     subst (λ l. Settles c.args.all.now c.in_ok-waiting.waiting.items l) (append-nil c.loop.moves.items)
-    (c.loop.invariant [] (none_of c.loop.waiting.items
-    (let zero = eqb-true (vec_len c.loop.waiting) 0 (sym c.if-not-is_empty.ensures) in omega (arith, zero, c.loop.waiting.ok.0))))))
+        (c.loop.invariant [] (none_of c.loop.waiting.items
+        (let zero = eqb-true (vec_len c.loop.waiting) 0 (sym c.if-not-is_empty.ensures) in omega (arith, zero, c.loop.waiting.ok.0)))),
+  ),
+)

@@ -27,7 +27,7 @@ pub returns-in_default-clause-computes : goal.returns-in_default-clause-computes
 returns-in_default-clause-computes c two =
     whole_computes c.args.self.now c.args.code.now c.expression.new.code c.args.assignment.now
     c.args.room.registers c.args.room.kept
-    (λ word. ap (λ t. taken c.args.self.now.kinds t word) c.in_default.is )
+    (λ word. ap (λ t. taken c.args.self.now.kinds t word) c.in_default.is)
     c.in_ok-value.ensures.computes
 
 pub returns-in-Byte-clause-small : goal.returns-in-Byte-clause-small
