@@ -309,8 +309,8 @@ value_keeps k old between new source a i temporaries computes save storages scop
       writes.error ∙ after.0.error,
       ap (λ b. bytes_at b (item.Temporary i) 0 4) writes.blocks ∙ word_stored (item.Temporary i) w middle.blocks,
       (λ t at less differs. ap (λ b. b (item.Temporary t) at) writes.blocks
-      ∙ other_item (item.Temporary i) (item.Temporary t) 0 at (to_le_bytes w32 w) middle.blocks (apart i t differs)
-      ∙ after.1.blocks (item.Temporary t) at less),
+          ∙ other_item (item.Temporary i) (item.Temporary t) 0 at (to_le_bytes w32 w) middle.blocks (apart i t differs)
+          ∙ after.1.blocks (item.Temporary t) at less),
     )) in
     does_less k.arrays old new _ _ _ _ (does_same k.arrays old new _ _ kept)
     (λ m said. said.agrees)
@@ -582,8 +582,11 @@ moves_assign k old new all moves temporaries settle makes storages scope unset s
     (subst (λ l. Does k.arrays old new (λ m. Matches k storages scope unset s m × HasKept k.kinds all words temporaries waiting m)
     (λ m end. Matches k storages scope (unset_by l unset) (assigned k.kinds l s) end × LeavesCounts scope m end)) same
     (makes waiting words settle.1.1 (λ n. omega arith) storages scope unset s place (subst (λ l. MayMakeAll k storages scope unset l) (sym same) all_may) knows))
-    (λ m said. (said, none_kept k.kinds all words temporaries waiting m (λ i less.
-    let long = are.long in ap (λ (w : Waiting). w.is_kept) (are.each i (omega (arith, less, long))))))
+    (λ m said. (
+      said,
+      none_kept k.kinds all words temporaries waiting m (λ i less.
+          let long = are.long in ap (λ (w : Waiting). w.is_kept) (are.each i (omega (arith, less, long)))),
+    ))
     (λ m end said after. (
       matches_less k storages scope (unset_by all unset) _ _ end (λ x h. run_sets scope unset _ all x may h) after.0,
       after.1,
