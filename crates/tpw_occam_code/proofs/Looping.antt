@@ -27,13 +27,14 @@ use Rattle.tpw_occam_code.specs.declared.items.Item.{Item}
 use Rattle.tpw_occam_code.specs.declared.items.Item.TheVariants as item
 use Rattle.tpw_occam_code.specs.declared.code.Step.TheVariants.{Plain, Pointer, Distance}
 use Rattle.tpw_occam_code.specs.declared.code.CodeLine.{CodeLine}
-use Rattle.tpw_occam_code.specs.Code.{Lines, line_of, place_behind}
+use Rattle.tpw_occam_code.specs.declared.code.Turns.{Turns}
+use Rattle.tpw_occam_code.specs.Code.{Lines, followed_by, with_loop, line_of, place_behind}
 use Rattle.tpw_occam_code.specs.Blocks.{Blocks, is_item, bytes_at, word_at, with_word, with_bytes}
 use Rattle.tpw_occam_code.specs.Ranges.{Contains}
 use Rattle.tpw_occam_code.specs.Symbolic.{Machine, Contents, address, distance, Leads, nowhere, onward, step, performed, effect, at_place, with_blocks, push}
 use Rattle.tpw_occam_code.specs.Leading.{Does, IsBefore, Arrives, HasLines, HasWord, Serves}
 use Rattle.tpw_occam_code.specs.Agreement.{Knowledge, with_fact, fact_at, counted_fact, constant_fact, FitsFact, LeavesItems, Stays}
-use Rattle.tpw_occam_code.specs.Executing.{Follows, Remains, IsProcessPlace, MayRun, none_unset, KnowsState, Matches, LeavesCounts, Executes, Repeats, Begins, with_item_word, first_use, is_nothing, unset_after}
+use Rattle.tpw_occam_code.specs.Executing.{Follows, Remains, IsProcessPlace, MayRun, none_unset, KnowsState, Matches, LeavesCounts, Executes, Repeats, Begins, loop_end, with_item_word, first_use, is_nothing, unset_after}
 use Rattle.tpw_occam_code.proofs.Leading.{does_less, does_nothing, step_is, leads_then, has_first}
 use Rattle.tpw_occam_code.proofs.Keeping.{is_item-self, other_item, word_written}
 use Rattle.tpw_occam_code.proofs.Naming.{variable_differs, slice_same, constant_fits, new_name}
@@ -584,3 +585,19 @@ repeat_executes k old begun bodied new_code source x start left range body small
             );
           };
     }
+
+loop_end_is : (begun bodied : Lines) (source x : ℕ) (ended : Turns) → ended.index ≡ x → ended.source ≡ source → ended.head ≡ place_behind begun
+    → loop_end bodied ended ≡ turn_lines begun bodied source x
+loop_end_is begun bodied source x ended index line head = rw index (rw line (rw head refl))
+
+pub repeat_many : (k : Knowledge) (old begun bodied new_code : Lines) (source x start count : ℕ) (range : Range) (body : Process) (ended more : Turns)
+    → new_code ≡ with_loop (followed_by bodied (loop_end bodied ended)) more
+    → ended.index ≡ x → ended.source ≡ source → ended.head ≡ place_behind begun
+    → (count ≡ 0 → ⊥) → start < 2 ^ 32 → (IsTrue (are_turns start count) → (n : ℕ) → n < count → Contains range (index_of start n))
+    → Begins old begun x start count → Remains (counted k x range) body → Executes (counted k x range) begun bodied body
+    → Repeats k old new_code x start count body
+repeat_many k old begun bodied new_code source x start zero range body ended more is index line head some small contains begins remains within = absurd (some refl)
+repeat_many k old begun bodied new_code source x start (suc left) range body ended more is index line head some small contains begins remains within =
+    repeat_executes k old begun bodied new_code source x start left range body small contains begins remains within
+    (ap (λ l. l.base) is)
+    (ap (λ l. l.lines) is ∙ ap (λ ls. bodied.lines ++ ls) (loop_end_is begun bodied source x ended index line head))

@@ -109,3 +109,7 @@ on_ok_both P Q (Err e) p q = tt
 pub none_of : {A : Type 0} (o : Option A) → ((x : A) → o ≡ Some x → ⊥) → o ≡ None
 none_of None not_some = refl
 none_of (Some x) not_some = absurd (not_some x refl)
+
+-- where a box lies
+pub place_of : {A : Type 0} → Box A Global → Place
+place_of b = record { ptr = b.ptr; alloc = b.alloc; value = tt }

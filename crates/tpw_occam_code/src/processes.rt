@@ -1,6 +1,8 @@
 //! Code of processes. No register is in use between processes, and no word is kept.
 
-ghost use Rattle.std.specs.Prelude.{◌≡◌, ◌≤◌, ◌+◌, ◌*◌, [], ◌∷◌, OnOk};
+ghost use Rattle.std.specs.Prelude.{◌≡◌, ◌≤◌, ◌+◌, ◌*◌, ◌^◌, ◌<◌, ℕ, pos, ◌+ℤ◌, ◌-ℤ◌, ◌≤ℤ◌, [], ◌∷◌, OnOk};
+ghost use Rattle.tp_decode.specs.Words.{signed};
+ghost use Rattle.tpw_occam_code.specs.Ranges.{Contains};
 ghost use Rattle.std.specs.Global.{Global};
 ghost use Rattle.tpw_occam_core.specs.declared.expression.Expression.TheVariants as expression;
 ghost use Rattle.tpw_occam_core.specs.declared.process.Process.TheVariants as process;
@@ -103,6 +105,15 @@ fn choose(code: &mut Code, line: u32, yes: &Code, no: &Code) -> Result<(), CodeF
     code.append(line, yes)?;
     code.emit(line, Step::JumpTo(no.here()))?;
     code.append(line, no)
+}
+
+/// The numbers that the index of a loop may be.
+fn indices(start: u32, count: u32) -> Range
+    ensures { (word : ℕ) → word < 2 ^ 32 → signed start ≤ℤ signed word
+        → signed word ≤ℤ ((signed start +ℤ pos count) -ℤ pos 1) → Contains result word }
+{
+    let first = i64::from(start.cast_signed());
+    Range::between(first, first + i64::from(count) - 1)
 }
 
 /// Appends the beginning of a loop.
@@ -271,9 +282,7 @@ impl Emitter<'_> {
             self.set_fact(index, before);
             return Ok(());
         }
-        let first = i64::from(start.cast_signed());
-        let last = first + i64::from(count) - 1;
-        self.set_fact(index, counted(Range::between(first, last)));
+        self.set_fact(index, counted(indices(start, count)));
         begin_loop(code, line, index, start, count)?;
         let head = code.here();
         self.process(code, body, line)?;
