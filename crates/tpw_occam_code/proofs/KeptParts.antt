@@ -221,7 +221,7 @@ kept_stores k old loaded reduced at_element new source a view elements temporary
     fits : (long bytes room : ℕ) → long ≡ bytes → word_bytes bytes ≤ room → long ≤ room
     fits long bytes room is h = omega arith
 
-matches_unflagged : (k : Knowledge) (storages : List Storage) (scope : List Entry) (unset : ℕ → Bool) (s : Store) (m : Machine)
+pub matches_unflagged : (k : Knowledge) (storages : List Storage) (scope : List Entry) (unset : ℕ → Bool) (s : Store) (m : Machine)
     → Matches k storages scope unset (flagged false s) m → Matches k storages scope unset s m
 matches_unflagged k storages scope unset s m matches = record {
   agrees = agrees_same k scope unset (flagged false s) s m refl refl matches.agrees;

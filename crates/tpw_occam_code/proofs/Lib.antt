@@ -44,3 +44,5 @@ pub mod StoredWords
 pub mod Deciding
 pub mod Ordering
 pub mod Remaining
+pub mod Settling
+pub mod Registers

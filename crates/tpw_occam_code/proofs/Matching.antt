@@ -79,7 +79,7 @@ agrees_same k scope unset s t m values arrays agrees = record {
   constants = agrees.constants;
 }
 
-word_stored : (i : Item) (w : ℕ) (blocks : Blocks) → bytes_at (with_bytes i 0 (to_le_bytes w32 w) blocks) i 0 4 ≡ to_le_bytes w32 w
+pub word_stored : (i : Item) (w : ℕ) (blocks : Blocks) → bytes_at (with_bytes i 0 (to_le_bytes w32 w) blocks) i 0 4 ≡ to_le_bytes w32 w
 unfolding with_word
 word_stored i w blocks = word_written i w blocks
 
@@ -289,10 +289,9 @@ pub one_evaluated : (k : Knowledge) (old between new : Lines) (a : Assignment) (
     → ComputesTo k old between a.value (taken_value k.kinds a) 3 temporaries → HasSmallValue k a.value → StoresIn k between new a.target temporaries
     → MakesOne k old new a number is_kept temporaries
 one_evaluated k old between new a number is_kept temporaries none computes small stores = subst (λ b. MakesOne k old new a number b temporaries) (sym none)
-    (λ storages scope unset s word place makes knows short.
+    (λ storages scope unset s word place takes may_stand knows short.
     let known = knows_unset k scope unset s knows.knows in
-    let takes = make_takes k storages scope unset a makes in
-    let stands = make_stands k storages scope unset a makes in
+    let stands = may_stand refl in
     let v = value_of a.value s in
     let i = subscript_of a.target s in
     does_less k.arrays old new _ _ _ _
@@ -317,9 +316,8 @@ pub one_kept : (k : Knowledge) (old between new : Lines) (source : ℕ) (a : Ass
     → between ≡ followed_by old (line_of source (Load (item.Temporary number) 0) ∷ []) → StoresIn k between new a.target temporaries
     → MakesOne k old new a number is_kept temporaries
 one_kept k old between new source a number is_kept temporaries kept is stores = subst (λ b. MakesOne k old new a number b temporaries) (sym kept)
-    (λ storages scope unset s word place makes knows short.
+    (λ storages scope unset s word place takes may_stand knows short.
     let known = knows_unset k scope unset s knows.knows in
-    let takes = make_takes k storages scope unset a makes in
     let w = taken k.kinds a.target word in
     let i = subscript_of a.target s in
     does_less k.arrays old new _ _ _ _
@@ -387,9 +385,10 @@ matches_less k storages scope few many s m set matches = record {
 -- one assignment alone
 pub alone_assigns : (k : Knowledge) (old new : Lines) (a : Assignment) → MakesOne k old new a 0 false 0 → Assigns k old new (a ∷ [])
 alone_assigns k old new a makes storages scope unset s place may knows =
+    let one : MayMake k storages scope unset a =
+    record { sound = and_first _ _ may.sound; assigned = λ x h. or_first _ _ (run_reads storages scope unset _ (a ∷ []) x may h) } in
     does_less k.arrays old new _ _ _ _
-    (makes storages scope unset s 0 place
-    (record { sound = and_first _ _ may.sound; assigned = λ x h. or_first _ _ (run_reads storages scope unset _ (a ∷ []) x may h) }) knows (omega arith))
+    (makes storages scope unset s 0 place (make_takes k storages scope unset a one) (λ e. make_stands k storages scope unset a one) knows (omega arith))
     (λ m said. (said, λ e. absurd (false_true e)))
     (λ m end said after. (
       matches_less k storages scope (unset_but a.target unset) _ _ end

@@ -42,7 +42,7 @@ same_part whole part s t values arrays same = record {
   arrays = λ a h. same.arrays a (arrays a h);
 }
 
-set_beyond : (xs : List ℕ) (x w : ℕ) → length xs ≤ x → slice_set xs x w ≡ xs
+pub set_beyond : (xs : List ℕ) (x w : ℕ) → length xs ≤ x → slice_set xs x w ≡ xs
 set_beyond [] x w h = refl
 set_beyond (y ∷ xs) zero w h = absurd (omega (arith, h))
 set_beyond (y ∷ xs) (suc x) w h = ap (λ l. y ∷ l) (set_beyond xs x w (omega (arith, h)))

@@ -202,7 +202,8 @@ after_one kinds a v s =
 abbrev pub MakesOne : Knowledge → (old new : Lines) → Assignment → (kept_in : ℕ) → (is_kept : Bool) → (temporaries : ℕ) → Type 0
 MakesOne k old new a kept_in is_kept temporaries =
     (storages : List Storage) (scope : List Entry) (unset : ℕ → Bool) (s : Store) (word : ℕ) → IsProcessPlace k storages scope
-    → MayMake k storages scope unset a → KnowsState k scope s → word < 2 ^ 32
+    → MayTake k storages scope unset a.target → (is_kept ≡ false → MayStand k storages scope unset a.value) → KnowsState k scope s
+    → word < 2 ^ 32
     → Does k.arrays old new
     (λ m. Matches k storages scope unset s m × (is_kept ≡ true → HasWord (item.Temporary kept_in) (taken k.kinds a.target word) m))
     (λ m end. Matches k storages scope (unset_but a.target unset) (after_one k.kinds a (source_of a is_kept word s) s) end

@@ -17,3 +17,4 @@ pub mod Assigning
 pub mod Starting
 pub mod Placing
 pub mod Ordering
+pub mod Registers

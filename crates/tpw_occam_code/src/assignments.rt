@@ -1,6 +1,6 @@
 //! Code of assignments.
 
-ghost use Rattle.std.specs.Prelude.{◌≡◌, ◌<◌, ◌≤◌, ◌+◌, ◌*◌, ◌^◌, ℕ, List, length, slice_index, true, false, OnOk, IfOk, IfSome};
+ghost use Rattle.std.specs.Prelude.{◌≡◌, ◌<◌, ◌≤◌, ◌+◌, ◌*◌, ◌^◌, ℕ, List, length, slice_index, true, false, OnOk, IfOk, IfSome, IsTrue};
 ghost use Rattle.std.specs.Int.{w32, to_le_bytes};
 ghost use Rattle.tpw_occam_core.specs.declared.kind.Kind.TheVariants.{Word};
 ghost use Rattle.tpw_occam_core.specs.declared.process.Target.TheVariants as target;
@@ -11,6 +11,7 @@ ghost use Rattle.tpw_occam_code.specs.Values.{HasNumber, PushesAlone, scaled};
 ghost use Rattle.tpw_occam_code.specs.Computing.{ComputesTo, IsFixed, subscript_value};
 ghost use Rattle.tpw_occam_code.specs.Executing.{Assigns};
 ghost use Rattle.tpw_occam_code.specs.Assigning.{element_bytes, IsToStore, Writes, WritesPopped, ComputesOver, ComputesAbove, StoresIn, MakesOne, taken_value, HasSmallValue, AssignsAbove, KeepsParts, KeepsSubscript, StoresParts, StoresKept};
+ghost use Rattle.tpw_occam_code.specs.Registers.{IsWordTarget, FitAll, StoresWord, AssignsBelow};
 ghost use Rattle.tpw_occam_code.specs.Ordering.{SettleAll, MakesMoves, MakesMove, KeepsValue, assignment_at};
 
 use crate::code::{Code, Step};
@@ -206,6 +207,7 @@ impl Emitter<'_> {
         ensures knowledge { OnOk result (self.new ≡ self.old) }
         ensures makes { OnOk result (room.registers ≡ 3
             → MakesOne self.old code.old code.new assignment.now number is_kept room.kept) }
+        ensures small { OnOk result (is_kept ≡ false → HasSmallValue self.old assignment.now.value) }
     {
         if is_kept {
             code.emit(room.line, Step::Load(Item::Temporary(number), 0))?;
@@ -311,25 +313,36 @@ impl Emitter<'_> {
     }
 
     /// Whether a target is a word that takes any value as it is.
-    fn is_word(&self, target: &Target) -> bool {
+    fn is_word(&self, target: &Target) -> bool
+        ensures { IsTrue result → IsWordTarget self.now target.now }
+    {
         match target {
-            Target::Variable(x) => self.kind(*x) == Kind::Word,
+            Target::Variable(x) => match self.kind(*x) {
+                Kind::Word => true,
+                Kind::Byte => false,
+            },
             Target::Element {
                 array,
                 kind,
                 subscript,
-            } => self.fixed_word(*array, *kind, subscript).is_some(),
+            } => match self.fixed_word(*array, *kind, subscript) {
+                Some(_) => true,
+                None => false,
+            },
         }
     }
 
     /// Whether all values can be in so many registers at once.
-    fn fit_in_registers(&self, all: &[Assignment], registers: u32) -> bool {
+    fn fit_in_registers(&self, all: &[Assignment], registers: u32) -> bool
+        ensures { IsTrue result → FitAll self.now all.now registers }
+    {
         let [one, rest @ ..] = all else {
             return true;
         };
-        self.need(&one.value) <= registers
-            && self.is_word(&one.target)
-            && self.fit_in_registers(rest, registers.saturating_sub(1))
+        if self.need(&one.value) > registers || !self.is_word(&one.target) {
+            return false;
+        }
+        self.fit_in_registers(rest, registers.saturating_sub(1))
     }
 
     /// Pushes all values, and stores them from the last to the first.
@@ -340,6 +353,8 @@ impl Emitter<'_> {
         room: Room,
     ) -> Result<(), CodeFault>
         ensures knowledge { OnOk result (self.new ≡ self.old) }
+        ensures assigns { OnOk result (room.registers ≤ 3 → FitAll self.old all.now room.registers
+            → AssignsBelow self.old code.old code.new all.now room.registers) }
     {
         let [one, rest @ ..] = all else {
             return Ok(());
@@ -357,6 +372,7 @@ impl Emitter<'_> {
         line: u32,
     ) -> Result<(), CodeFault>
         ensures knowledge { OnOk result (self.new ≡ self.old) }
+        ensures stores { OnOk result (IsWordTarget self.old target.now → StoresWord self.old code.old code.new target.now) }
     {
         match target {
             Target::Variable(x) => store_variable(code, line, *x),
@@ -365,8 +381,11 @@ impl Emitter<'_> {
                 kind,
                 subscript,
             } => {
-                let word = self.fixed_word(*array, *kind, subscript).unwrap_or(0);
-                store_word(code, line, *array, word)
+                if let Some(word) = self.fixed_word(*array, *kind, subscript) {
+                    return store_word(code, line, *array, word);
+                }
+                // the target is no such word
+                Err(CodeFault::Code { line })
             }
         }
     }

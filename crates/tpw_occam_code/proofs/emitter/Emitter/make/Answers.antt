@@ -1,9 +1,12 @@
-use Rattle.std.proofs.Common.{◌≡◌, ◌≤◌, ◌<◌, ◌^◌, ℕ, List, sym, subst, arith}
+use Rattle.std.proofs.Common.{◌≡◌, ◌≤◌, ◌<◌, ◌^◌, ℕ, List, Bool, true, false, sym, subst, ◌∙◌, arith}
 use Rattle.std.proofs.lemmas.Result.{on_ok_weaker}
 use Rattle.tpw_occam_code.specs.Computing.{ComputesTo}
 use Rattle.tpw_occam_code.specs.Assigning.{StoresIn, taken_value}
 use Rattle.tpw_occam_code.proofs.Matching.{one_evaluated, one_kept}
 use Rattle.tpw_occam_code.proofs.emitter.Emitter.make.Goals as goal
+
+true_false : ◌≡◌ {A = Bool} true false → ⊥
+true_false e = cc
 
 pub returns-then-is_kept-clause-makes : goal.returns-then-is_kept-clause-makes
 returns-then-is_kept-clause-makes c = on_ok_weaker c.store.result (λ stores three.
@@ -20,3 +23,9 @@ returns-clause-makes c = on_ok_weaker c.store-2.result (λ stores three.
     (c.in_ok-value.ensures.computes (omega (arith, three))))
     c.in_ok-value.ensures.small
     (subst (λ k. StoresIn k c.value.new.code c.store-2.new.code a.target c.args.room.kept) c.in_ok-value.ensures.knowledge (stores three))) c.store-2.ensures.stores
+
+pub returns-then-is_kept-clause-small : goal.returns-then-is_kept-clause-small
+returns-then-is_kept-clause-small c = on_ok_weaker c.store.result (λ stores none. absurd (true_false (sym c.if-is_kept.true ∙ none))) c.store.ensures.stores
+
+pub returns-clause-small : goal.returns-clause-small
+returns-clause-small c = on_ok_weaker c.store-2.result (λ stores none. c.in_ok-value.ensures.small) c.store-2.ensures.stores
