@@ -16,6 +16,7 @@ pub mod Conditions
 pub mod Naming
 pub mod Knowing
 pub mod Executing
+pub mod Choosing
 pub mod Looping
 pub mod Storing
 pub mod Deciding

@@ -1,16 +1,17 @@
-use Rattle.std.proofs.Common.{◌≡◌, ◌<◌, ◌≤◌, ℕ, ◌^◌, ◌+◌, Bool, true, false, List, [], ◌∷◌, ◌++◌, Some, None, OnOk, refl, ap, sym, subst, ◌∙◌, arith}
-use Rattle.std.proofs.lemmas.Result.{on_ok_weaker, IfOk-weaker}
+use Rattle.std.proofs.Common.{◌≡◌, ◌+◌, refl, ap, sym, subst, ◌∙◌}
+use Rattle.std.proofs.lemmas.Result.{on_ok_weaker}
 use Rattle.tpw_occam_core.specs.Meaning.{kind_of}
-use Rattle.tpw_occam_code.specs.Agreement.{with_fact, fact_at, fact_of_kind, constant_fact, counted_fact}
+use Rattle.tpw_occam_code.specs.Agreement.{with_fact, fact_at, fact_of_kind}
 use Rattle.tpw_occam_code.specs.declared.code.Turns.{Turns}
 use Rattle.tpw_occam_code.specs.Code.{none_at, place_behind}
 use Rattle.tpw_occam_code.specs.Computing.{Decides, Binds, ComputesBinding}
-use Rattle.tpw_occam_code.specs.Executing.{Executes, Chooses, Repeats, Remains, ChoosesKnown, RepeatsKnown, HaveWords, Assigns, Traces, Clears, Starts, first_use, is_skip}
+use Rattle.tpw_occam_code.specs.Executing.{Executes, Chooses, Repeats, Remains, ChoosesKnown, RepeatsKnown, HaveWords, Assigns, Starts, first_use}
 use Rattle.tpw_occam_code.proofs.Standing.{place_of}
 use Rattle.tpw_occam_code.proofs.Naming.{restored}
-use Rattle.tpw_occam_code.proofs.Executing.{skip_executes, stop_executes, sequence_executes, value_executes, variable_executes, array_executes, never_executes, always_executes, choose_executes, branch_executes}
+use Rattle.tpw_occam_code.proofs.Executing.{skip_executes, stop_executes, sequence_executes, value_executes, variable_executes, array_executes}
+use Rattle.tpw_occam_code.proofs.Choosing.{never_executes, always_executes, choose_executes, branch_executes}
 use Rattle.tpw_occam_code.proofs.Looping.{repeat_none, repeat_once, repeat_many, turns_contained, counted}
-use Rattle.tpw_occam_code.proofs.Remaining.{assign_remains, copy_remains, sequence_remains, variable_remains, value_remains, array_remains, choose_remains, never_remains, always_remains, skipped_remains, none_remains, once_remains, repeat_remains}
+use Rattle.tpw_occam_code.proofs.Remaining.{assign_remains, copy_remains, sequence_remains, variable_remains, value_remains, array_remains, choose_remains, never_remains, always_remains, skipped_remains, once_remains, repeat_remains}
 use Rattle.tpw_occam_code.proofs.emitter.Emitter.+process.Goals as goal
 
 -- ---- IF
