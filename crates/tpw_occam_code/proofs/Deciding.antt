@@ -1,29 +1,26 @@
 -- The code of conditions.
-use Rattle.std.proofs.Common.{◌≡◌, ◌⊎◌, inl, inr, ◌+◌, ◌^◌, ◌≤◌, ◌<◌, [], ◌∷◌, ℕ, List, Option, Some, None, Bool, false, true, nat_eq, refl, ap, sym, subst, ◌∙◌, arith}
-use Rattle.std.specs.Prelude.{◌||◌, ◌==◌, IsTrue, pos, ◌-ℤ◌}
-use Rattle.std.proofs.Math.Bool.{or_assoc, or-false}
+use Rattle.std.proofs.Common.{◌≡◌, ◌⊎◌, inl, inr, ◌^◌, ◌<◌, [], ◌∷◌, ℕ, List, Some, Bool, false, true, nat_eq, refl, ap, sym, subst, ◌∙◌, arith}
+use Rattle.std.specs.Prelude.{◌||◌, pos, ◌-ℤ◌}
+use Rattle.std.proofs.Math.Bool.{or-false}
 use Rattle.std.proofs.lemmas.Bool.Decides.{nat_tests}
 use Rattle.tp_state.proofs.WordLemmas.{low_word_lt}
-use Rattle.tp_decode.specs.Words.{signed, low_word}
+use Rattle.tp_decode.specs.Words.{low_word}
 use Rattle.tp_decode.specs.declared.instr.Instr.TheVariants.{Diff}
 use Rattle.tp_step.specs.Numbers.{truth}
-use Rattle.tpw_occam_core.specs.declared.arithmetic.Answer.{Answer}
-use Rattle.tpw_occam_core.specs.declared.worker.Storage.{Storage}
-use Rattle.tpw_occam_core.specs.declared.scope.Entry.{Entry}
 use Rattle.tpw_occam_core.specs.declared.expression.Operator.{Operator}
 use Rattle.tpw_occam_core.specs.declared.expression.Operator.TheVariants as operators
 use Rattle.tpw_occam_core.specs.declared.expression.Expression.{Expression}
 use Rattle.tpw_occam_core.specs.declared.expression.Expression.TheVariants.{Binary', Not'}
 use Rattle.tpw_occam_core.specs.Arithmetic.{plain, applied}
-use Rattle.tpw_occam_core.specs.Meaning.{Store, value_of}
+use Rattle.tpw_occam_core.specs.Meaning.{value_of}
 use Rattle.tpw_occam_code.specs.declared.code.Step.TheVariants.{Plain}
 use Rattle.tpw_occam_code.specs.declared.expressions.Value.{Value}
-use Rattle.tpw_occam_code.specs.Code.{Lines, followed_by, line_of, place_behind}
+use Rattle.tpw_occam_code.specs.Code.{Lines, followed_by, line_of}
 use Rattle.tpw_occam_code.specs.Symbolic.{Machine, number}
 use Rattle.tpw_occam_code.specs.Leading.{Does}
 use Rattle.tpw_occam_code.specs.Values.{HasOperands}
-use Rattle.tpw_occam_code.specs.Agreement.{Knowledge, constant_in, Knows, Agrees, LeavesItems}
-use Rattle.tpw_occam_code.specs.Computing.{IsPlace, MayStand, Computes, ComputesTwo, IsKnown, Decided, Decides, DecidesUnequal, unequal_value}
+use Rattle.tpw_occam_code.specs.Agreement.{Knowledge, constant_in}
+use Rattle.tpw_occam_code.specs.Computing.{Computes, ComputesTwo, IsKnown, Decides, DecidesUnequal}
 use Rattle.tpw_occam_code.proofs.Leading.{does_both, does_less}
 use Rattle.tpw_occam_code.proofs.Machines.{makes_pair}
 use Rattle.tpw_occam_code.proofs.Words.{difference_zero, zero_read}

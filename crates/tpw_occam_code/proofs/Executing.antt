@@ -1,46 +1,37 @@
 -- The code of processes.
-use Rattle.std.proofs.Common.{◌≡◌, ◌⊎◌, inl, inr, ◌+◌, ◌*◌, ◌^◌, ◌≤◌, ◌<◌, [], ◌∷◌, ◌++◌, ℕ, zero, suc, List, length, map, Option, Some, None, Bool, false, true, nat_eq, refl, ap, sym, subst, ◌∙◌, arith, w32, Box, Global, append_assoc, length-append}
-use Rattle.std.specs.Prelude.{slice_index, slice_get, ◌||◌, ◌&&◌, ◌==◌, nat_lt, IsTrue, ◌≢◌, if◌then◌else◌}
-use Rattle.std.specs.Int.{to_le_bytes}
-use Rattle.std.specs.List.{list_any}
-use Rattle.std.proofs.Math.Bool.{or_assoc, or-false}
+use Rattle.std.proofs.Common.{◌≡◌, ◌⊎◌, inl, inr, ◌+◌, [], ◌∷◌, ◌++◌, ℕ, List, length, Bool, false, true, nat_eq, refl, ap, sym, subst, ◌∙◌, arith}
+use Rattle.std.specs.Prelude.{◌||◌, ◌&&◌, IsTrue, ◌≢◌, if◌then◌else◌}
+use Rattle.std.proofs.Math.Bool.{or-false}
 use Rattle.std.proofs.lemmas.Bool.{eqb-true, eq-eqb}
 use Rattle.tp_decode.specs.declared.instr.Instr.TheVariants.{Seterr}
-use Rattle.tpw_occam_core.specs.declared.arithmetic.Answer.{Answer}
-use Rattle.tpw_occam_core.specs.declared.kind.Kind.{Kind}
 use Rattle.tpw_occam_core.specs.declared.worker.Storage.{Storage}
 use Rattle.tpw_occam_core.specs.declared.scope.Entry.{Entry}
 use Rattle.tpw_occam_core.specs.declared.scope.Entry.TheVariants as entry
 use Rattle.tpw_occam_core.specs.declared.expression.Expression.{Expression}
 use Rattle.tpw_occam_core.specs.declared.process.Process.{Process}
 use Rattle.tpw_occam_core.specs.declared.process.Process.TheVariants as process
-use Rattle.tpw_occam_core.specs.Arithmetic.{plain}
-use Rattle.tpw_occam_core.specs.Meaning.{Store, value_of, with_value, kind_of, flagged, run, chosen}
-use Rattle.tpw_occam_core.specs.Sound.{is_name, is_variable, is_new_name, is_new_array, is_sound_expression, is_sound_process}
+use Rattle.tpw_occam_core.specs.Meaning.{Store, value_of, with_value, kind_of, flagged, run}
+use Rattle.tpw_occam_core.specs.Sound.{is_variable, is_new_name, is_new_array, is_sound_expression, is_sound_process}
 use Rattle.tpw_occam_code.specs.declared.emitter.Fact.{Fact}
 use Rattle.tpw_occam_code.specs.declared.analysis.First.{First}
 use Rattle.tpw_occam_code.specs.declared.analysis.First.TheVariants.{Nothing, Assigned, Read}
-use Rattle.tpw_occam_code.specs.declared.items.Item.{Item}
 use Rattle.tpw_occam_code.specs.declared.items.Item.TheVariants as item
-use Rattle.tpw_occam_code.specs.declared.code.Step.TheVariants.{Plain, JumpTo, CjTo}
-use Rattle.tpw_occam_code.specs.declared.code.CodeLine.{CodeLine}
-use Rattle.tpw_occam_code.specs.Code.{Lines, followed_by, joined, none_at, line_of, place_behind}
-use Rattle.tpw_occam_code.specs.Blocks.{Blocks, is_item, bytes_at, with_word}
-use Rattle.tpw_occam_code.specs.Symbolic.{Machine, Leads, nowhere, onward, performed, effect, at_place, number, pop, raised}
-use Rattle.tpw_occam_code.specs.Leading.{Does, IsBefore, Arrives, HasLines, Makes, HasConstants, HasWord}
-use Rattle.tpw_occam_code.specs.Agreement.{Knowledge, constant_in, with_fact, fact_of_kind, Knows, Agrees, LeavesItems, Stays}
-use Rattle.tpw_occam_code.specs.Computing.{IsPlace, MayStand, reads, Binds, Binding, ComputesBinding, Decided, Decides}
-use Rattle.tpw_occam_code.specs.Executing.{Follows, Remains, cleared, IsProcessPlace, MayRun, none_unset, KnowsState, Matches, LeavesCounts, ExecutesTo, Executes, Clears, Chooses, Starts, with_item_word, chosen_lines, is_skip, first_use, first_in, then_first, either_first, is_nothing, unset_after}
-use Rattle.tpw_occam_code.proofs.Leading.{does_both, does_less, does_step, does_nothing, step_is, leads_then, has_first}
+use Rattle.tpw_occam_code.specs.declared.code.Step.TheVariants.{Plain}
+use Rattle.tpw_occam_code.specs.Code.{Lines, followed_by, line_of, place_behind}
+use Rattle.tpw_occam_code.specs.Blocks.{Blocks, bytes_at}
+use Rattle.tpw_occam_code.specs.Symbolic.{Machine, performed, effect, at_place, raised}
+use Rattle.tpw_occam_code.specs.Leading.{Does, Makes, HasConstants}
+use Rattle.tpw_occam_code.specs.Agreement.{Knowledge, with_fact, fact_of_kind, LeavesItems}
+use Rattle.tpw_occam_code.specs.Computing.{MayStand, reads, Binds, ComputesBinding}
+use Rattle.tpw_occam_code.specs.Executing.{Remains, cleared, MayRun, none_unset, KnowsState, Matches, Executes, Clears, Starts, with_item_word, first_use, then_first, is_nothing, unset_after}
+use Rattle.tpw_occam_code.proofs.Leading.{does_both, does_less, does_step, does_nothing}
 use Rattle.tpw_occam_code.proofs.Computing.{agrees_after}
-use Rattle.tpw_occam_code.proofs.Constructs.{constant_value}
 use Rattle.tpw_occam_code.proofs.Keeping.{word_written, word_elsewhere}
 use Rattle.tpw_occam_code.proofs.Naming.{new_name, variable_differs}
-use Rattle.tpw_occam_code.proofs.Conditions.{does_branch, Branches, has_behind, jump_stands, cj_jumps, cj_passes, suc_not_zero}
 use Rattle.tpw_occam_code.proofs.Standing.{Place, and_first, and_second, or_first, or_second, suffices_two}
-use Rattle.tpw_occam_code.proofs.Knowing.{knows_fewer, knows_flagged, in_longer, last_in, Takes, value_takes, variable_takes, place_taken, knows_taken, HasRoom, room_stays, room_taken, matches_taken, matches_outside, matches_fewer, counts_then, counts_outside, counts_of_items, zero_fits, place_array, knows_array, array_outside}
+use Rattle.tpw_occam_code.proofs.Knowing.{knows_fewer, in_longer, last_in, value_takes, variable_takes, place_taken, knows_taken, room_stays, room_taken, matches_taken, matches_outside, matches_fewer, counts_then, counts_outside, counts_of_items, zero_fits, place_array, knows_array, array_outside}
 
-false_true : ◌≡◌ {A = Bool} false true → ⊥
+pub false_true : ◌≡◌ {A = Bool} false true → ⊥
 false_true e = cc
 
 -- ---- code that stays
@@ -104,7 +95,7 @@ leaves_all scope m end blocks to_come sent traced = record {
 
 -- ---- what is read first
 
-and_true : (u : Bool) → (u && true) ≡ false → u ≡ false
+pub and_true : (u : Bool) → (u && true) ≡ false → u ≡ false
 and_true true e = e
 and_true false e = refl
 
@@ -124,7 +115,7 @@ unset_both true Nothing b h = h
 unset_both true Assigned b h = refl
 unset_both true Read b h = refl
 
-not_read : (r : Bool) (b : First) → then_first (if r then Read else Nothing) b ≢ Read → r ≡ false
+pub not_read : (r : Bool) (b : First) → then_first (if r then Read else Nothing) b ≢ Read → r ≡ false
 not_read true b n = absurd (n refl)
 not_read false b n = refl
 
@@ -362,396 +353,3 @@ array_executes k old between new_code a p body clears within storages scope unse
       array_outside k storages scope a (unset_after (first_use body) unset) (run k.kinds body (cleared a s)) m end matches.room code sizes after2.0,
       counts_then scope m middle end after.1 (counts_outside scope e middle end after2.1),
     ))
-
--- ---- IF
-
-pub chosen_some : (w : ℕ) (guarded rest : Store) → nat_eq w 0 ≡ false → chosen w guarded rest ≡ guarded
-chosen_some zero guarded rest h = absurd (false_true (sym h))
-chosen_some (suc w) guarded rest h = refl
-
-pub chosen_none : (w : ℕ) (guarded rest : Store) → nat_eq w 0 ≡ true → chosen w guarded rest ≡ rest
-chosen_none zero guarded rest h = refl
-chosen_none (suc w) guarded rest h = absurd (false_true (sym (suc_not_zero w) ∙ h))
-
-pub not_zero : (c : ℕ) → (c ≡ 0 → ⊥) → nat_eq c 0 ≡ false
-not_zero zero some = absurd (some refl)
-not_zero (suc c) some = suc_not_zero c
-
--- what is assigned on one way and not read is so on both
-guarded_unset : (u r : Bool) (a b : First) → (u ≡ true → then_first (if r then Read else Nothing) (either_first a b) ≢ Read)
-    → (u && is_nothing (then_first (if r then Read else Nothing) (either_first a b))) ≡ false → (u && is_nothing a) ≡ false
-guarded_unset false r a b unread h = refl
-guarded_unset true true a b unread h = absurd (unread refl refl)
-guarded_unset true false Nothing Nothing unread h = h
-guarded_unset true false Nothing Assigned unread h = absurd (unread refl refl)
-guarded_unset true false Nothing Read unread h = absurd (unread refl refl)
-guarded_unset true false Assigned b unread h = refl
-guarded_unset true false Read b unread h = refl
-
-rest_unset : (u r : Bool) (a b : First) → (u ≡ true → then_first (if r then Read else Nothing) (either_first a b) ≢ Read)
-    → (u && is_nothing (then_first (if r then Read else Nothing) (either_first a b))) ≡ false → (u && is_nothing b) ≡ false
-rest_unset false r a b unread h = refl
-rest_unset true true a b unread h = absurd (unread refl refl)
-rest_unset true false Nothing Nothing unread h = h
-rest_unset true false Assigned Nothing unread h = absurd (unread refl refl)
-rest_unset true false Read Nothing unread h = absurd (unread refl refl)
-rest_unset true false a Assigned unread h = refl
-rest_unset true false a Read unread h = refl
-
-guarded_read : (r : Bool) (a b : First) → then_first (if r then Read else Nothing) (either_first a b) ≢ Read → a ≢ Read
-guarded_read true a b n = absurd (n refl)
-guarded_read false Nothing b n = λ e. cc
-guarded_read false Assigned b n = λ e. cc
-guarded_read false Read b n = λ e. n refl
-
-rest_read : (r : Bool) (a b : First) → then_first (if r then Read else Nothing) (either_first a b) ≢ Read → b ≢ Read
-rest_read true a b n = absurd (n refl)
-rest_read false a Nothing n = λ e. cc
-rest_read false a Assigned n = λ e. cc
-rest_read false Nothing Read n = λ e. n refl
-rest_read false Assigned Read n = λ e. n refl
-rest_read false Read Read n = λ e. n refl
-
--- what the parts of IF may do
-record MayChoose (k : Knowledge) (storages : List Storage) (scope : List Entry) (unset : ℕ → Bool) (e : Expression) (guarded rest : Process)
-    (first : ℕ → First) : Type 0 where
-  stands : MayStand k storages scope unset e
-  some : MayRun scope unset (is_sound_process (length k.kinds) storages scope guarded) (first_use guarded)
-  none : MayRun scope unset (is_sound_process (length k.kinds) storages scope rest) (first_use rest)
-  after_some : (y : ℕ) → unset_after first unset y ≡ false → unset_after (first_use guarded) unset y ≡ false
-  after_none : (y : ℕ) → unset_after first unset y ≡ false → unset_after (first_use rest) unset y ≡ false
-
-may_choose : (k : Knowledge) (storages : List Storage) (scope : List Entry) (unset : ℕ → Bool) (e : Expression) (p : Place) (guarded : Process) (q : Place)
-    (rest : Process)
-    → MayRun scope unset (is_sound_process (length k.kinds) storages scope (process.If' e p guarded q rest)) (first_use (process.If' e p guarded q rest))
-    → MayChoose k storages scope unset e guarded rest (first_use (process.If' e p guarded q rest))
-may_choose k storages scope unset e p guarded q rest may = record {
-  stands = record {
-    sound = and_first _ _ (and_first _ _ may.sound);
-    assigned = λ y h. not_read (reads e y) _ (may.assigned y h);
-  };
-  some = record {
-    sound = and_second (is_sound_expression (length k.kinds) storages scope e) _ (and_first _ _ may.sound);
-    assigned = λ y h. guarded_read (reads e y) _ (first_use rest y) (may.assigned y h);
-    declared = may.declared;
-  };
-  none = record {
-    sound = and_second (is_sound_expression (length k.kinds) storages scope e && is_sound_process (length k.kinds) storages scope guarded) _ may.sound;
-    assigned = λ y h. rest_read (reads e y) (first_use guarded y) _ (may.assigned y h);
-    declared = may.declared;
-  };
-  after_some = λ y h. guarded_unset (unset y) (reads e y) (first_use guarded y) (first_use rest y) (may.assigned y) h;
-  after_none = λ y h. rest_unset (unset y) (reads e y) (first_use guarded y) (first_use rest y) (may.assigned y) h;
-}
-
-matches_state : (k : Knowledge) (storages : List Storage) (scope : List Entry) (unset : ℕ → Bool) (s t : Store) (m : Machine) → s ≡ t
-    → Matches k storages scope unset s m → Matches k storages scope unset t m
-matches_state k storages scope unset s t m same matches = subst (λ s. Matches k storages scope unset s m) same matches
-
--- a guard that is one constant
-flag_same : (k : Knowledge) (storages : List Storage) (scope : List Entry) (unset : ℕ → Bool) (s : Store) (flag : Bool) (m : Machine) → flag ≡ false
-    → Matches k storages scope unset s m → Matches k storages scope unset (flagged flag s) m
-flag_same k storages scope unset s flag m none matches = record {
-  agrees = record { words = matches.agrees.words; arrays = matches.agrees.arrays; constants = matches.agrees.constants };
-  flag = matches.flag ∙ sym (or-false s.flag) ∙ ap (λ f. s.flag || f) (sym none);
-  traced = matches.traced;
-  zeros = matches.zeros;
-  room = matches.room;
-}
-
-pub never_executes : (k : Knowledge) (old new : Lines) (e : Expression) (guarded rest : Process) (c : ℕ) → constant_in k e ≡ Some c → c ≡ 0
-    → Executes k old new rest → Chooses k old new e guarded rest
-never_executes k old new e guarded rest c is low one p q storages scope unset s place may known =
-    let parts = may_choose k storages scope unset e p guarded q rest may in
-    let g = value_of e s in
-    let t = flagged g.flag s in
-    let value : g ≡ plain c = constant_value k storages scope unset s e c parts.stands (knows_fewer k scope unset s known.knows) is in
-    let none : nat_eq g.word 0 ≡ true = eq-eqb g.word 0 (ap (λ v. v.word) value ∙ low) in
-    let same : run k.kinds rest t ≡ run k.kinds (process.If' e p guarded q rest) s =
-    sym (chosen_none g.word (run k.kinds guarded t) (run k.kinds rest t) none) in
-    does_less k.arrays old new _ _ _ _ (one storages scope unset t place parts.none (knows_flagged k scope g.flag s known))
-    (λ m matches. flag_same k storages scope unset s g.flag m (ap (λ v. v.flag) value) matches)
-    (λ m end matches after. (
-      matches_state k storages scope _ (run k.kinds rest t) (run k.kinds (process.If' e p guarded q rest) s) end same
-          (matches_fewer k storages scope _ (unset_after (first_use (process.If' e p guarded q rest)) unset) (run k.kinds rest t) end parts.after_none after.0),
-      after.1,
-    ))
-
-pub always_executes : (k : Knowledge) (old new : Lines) (e : Expression) (guarded rest : Process) (c : ℕ) → constant_in k e ≡ Some c → (c ≡ 0 → ⊥)
-    → Executes k old new guarded → Chooses k old new e guarded rest
-always_executes k old new e guarded rest c is some one p q storages scope unset s place may known =
-    let parts = may_choose k storages scope unset e p guarded q rest may in
-    let g = value_of e s in
-    let t = flagged g.flag s in
-    let value : g ≡ plain c = constant_value k storages scope unset s e c parts.stands (knows_fewer k scope unset s known.knows) is in
-    let same : run k.kinds guarded t ≡ run k.kinds (process.If' e p guarded q rest) s =
-    sym (chosen_some g.word (run k.kinds guarded t) (run k.kinds rest t) (rw value (not_zero c some))) in
-    does_less k.arrays old new _ _ _ _ (one storages scope unset t place parts.some (knows_flagged k scope g.flag s known))
-    (λ m matches. flag_same k storages scope unset s g.flag m (ap (λ v. v.flag) value) matches)
-    (λ m end matches after. (
-      matches_state k storages scope _ (run k.kinds guarded t) (run k.kinds (process.If' e p guarded q rest) s) end same
-          (matches_fewer k storages scope _ (unset_after (first_use (process.If' e p guarded q rest)) unset) (run k.kinds guarded t) end parts.after_some after.0),
-      after.1,
-    ))
-
--- ---- code for where Areg is not 0, and for where it is
-
--- What a number in Areg leads to: where it is not 0 to the first code, with Areg popped, and else to the second.
-pub record Chosen (Before2 Before3 : Machine → Type 0) (After2 After3 After4 : Machine → Machine → Type 0) (m middle : Machine) : Type 0 where
-  pub word : ℕ
-  pub areg : middle.areg ≡ number word
-  pub some : (n : ℕ) → word ≡ suc n → (p : ℕ) → Before2 (at_place p (pop middle))
-  pub after_some : (n : ℕ) → word ≡ suc n → (p q : ℕ) (end : Machine) → After2 (at_place p (pop middle)) end → After4 m (at_place q end)
-  pub none : word ≡ 0 → (p : ℕ) → Before3 (at_place p middle)
-  pub after_none : word ≡ 0 → (p : ℕ) (end : Machine) → After3 (at_place p middle) end → After4 m end
-
-jumps : (to p : ℕ) (m : Machine) → performed (JumpTo to) (at_place p m) ≡ Some (at_place to m)
-unfolding performed
-jumps to p m = refl
-
-pub does_choose : (arrays : List ℕ) (old between some none new_code : Lines) (source : ℕ)
-    (Before : Machine → Type 0) (After : Machine → Machine → Type 0) (Before2 Before3 : Machine → Type 0) (After2 After3 After4 : Machine → Machine → Type 0)
-    → new_code ≡ chosen_lines between source some none
-    → Does arrays old between Before After
-    → Does arrays (none_at (place_behind between + 1)) some Before2 After2
-    → Does arrays (none_at (place_behind some + 1)) none Before3 After3
-    → ((m middle : Machine) → Before m → After m middle → Chosen Before2 Before3 After2 After3 After4 m middle)
-    → Does arrays old new_code Before After4
-does_choose arrays old between some none new_code source Before After Before2 Before3 After2 After3 After4 is first second third chooses = record {
-  base = ap (λ l. l.base) is ∙ first.base;
-  more = (first.more ++ (cj ∷ some.lines)) ++ (jump ∷ none.lines);
-  lines = ap (λ l. l.lines) is ∙ append_assoc (chosen.lines) (jump ∷ []) none.lines
-      ∙ ap (λ ls. ls ++ (jump ∷ none.lines)) (append_assoc between.lines (cj ∷ []) some.lines
-      ∙ ap (λ ls. ls ++ (cj ∷ some.lines)) first.lines ∙ append_assoc old.lines first.more (cj ∷ some.lines))
-      ∙ append_assoc old.lines (first.more ++ (cj ∷ some.lines)) (jump ∷ none.lines);
-  arrives = λ m before said.
-      let has = has_chosen m before in
-      let has_between : HasLines between m = has_first between chosen (cj ∷ some.lines) m refl (append_assoc between.lines (cj ∷ []) some.lines) has in
-      let a = first.arrives m (record { place = before.place; lines = has_between; served = before.served; running = before.running }) said in
-      let b = chooses m a.end said a.after in by_word m before a b b.word refl;
-}
-  where
-    cj : CodeLine
-    cj = line_of source (CjTo (place_behind some + 1))
-
-    jump : CodeLine
-    jump = line_of source (JumpTo (place_behind none))
-
-    chosen : Lines
-    chosen = joined (followed_by between (cj ∷ [])) some
-
-    has_chosen : (m : Machine) → IsBefore arrays old new_code m → HasLines chosen m
-    has_chosen m before =
-        has_first chosen new_code (jump ∷ none.lines) m (ap (λ l. l.base) is) (ap (λ l. l.lines) is ∙ append_assoc chosen.lines (jump ∷ []) none.lines) before.lines
-
-    behind_some : place_behind chosen ≡ place_behind some
-    behind_some =
-        omega (
-          arith,
-          second.base,
-          length-append (between.lines ++ cj ∷ []) some.lines,
-          length-append between.lines (cj ∷ []),
-        )
-
-    behind : place_behind none ≡ place_behind new_code
-    behind =
-        omega (
-          arith,
-          third.base,
-          behind_some,
-          ap (λ l. l.base) is,
-          ap (λ l. length l.lines) is,
-          length-append (chosen.lines ++ jump ∷ []) none.lines,
-          length-append chosen.lines (jump ∷ []),
-        )
-
-    by_word : (m : Machine) → IsBefore arrays old new_code m → (a : Arrives between m After) → (b : Chosen Before2 Before3 After2 After3 After4 m a.end)
-        → (n : ℕ) → b.word ≡ n → Arrives new_code m After4
-    by_word m before a b zero w =
-        let areg : a.end.areg ≡ number 0 = b.areg ∙ ap number w in
-        let at : slice_get a.end.code a.end.place ≡ Some cj =
-        ap (λ c. slice_get c a.end.place) a.same_code ∙ ap (slice_get m.code) a.place ∙ jump_stands between some chosen cj m refl (has_chosen m before) in
-        let c = third.arrives (at_place (place_behind some + 1) a.end) (record {
-          place = omega (arith);
-          lines = λ i h. ap (λ c. slice_get c (none.base + i)) a.same_code
-              ∙ has_behind chosen none new_code jump m is (third.base ∙ ap (λ p. p + 1) (sym behind_some)) before.lines i h;
-          served = λ i other h. rw a.same_sizes (before.served i other (ap (λ c. slice_get c i) (sym a.same_code) ∙ h));
-          running = a.running;
-        }) (b.none w (place_behind some + 1)) in
-        record {
-          end = c.end;
-          way = leads_then a.way (onward a.end (at_place (place_behind some + 1) a.end) c.end
-              (step_is a.end cj a.running at ∙ cj_jumps (place_behind some + 1) (a.end.place + 1) a.end areg) c.way);
-          place = c.place ∙ behind;
-          running = c.running;
-          same_code = c.same_code ∙ a.same_code;
-          same_sizes = c.same_sizes ∙ a.same_sizes;
-          after = b.after_none w (place_behind some + 1) c.end c.after;
-        }
-    by_word m before a b (suc n) w =
-        let areg : a.end.areg ≡ number (suc n) = b.areg ∙ ap number w in
-        let at : slice_get a.end.code a.end.place ≡ Some cj =
-        ap (λ c. slice_get c a.end.place) a.same_code ∙ ap (slice_get m.code) a.place ∙ jump_stands between some chosen cj m refl (has_chosen m before) in
-        let p = a.end.place + 1 in
-        let c = second.arrives (at_place p (pop a.end)) (record {
-          place = omega (arith, a.place);
-          lines = λ i h. ap (λ c. slice_get c (some.base + i)) a.same_code ∙ has_behind between some chosen cj m refl second.base (has_chosen m before) i h;
-          served = λ i other h. rw a.same_sizes (before.served i other (ap (λ c. slice_get c i) (sym a.same_code) ∙ h));
-          running = a.running;
-        }) (b.some n w p) in
-        let there : slice_get c.end.code c.end.place ≡ Some jump =
-        ap (λ l. slice_get l c.end.place) (c.same_code ∙ a.same_code) ∙ ap (slice_get m.code) (c.place ∙ sym behind_some)
-        ∙ jump_stands chosen none new_code jump m is before.lines in
-        record {
-          end = at_place (place_behind new_code) c.end;
-          way = leads_then a.way (onward a.end (at_place p (pop a.end)) (at_place (place_behind new_code) c.end)
-              (step_is a.end cj a.running at ∙ cj_passes (place_behind some + 1) p n a.end areg)
-              (leads_then c.way (onward c.end (at_place (place_behind new_code) c.end) (at_place (place_behind new_code) c.end)
-              (step_is c.end jump c.running there ∙ jumps (place_behind none) (c.end.place + 1) c.end ∙ ap (λ p. Some (at_place p c.end)) behind) (nowhere _))));
-          place = refl;
-          running = c.running;
-          same_code = c.same_code ∙ a.same_code;
-          same_sizes = c.same_sizes ∙ a.same_sizes;
-          after = b.after_some n w p (place_behind new_code) c.end c.after;
-        }
-
--- ---- IF by a condition
-
-matches_moved : (k : Knowledge) (storages : List Storage) (scope : List Entry) (unset : ℕ → Bool) (s : Store) (p : ℕ) (m : Machine)
-    → Matches k storages scope unset s m → Matches k storages scope unset s (at_place p m)
-matches_moved k storages scope unset s p m matches = record {
-  agrees = record { words = matches.agrees.words; arrays = matches.agrees.arrays; constants = matches.agrees.constants };
-  flag = matches.flag;
-  traced = matches.traced;
-  zeros = matches.zeros;
-  room = matches.room;
-}
-
-matches_popped : (k : Knowledge) (storages : List Storage) (scope : List Entry) (unset : ℕ → Bool) (s : Store) (p : ℕ) (m : Machine)
-    → Matches k storages scope unset s m → Matches k storages scope unset s (at_place p (pop m))
-matches_popped k storages scope unset s p m matches = record {
-  agrees = record { words = matches.agrees.words; arrays = matches.agrees.arrays; constants = matches.agrees.constants };
-  flag = matches.flag;
-  traced = matches.traced;
-  zeros = matches.zeros;
-  room = matches.room;
-}
-
-matches_decided : (k : Knowledge) (storages : List Storage) (scope : List Entry) (unset : ℕ → Bool) (s : Store) (v : Answer) (m middle : Machine)
-    → Matches k storages scope unset s m → Decided v scope 0 m middle → middle.code ≡ m.code → middle.sizes ≡ m.sizes
-    → Matches k storages scope unset (flagged v.flag s) middle
-matches_decided k storages scope unset s v m middle matches after code sizes =
-    matches_leaves k storages scope unset s (s.flag || v.flag) m middle matches after.leaves (after.error ∙ ap (λ f. f || v.flag) matches.flag) code sizes
-
-word_zero : (n w : ℕ) → nat_eq n 0 ≡ nat_eq w 0 → n ≡ 0 → nat_eq w 0 ≡ true
-word_zero n w same e = sym same ∙ eq-eqb n 0 e
-
-word_more : (n w i : ℕ) → nat_eq n 0 ≡ nat_eq w 0 → n ≡ suc i → nat_eq w 0 ≡ false
-word_more n w i same e = sym same ∙ ap (λ n. nat_eq n 0) e ∙ suc_not_zero i
-
-pub choose_executes : (k : Knowledge) (old between some none new_code : Lines) (source : ℕ) (e : Expression) (guarded rest : Process)
-    → Decides k old between e 3 0 → Executes k (none_at (place_behind between + 1)) some guarded
-    → Executes k (none_at (place_behind some + 1)) none rest
-    → new_code ≡ chosen_lines between source some none
-    → Chooses k old new_code e guarded rest
-choose_executes k old between some none new_code source e guarded rest decides one two is p q storages scope unset s place may known =
-    let whole = process.If' e p guarded q rest in
-    let parts = may_choose k storages scope unset e p guarded q rest may in
-    let g = value_of e s in
-    let t = flagged g.flag s in
-    let known2 = knows_flagged k scope g.flag s known in
-    does_choose k.arrays old between some none new_code source (Matches k storages scope unset s) _ (Matches k storages scope unset t) (Matches k storages scope unset t)
-    _ _ (λ m end. Matches k storages scope (unset_after (first_use whole) unset) (run k.kinds whole s) end × LeavesCounts scope m end) is
-    (does_kept k.arrays old between (Matches k storages scope unset s) (Decided g scope 0)
-    (does_less k.arrays old between _ _ (Matches k storages scope unset s) (Decided g scope 0)
-    (decides storages scope unset s place.place parts.stands (omega arith) (omega arith) (knows_fewer k scope unset s known.knows))
-    (λ m matches. matches.agrees) (λ m end matches after. after)))
-    (one storages scope unset t place parts.some known2) (two storages scope unset t place parts.none known2)
-    (λ m middle matches after.
-    let d = after.0 in
-    let there = matches_decided k storages scope unset s g m middle matches d after.1 after.2 in
-    let counts = counts_of_items scope 0 m middle d.leaves in
-    record {
-      word = d.word;
-      areg = d.areg;
-      some = λ n w p. matches_popped k storages scope unset t p middle there;
-      after_some = λ n w p q end after2. (
-        matches_moved k storages scope (unset_after (first_use whole) unset) (run k.kinds whole s) q end
-            (matches_state k storages scope (unset_after (first_use whole) unset) (run k.kinds guarded t) (run k.kinds whole s) end
-            (sym (chosen_some g.word (run k.kinds guarded t) (run k.kinds rest t) (word_more d.word g.word n d.same w)))
-            (matches_fewer k storages scope (unset_after (first_use guarded) unset) (unset_after (first_use whole) unset) (run k.kinds guarded t) end parts.after_some after2.0)),
-        record {
-          counts = λ x i h. after2.1.counts x i h ∙ counts.counts x i h;
-          to_come = after2.1.to_come ∙ counts.to_come;
-          sent = after2.1.sent ∙ counts.sent;
-        },
-      );
-      none = λ w p. matches_moved k storages scope unset t p middle there;
-      after_none = λ w p end after2. (
-        matches_state k storages scope (unset_after (first_use whole) unset) (run k.kinds rest t) (run k.kinds whole s) end
-            (sym (chosen_none g.word (run k.kinds guarded t) (run k.kinds rest t) (word_zero d.word g.word d.same w)))
-            (matches_fewer k storages scope (unset_after (first_use rest) unset) (unset_after (first_use whole) unset) (run k.kinds rest t) end parts.after_none after2.0),
-        record {
-          counts = λ x i h. after2.1.counts x i h ∙ counts.counts x i h;
-          to_come = after2.1.to_come ∙ counts.to_come;
-          sent = after2.1.sent ∙ counts.sent;
-        },
-      );
-    })
-
--- where the rest does nothing
-pub skip_runs : (kinds : List Kind) (p : Process) (s : Store) → is_skip p ≡ true → run kinds p s ≡ s
-skip_runs kinds process.Skip s h = refl
-skip_runs kinds (process.At' line p body) s h = skip_runs kinds body s h
-skip_runs kinds p s h = cc
-
-skip_first : (p : Process) (x : ℕ) → is_skip p ≡ true → first_use p x ≡ Nothing
-skip_first process.Skip x h = refl
-skip_first (process.At' line p body) x h = skip_first body x h
-skip_first p x h = cc
-
-pub branch_executes : (k : Knowledge) (old between more new_code : Lines) (source : ℕ) (e : Expression) (guarded rest : Process) → is_skip rest ≡ true
-    → Decides k old between e 3 0 → Executes k (none_at (place_behind between + 1)) more guarded
-    → new_code ≡ joined (followed_by between (line_of source (CjTo (place_behind more)) ∷ [])) more
-    → Chooses k old new_code e guarded rest
-branch_executes k old between more new_code source e guarded rest skips decides one is p q storages scope unset s place may known =
-    let whole = process.If' e p guarded q rest in
-    let parts = may_choose k storages scope unset e p guarded q rest may in
-    let g = value_of e s in
-    let t = flagged g.flag s in
-    let known2 = knows_flagged k scope g.flag s known in
-    let fewer : (y : ℕ) → unset_after (first_use whole) unset y ≡ false → unset y ≡ false =
-    λ y h. and_true (unset y) (ap (λ f. unset y && is_nothing f) (sym (skip_first rest y skips)) ∙ parts.after_none y h) in
-    does_branch k.arrays old between more new_code source (Matches k storages scope unset s) _ (Matches k storages scope unset t)
-    _ (λ m end. Matches k storages scope (unset_after (first_use whole) unset) (run k.kinds whole s) end × LeavesCounts scope m end) is
-    (does_kept k.arrays old between (Matches k storages scope unset s) (Decided g scope 0)
-    (does_less k.arrays old between _ _ (Matches k storages scope unset s) (Decided g scope 0)
-    (decides storages scope unset s place.place parts.stands (omega arith) (omega arith) (knows_fewer k scope unset s known.knows))
-    (λ m matches. matches.agrees) (λ m end matches after. after)))
-    (one storages scope unset t place parts.some known2)
-    (λ m middle matches after.
-    let d = after.0 in
-    let there = matches_decided k storages scope unset s g m middle matches d after.1 after.2 in
-    let counts = counts_of_items scope 0 m middle d.leaves in
-    record {
-      word = d.word;
-      areg = d.areg;
-      zero = λ w. (
-        matches_moved k storages scope (unset_after (first_use whole) unset) (run k.kinds whole s) (place_behind new_code) middle
-            (matches_state k storages scope (unset_after (first_use whole) unset) t (run k.kinds whole s) middle
-            (sym (chosen_none g.word (run k.kinds guarded t) (run k.kinds rest t) (word_zero d.word g.word d.same w) ∙ skip_runs k.kinds rest t skips))
-            (matches_fewer k storages scope unset (unset_after (first_use whole) unset) t middle fewer there)),
-        record { counts = counts.counts; to_come = counts.to_come; sent = counts.sent },
-      );
-      before = λ n w p. matches_popped k storages scope unset t p middle there;
-      after = λ n w p end after2. (
-        matches_state k storages scope (unset_after (first_use whole) unset) (run k.kinds guarded t) (run k.kinds whole s) end
-            (sym (chosen_some g.word (run k.kinds guarded t) (run k.kinds rest t) (word_more d.word g.word n d.same w)))
-            (matches_fewer k storages scope (unset_after (first_use guarded) unset) (unset_after (first_use whole) unset) (run k.kinds guarded t) end parts.after_some after2.0),
-        record {
-          counts = λ x i h. after2.1.counts x i h ∙ counts.counts x i h;
-          to_come = after2.1.to_come ∙ counts.to_come;
-          sent = after2.1.sent ∙ counts.sent;
-        },
-      );
-    })

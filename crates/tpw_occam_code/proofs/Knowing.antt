@@ -1,32 +1,27 @@
 -- What stays known of states, and of machines that match them, where a name or an array is declared.
-use Rattle.std.proofs.Common.{◌≡◌, ◌⊎◌, inl, inr, ◌+◌, ◌*◌, ◌%◌, ◌^◌, ◌≤◌, ◌<◌, [], ◌∷◌, ◌++◌, ℕ, zero, suc, List, length, map, Option, Some, None, Bool, false, true, nat_eq, refl, ap, sym, subst, ◌∙◌, arith}
-use Rattle.std.specs.Prelude.{slice_index, slice_set, slice_index_or, slice_get, ◌||◌, ◌&&◌, not, nat_lt, nat_le, IsTrue, replicate}
+use Rattle.std.proofs.Common.{◌≡◌, ◌⊎◌, inl, inr, ◌+◌, ◌≤◌, ◌<◌, [], ◌∷◌, ◌++◌, ℕ, zero, suc, List, length, map, Option, Some, None, Bool, false, true, nat_eq, refl, ap, sym, subst, ◌∙◌, arith}
+use Rattle.std.specs.Prelude.{slice_index, slice_set, slice_index_or, slice_get, ◌||◌, ◌&&◌, not, nat_lt, IsTrue, replicate}
 use Rattle.std.specs.List.{list_any, list_all}
-use Rattle.std.proofs.Math.Bool.{or_assoc, or-false}
+use Rattle.std.proofs.Math.Bool.{or-false}
 use Rattle.std.proofs.lemmas.Bool.{ltb-true, leb-true, eqb-true, eq-eqb}
 use Rattle.tpw_occam_core.specs.declared.kind.Kind.{Kind}
 use Rattle.tpw_occam_core.specs.declared.kind.Kind.TheVariants as kinds
 use Rattle.tpw_occam_core.specs.declared.worker.Storage.{Storage}
 use Rattle.tpw_occam_core.specs.declared.scope.Entry.{Entry}
 use Rattle.tpw_occam_core.specs.declared.scope.Entry.TheVariants as entry
-use Rattle.tpw_occam_core.specs.declared.expression.Expression.{Expression}
-use Rattle.tpw_occam_core.specs.declared.process.Process.{Process}
-use Rattle.tpw_occam_core.specs.Meaning.{Store, with_value, with_array, array_of, kind_of, flagged, run}
-use Rattle.tpw_occam_core.specs.Sound.{is_name, is_variable, is_array, is_new_name, is_new_array, is_sized, is_table, is_sound_process, bytes_of, storage_of}
+use Rattle.tpw_occam_core.specs.Meaning.{Store, with_value, with_array, array_of, kind_of, flagged}
+use Rattle.tpw_occam_core.specs.Sound.{is_name, is_variable, is_array, is_new_name, is_new_array, is_sized, is_table, bytes_of, storage_of}
 use Rattle.tpw_occam_code.specs.declared.emitter.Fact.{Fact}
-use Rattle.tpw_occam_code.specs.declared.analysis.First.{First}
-use Rattle.tpw_occam_code.specs.declared.analysis.First.TheVariants.{Nothing, Assigned, Read}
 use Rattle.tpw_occam_code.specs.declared.items.Item.TheVariants as item
 use Rattle.tpw_occam_code.specs.declared.code.Step.TheVariants.{Pointer}
 use Rattle.tpw_occam_code.specs.declared.code.CodeLine.{CodeLine}
 use Rattle.tpw_occam_code.specs.Symbolic.{Machine}
-use Rattle.tpw_occam_code.specs.Leading.{HasWord, HasConstants}
-use Rattle.tpw_occam_code.specs.Agreement.{Knowledge, any_word, fact_at, with_fact, fact_of_kind, FitsFact, Knows, Agrees, LeavesItems}
-use Rattle.tpw_occam_code.specs.Computing.{IsPlace, MayStand, reads}
-use Rattle.tpw_occam_code.specs.Executing.{IsProcessPlace, MayRun, none_unset, KnowsState, cleared_bytes, Matches, LeavesCounts, cleared}
+use Rattle.tpw_occam_code.specs.Leading.{HasWord}
+use Rattle.tpw_occam_code.specs.Agreement.{Knowledge, any_word, fact_at, with_fact, fact_of_kind, FitsFact, Knows, LeavesItems}
+use Rattle.tpw_occam_code.specs.Executing.{IsProcessPlace, none_unset, KnowsState, cleared_bytes, Matches, LeavesCounts, cleared}
 use Rattle.tpw_occam_code.proofs.Ranges.{full_contains, byte_contains}
 use Rattle.tpw_occam_code.proofs.Naming.{any_last, new_name, slice_same, slice_other, slice_length}
-use Rattle.tpw_occam_code.proofs.Standing.{and_first, and_second, or_first, or_second}
+use Rattle.tpw_occam_code.proofs.Standing.{and_first, and_second}
 
 false_true : ◌≡◌ {A = Bool} false true → ⊥
 false_true e = cc

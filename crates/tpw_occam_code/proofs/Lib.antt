@@ -19,6 +19,7 @@ pub mod Copying
 pub mod Sending
 pub mod Knowing
 pub mod Executing
+pub mod Choosing
 pub mod Storing
 pub mod Assigning
 pub mod Matching

@@ -1,16 +1,15 @@
 -- The code of loops.
-use Rattle.std.proofs.Common.{◌≡◌, ◌⊎◌, inl, inr, ◌+◌, ◌*◌, ◌%◌, ◌^◌, ◌≤◌, ◌<◌, [], ◌∷◌, ◌++◌, ℕ, zero, suc, List, length, Option, Some, None, Bool, false, true, nat_eq, refl, ap, sym, subst, ◌∙◌, arith, w32, append_assoc, length-append, ℤ, ◌≤ℤ◌}
-use Rattle.std.specs.Prelude.{slice_index, slice_get, slice_set, ◌||◌, ◌&&◌, ◌==◌, nat_lt, nat_le, IsTrue, ◌≢◌, pos, ◌+ℤ◌, ◌-ℤ◌, ◌*ℤ◌, int_lt, if◌then◌else◌}
+use Rattle.std.proofs.Common.{◌≡◌, ◌+◌, ◌%◌, ◌^◌, ◌≤◌, ◌<◌, [], ◌∷◌, ◌++◌, ℕ, zero, suc, List, length, Option, Some, None, Bool, false, true, nat_eq, refl, ap, sym, subst, ◌∙◌, arith, w32, append_assoc, length-append, ℤ, ◌≤ℤ◌}
+use Rattle.std.specs.Prelude.{slice_index, slice_get, ◌&&◌, IsTrue, ◌≢◌, pos, ◌+ℤ◌, ◌-ℤ◌, ◌*ℤ◌, int_lt, if◌then◌else◌}
 use Rattle.std.specs.Int.{to_le_bytes, from_le_bytes}
 use Rattle.std.specs.List.{list_any}
-use Rattle.std.proofs.Math.Bool.{or-false}
-use Rattle.std.proofs.lemmas.Bool.{eqb-true, eq-eqb, le-leb, leb-true, ltb-true, cases_lt}
+use Rattle.std.proofs.lemmas.Bool.{eq-eqb, le-leb, leb-true, ltb-true}
 use Rattle.std.proofs.lemmas.Bool.Decides.{nat_tests}
 use Rattle.std.proofs.lemmas.Int.{ints}
 use Rattle.std.proofs.lemmas.Nat.{from_le_bytes-to_le_bytes_4}
 use Rattle.tp_state.proofs.WordLemmas.{signed_low, signed_low_word, low_word_alike, low_word_lt, unsigned_is}
 use Rattle.tp_decode.specs.Words.{signed, low_word}
-use Rattle.tp_step.specs.Numbers.{overflows, least_integer, greatest_integer}
+use Rattle.tp_step.specs.Numbers.{overflows}
 use Rattle.tp_decode.specs.declared.instr.Instr.TheVariants.{Lend}
 use Rattle.tpw_occam_core.specs.declared.worker.Storage.{Storage}
 use Rattle.tpw_occam_core.specs.declared.scope.Entry.{Entry}
@@ -18,11 +17,10 @@ use Rattle.tpw_occam_core.specs.declared.scope.Entry.TheVariants as entry
 use Rattle.tpw_occam_core.specs.declared.process.Process.{Process}
 use Rattle.tpw_occam_core.specs.declared.process.Process.TheVariants as process
 use Rattle.tpw_occam_core.specs.Meaning.{Store, with_value, run, turns}
-use Rattle.tpw_occam_core.specs.Sound.{is_name, is_variable, is_new_name, is_sound_process, are_turns}
+use Rattle.tpw_occam_core.specs.Sound.{is_variable, is_new_name, is_sound_process, are_turns}
 use Rattle.tpw_occam_code.specs.declared.emitter.Fact.{Fact}
 use Rattle.tpw_occam_code.specs.declared.range.Range.{Range}
-use Rattle.tpw_occam_code.specs.declared.analysis.First.{First}
-use Rattle.tpw_occam_code.specs.declared.analysis.First.TheVariants.{Nothing, Assigned, Read}
+use Rattle.tpw_occam_code.specs.declared.analysis.First.TheVariants.{Read}
 use Rattle.tpw_occam_code.specs.declared.items.Item.{Item}
 use Rattle.tpw_occam_code.specs.declared.items.Item.TheVariants as item
 use Rattle.tpw_occam_code.specs.declared.code.Step.TheVariants.{Plain, Pointer, Distance}
@@ -31,20 +29,17 @@ use Rattle.tpw_occam_code.specs.declared.code.Turns.{Turns}
 use Rattle.tpw_occam_code.specs.Code.{Lines, followed_by, with_loop, line_of, place_behind}
 use Rattle.tpw_occam_code.specs.Blocks.{Blocks, is_item, bytes_at, word_at, with_word, with_bytes}
 use Rattle.tpw_occam_code.specs.Ranges.{Contains}
-use Rattle.tpw_occam_code.specs.Symbolic.{Machine, Contents, address, distance, Leads, nowhere, onward, step, performed, effect, at_place, with_blocks, push}
-use Rattle.tpw_occam_code.specs.Leading.{Does, IsBefore, Arrives, HasLines, HasWord, Serves}
-use Rattle.tpw_occam_code.specs.Agreement.{Knowledge, with_fact, fact_at, counted_fact, constant_fact, FitsFact, LeavesItems, Stays}
-use Rattle.tpw_occam_code.specs.Executing.{Follows, Remains, IsProcessPlace, MayRun, none_unset, KnowsState, Matches, LeavesCounts, Executes, Repeats, Begins, loop_end, with_item_word, first_use, is_nothing, unset_after}
+use Rattle.tpw_occam_code.specs.Symbolic.{Machine, address, distance, Leads, nowhere, onward, performed, effect, at_place, with_blocks, push}
+use Rattle.tpw_occam_code.specs.Leading.{Does, IsBefore, Arrives, HasLines, HasWord}
+use Rattle.tpw_occam_code.specs.Agreement.{Knowledge, with_fact, fact_at, counted_fact, constant_fact, FitsFact, LeavesItems}
+use Rattle.tpw_occam_code.specs.Executing.{Follows, Remains, IsProcessPlace, MayRun, KnowsState, Matches, LeavesCounts, Executes, Repeats, Begins, loop_end, first_use, is_nothing, unset_after}
 use Rattle.tpw_occam_code.proofs.Leading.{does_less, does_nothing, step_is, leads_then, has_first}
 use Rattle.tpw_occam_code.proofs.Keeping.{is_item-self, other_item, word_written}
 use Rattle.tpw_occam_code.proofs.Naming.{variable_differs, slice_same, constant_fits, new_name}
 use Rattle.tpw_occam_code.proofs.Conditions.{get_behind, suc_not_zero}
 use Rattle.tpw_occam_code.proofs.Standing.{Place, and_first, and_second}
-use Rattle.tpw_occam_code.proofs.Knowing.{in_longer, variable_named, same_any, declared_last, value_declares, Takes, value_takes, place_taken, knows_taken, knows_outside, fact_new, HasRoom, room_stays, matches_taken, matches_outside, matches_fewer, counts_then, counts_outside, counts_of_items}
-use Rattle.tpw_occam_code.proofs.Executing.{does_kept, matches_leaves, skip_executes}
-
-false_true : ◌≡◌ {A = Bool} false true → ⊥
-false_true e = cc
+use Rattle.tpw_occam_code.proofs.Knowing.{in_longer, variable_named, same_any, declared_last, value_declares, Takes, value_takes, place_taken, knows_taken, knows_outside, fact_new, matches_taken, matches_outside, matches_fewer, counts_then, counts_outside, counts_of_items}
+use Rattle.tpw_occam_code.proofs.Executing.{does_kept, matches_leaves, false_true, and_true}
 
 -- ---- numbers
 
@@ -389,7 +384,7 @@ module _ (k : Knowledge) (storages : List Storage) (scope : List Entry) (unset :
       let done : suc n ≡ count = omega (arith, all) in
       record {
         end = last e;
-        way = leads_then a.way (ends e (last e) a.place a.running has works);
+        way = leads_then {end = last e} a.way (ends e (last e) a.place a.running has works);
         place = omega (arith, a.place, behind_all);
         running = a.running;
         same_code = a.same_code;
@@ -412,7 +407,7 @@ module _ (k : Knowledge) (storages : List Storage) (scope : List Entry) (unset :
       }) (again_at n left m e a.after) in
       record {
         end = b.end;
-        way = leads_then a.way (leads_then (ends e next a.place a.running has (again_works n left m e all a.place a.after)) b.way);
+        way = leads_then {end = b.end} a.way (leads_then {end = b.end} (ends e next a.place a.running has (again_works n left m e all a.place a.after)) b.way);
         place = b.place;
         running = b.running;
         same_code = b.same_code ∙ a.same_code;
@@ -427,10 +422,6 @@ module _ (k : Knowledge) (storages : List Storage) (scope : List Entry) (unset :
 
 some_none : {c : ℕ} → ◌≡◌ {A = Option ℕ} (Some c) None → ⊥
 some_none e = cc
-
-and_true : (u : Bool) → (u && true) ≡ false → u ≡ false
-and_true true e = e
-and_true false e = refl
 
 pub repeat_none : (k : Knowledge) (code : Lines) (x start count : ℕ) (body : Process) → count ≡ 0 → Repeats k code code x start count body
 repeat_none k code x start count body none = subst (λ c. Repeats k code code x start c body) (sym none)
@@ -572,7 +563,7 @@ repeat_executes k old begun bodied new_code source x start left range body small
           }) start_at in
           record {
             end = c.end;
-            way = leads_then a.way c.way;
+            way = leads_then {end = c.end} a.way c.way;
             place = c.place;
             running = c.running;
             same_code = c.same_code ∙ a.same_code;

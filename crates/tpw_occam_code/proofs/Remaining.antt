@@ -1,19 +1,16 @@
 -- What stays known of states that processes leave.
-use Rattle.std.proofs.Common.{◌≡◌, ◌⊎◌, inl, inr, ◌+◌, ◌-◌, ◌*◌, ◌/◌, ◌%◌, ◌^◌, ◌≤◌, ◌<◌, [], ◌∷◌, ◌++◌, ℕ, zero, suc, List, length, map, max, Option, Some, None, Bool, false, true, nat_eq, refl, ap, sym, subst, ◌∙◌, arith, w32, Box, Global}
-use Rattle.std.specs.Prelude.{slice_index, slice_set, slice_index_or, ◌||◌, ◌&&◌, ◌==◌, not, nat_lt, IsTrue, pos, ◌+ℤ◌, if◌then◌else◌}
+use Rattle.std.proofs.Common.{◌≡◌, ◌⊎◌, inl, inr, ◌+◌, ◌*◌, ◌%◌, ◌^◌, ◌≤◌, ◌<◌, [], ◌∷◌, ◌++◌, ℕ, zero, suc, List, length, map, max, Option, Some, None, Bool, false, true, nat_eq, refl, ap, sym, subst, ◌∙◌, arith, w32}
+use Rattle.std.specs.Prelude.{slice_index, slice_set, ◌&&◌, ◌==◌, nat_lt, IsTrue, pos, ◌+ℤ◌, if◌then◌else◌}
 use Rattle.std.specs.Int.{to_le_bytes, from_le_bytes}
 use Rattle.std.specs.List.{list_any, list_all}
 use Rattle.std.proofs.lemmas.Bool.{ltb-true, eqb-true, eq-eqb}
-use Rattle.std.proofs.lemmas.Bool.Decides.{nat_tests}
 use Rattle.std.proofs.Math.Nat.{mod-le}
 use Rattle.tp_state.proofs.WordLemmas.{low_word_lt}
-use Rattle.tp_decode.specs.Words.{complement, low_word}
 use Rattle.tp_step.specs.Numbers.{truth}
 use Rattle.tpw_occam_core.specs.declared.arithmetic.Answer.{Answer}
 use Rattle.tpw_occam_core.specs.declared.kind.Kind.{Kind}
 use Rattle.tpw_occam_core.specs.declared.kind.Kind.TheVariants as kinds
 use Rattle.tpw_occam_core.specs.declared.worker.Storage.{Storage}
-use Rattle.tpw_occam_core.specs.declared.worker.Storage.TheVariants as storages
 use Rattle.tpw_occam_core.specs.declared.scope.Entry.{Entry}
 use Rattle.tpw_occam_core.specs.declared.scope.Entry.TheVariants as entry
 use Rattle.tpw_occam_core.specs.declared.expression.Expression.{Expression}
@@ -25,27 +22,25 @@ use Rattle.tpw_occam_core.specs.declared.process.Assignment.{Assignment}
 use Rattle.tpw_occam_core.specs.declared.process.Message.{Message}
 use Rattle.tpw_occam_core.specs.declared.process.Process.{Process}
 use Rattle.tpw_occam_core.specs.declared.process.Process.TheVariants as process
-use Rattle.tpw_occam_core.specs.Arithmetic.{plain, subscript, applied}
+use Rattle.tpw_occam_core.specs.Arithmetic.{plain, subscript}
 use Rattle.tpw_occam_core.specs.Arrays.{element, kept, written, with_element}
 use Rattle.tpw_occam_core.specs.Meaning.{Store, value_of, both, either, with_value, with_array, array_of, kind_of, flagged, run, chosen, turns, subscript_of, stored, assigned, traced}
-use Rattle.tpw_occam_core.specs.Sound.{is_name, is_variable, is_array, is_new_name, is_new_array, is_written, is_seen, bytes_of, storage_of, is_sound_expression, is_sound_target, is_sound_assignment, is_sound_process, are_turns}
+use Rattle.tpw_occam_core.specs.Sound.{is_name, is_variable, is_array, is_new_name, is_new_array, is_written, bytes_of, storage_of, is_sound_expression, is_sound_target, is_sound_assignment, is_sound_process, are_turns}
 use Rattle.tpw_occam_code.specs.declared.emitter.Fact.{Fact}
 use Rattle.tpw_occam_code.specs.declared.range.Range.{Range}
 use Rattle.tpw_occam_code.specs.Ranges.{Contains}
-use Rattle.tpw_occam_code.specs.Agreement.{Knowledge, fact_at, with_fact, fact_of_kind, constant_fact, counted_fact, constant_in, FitsFact, Knows}
-use Rattle.tpw_occam_code.specs.Computing.{IsPlace, MayStand, Binds}
+use Rattle.tpw_occam_code.specs.Agreement.{Knowledge, fact_at, with_fact, fact_of_kind, constant_fact, counted_fact, constant_in, FitsFact}
+use Rattle.tpw_occam_code.specs.Computing.{Binds}
 use Rattle.tpw_occam_code.specs.Executing.{IsProcessPlace, none_unset, KnowsState, Follows, Remains, HasWords, HaveWords, ChoosesKnown, RepeatsKnown, cleared, is_skip}
 use Rattle.tpw_occam_code.proofs.Words.{applied_small}
 use Rattle.tpw_occam_code.proofs.Ranges.{full_contains, byte_contains}
 use Rattle.tpw_occam_code.proofs.Constructs.{constant_value}
-use Rattle.tpw_occam_code.proofs.Naming.{any_last, new_name, slice_same, slice_other, slice_length, constant_fits}
+use Rattle.tpw_occam_code.proofs.Naming.{new_name, slice_same, slice_other, slice_length, constant_fits}
 use Rattle.tpw_occam_code.proofs.Standing.{Place, and_first, and_second}
-use Rattle.tpw_occam_code.proofs.Knowing.{knows_flagged, variable_named, in_longer, either_in, same_any, name_either, Takes, value_takes, variable_takes, place_taken, knows_taken, knows_outside, zero_fits, length_at, knows_bytes, knows_array, place_array, value_declares, set_holds}
-use Rattle.tpw_occam_code.proofs.Executing.{chosen_some, chosen_none, not_zero, skip_runs}
+use Rattle.tpw_occam_code.proofs.Knowing.{knows_flagged, in_longer, same_any, name_either, Takes, value_takes, variable_takes, place_taken, knows_taken, knows_outside, zero_fits, length_at, knows_bytes, knows_array, place_array, value_declares, set_holds}
+use Rattle.tpw_occam_code.proofs.Executing.{false_true}
+use Rattle.tpw_occam_code.proofs.Choosing.{chosen_some, chosen_none, not_zero, skip_runs}
 use Rattle.tpw_occam_code.proofs.Looping.{index_of, index_first, counted}
-
-false_true : ◌≡◌ {A = Bool} false true → ⊥
-false_true e = cc
 
 none_some : {c : ℕ} → ◌≡◌ {A = Option ℕ} None (Some c) → ⊥
 none_some e = cc

@@ -221,7 +221,14 @@ loop_end old turns =
     ∷ line_of turns.source (Distance turns.head (place_behind old + 3))
     ∷ line_of turns.source (Plain Lend) ∷ []
 
--- the code of IF and of loops
+-- the code of a process with a name of its own, ..
+abbrev pub DeclaresVariable : Knowledge → (old new : Lines) → ℕ → Process → Type 0
+DeclaresVariable k old new x body = (p : Box (Unit {0}) Global) → Executes k old new (process.Variable' x p body)
+
+abbrev pub DeclaresValue : Knowledge → (old new : Lines) → ℕ → Expression → Process → Type 0
+DeclaresValue k old new x e body = (p : Box (Unit {0}) Global) → Executes k old new (process.Value' x e p body)
+
+-- .. of IF, and of loops
 abbrev pub Chooses : Knowledge → (old new : Lines) → Expression → (guarded rest : Process) → Type 0
 Chooses k old new e guarded rest = (p q : Box (Unit {0}) Global) → Executes k old new (process.If' e p guarded q rest)
 
@@ -260,7 +267,13 @@ Remains k p =
     (storages : List Storage) (scope : List Entry) (s : Store) → IsProcessPlace k storages scope
     → IsTrue (is_sound_process (length k.kinds) storages scope p) → KnowsState k scope s → Follows k scope s (run k.kinds p s)
 
--- .. of IF and of loops
+-- .. with a name of its own, of IF, and of loops
+abbrev pub VariableKnown : Knowledge → ℕ → Process → Type 0
+VariableKnown k x body = (p : Box (Unit {0}) Global) → Remains k (process.Variable' x p body)
+
+abbrev pub ValueKnown : Knowledge → ℕ → Expression → Process → Type 0
+ValueKnown k x e body = (p : Box (Unit {0}) Global) → Remains k (process.Value' x e p body)
+
 abbrev pub ChoosesKnown : Knowledge → Expression → (guarded rest : Process) → Type 0
 ChoosesKnown k e guarded rest = (p q : Box (Unit {0}) Global) → Remains k (process.If' e p guarded q rest)
 

@@ -115,7 +115,7 @@ pub(crate) fn may_be_same(one: &Target, other: &Target) -> bool
 }
 
 /// What happens first to a variable.
-#[derive(Clone, Copy, PartialEq, Eq)]
+#[derive(Clone, Copy)]
 pub(crate) enum First {
     Nothing,
     Assigned,

@@ -11,8 +11,9 @@ ghost use Rattle.tpw_occam_code.specs.Code.{followed_by, with_loop, place_behind
 ghost use Rattle.tpw_occam_code.specs.Leading.{Makes, HasConstants};
 ghost use Rattle.tpw_occam_code.specs.Executing.{is_skip, with_item_word, chosen_lines, Begins, Starts, loop_end};
 ghost use Rattle.tpw_occam_code.specs.Executing.{Clears, Executes, Chooses, Repeats, first_use};
+ghost use Rattle.tpw_occam_code.specs.Executing.{DeclaresVariable, DeclaresValue, Remains, ChoosesKnown, RepeatsKnown};
+ghost use Rattle.tpw_occam_code.specs.Executing.{VariableKnown, ValueKnown};
 ghost use Rattle.tpw_occam_code.specs.Moving.{ClearsWords, Moves};
-ghost use Rattle.tpw_occam_code.specs.Executing.{Remains, ChoosesKnown, RepeatsKnown};
 
 use crate::analysis::{First, first_use, words_of_all};
 use crate::code::{Code, Step, Turns};
@@ -179,20 +180,9 @@ impl Emitter<'_> {
                 guarded,
                 rest,
             } => self.choice(code, guard, guarded, rest, line),
-            Process::Variable { name, body } => {
-                let before = self.fact(*name);
-                self.set_fact(*name, fact_of(self.kind(*name)));
-                clear_first(code, line, *name, body)?;
-                self.process(code, body, line)?;
-                self.set_fact(*name, before);
-                Ok(())
-            }
+            Process::Variable { name, body } => self.with_variable(code, *name, body, line),
             Process::Value { name, value, body } => {
-                let before = self.fact(*name);
-                self.bind(code, *name, value, Room::from_word(0, line))?;
-                self.process(code, body, line)?;
-                self.set_fact(*name, before);
-                Ok(())
+                self.with_value(code, *name, value, body, line)
             }
             Process::Array { name, body } => {
                 self.clear_array(code, *name, line)?;
@@ -201,6 +191,48 @@ impl Emitter<'_> {
             Process::Trace(m) => self.trace(code, m, line),
             Process::At { line, body } => self.process(code, body, *line),
         }
+    }
+
+    /// A process with a variable of its own.
+    #[cycle(process)]
+    fn with_variable(
+        &mut self,
+        code: &mut Code,
+        x: usize,
+        body: &Process,
+        line: u32,
+    ) -> Result<(), CodeFault>
+        ensures knowledge { OnOk result (self.new ≡ self.old) }
+        ensures executes { OnOk result (DeclaresVariable self.old code.old code.new x body.now) }
+        ensures remains { OnOk result (VariableKnown self.old x body.now) }
+    {
+        let before = self.fact(x);
+        self.set_fact(x, fact_of(self.kind(x)));
+        clear_first(code, line, x, body)?;
+        self.process(code, body, line)?;
+        self.set_fact(x, before);
+        Ok(())
+    }
+
+    /// A process within which a name has a value.
+    #[cycle(process)]
+    fn with_value(
+        &mut self,
+        code: &mut Code,
+        x: usize,
+        e: &Expression,
+        body: &Process,
+        line: u32,
+    ) -> Result<(), CodeFault>
+        ensures knowledge { OnOk result (self.new ≡ self.old) }
+        ensures executes { OnOk result (DeclaresValue self.old code.old code.new x e.now body.now) }
+        ensures remains { OnOk result (ValueKnown self.old x e.now body.now) }
+    {
+        let before = self.fact(x);
+        self.bind(code, x, e, Room::from_word(0, line))?;
+        self.process(code, body, line)?;
+        self.set_fact(x, before);
+        Ok(())
     }
 
     /// Makes the bytes of an array 0.

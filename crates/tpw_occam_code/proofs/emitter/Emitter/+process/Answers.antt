@@ -1,16 +1,17 @@
-use Rattle.std.proofs.Common.{◌≡◌, ◌<◌, ◌≤◌, ℕ, ◌^◌, ◌+◌, Bool, true, false, List, [], ◌∷◌, ◌++◌, Some, None, OnOk, refl, ap, sym, subst, ◌∙◌, arith}
-use Rattle.std.proofs.lemmas.Result.{on_ok_weaker, IfOk-weaker}
+use Rattle.std.proofs.Common.{◌≡◌, ◌+◌, refl, ap, sym, subst, ◌∙◌}
+use Rattle.std.proofs.lemmas.Result.{on_ok_weaker}
 use Rattle.tpw_occam_core.specs.Meaning.{kind_of}
-use Rattle.tpw_occam_code.specs.Agreement.{with_fact, fact_at, fact_of_kind, constant_fact, counted_fact}
+use Rattle.tpw_occam_code.specs.Agreement.{with_fact, fact_at, fact_of_kind}
 use Rattle.tpw_occam_code.specs.declared.code.Turns.{Turns}
 use Rattle.tpw_occam_code.specs.Code.{none_at, place_behind}
 use Rattle.tpw_occam_code.specs.Computing.{Decides, Binds, ComputesBinding}
-use Rattle.tpw_occam_code.specs.Executing.{Executes, Chooses, Repeats, Remains, ChoosesKnown, RepeatsKnown, HaveWords, Assigns, Traces, Clears, Starts, first_use, is_skip}
+use Rattle.tpw_occam_code.specs.Executing.{DeclaresVariable, DeclaresValue, VariableKnown, ValueKnown, Executes, Chooses, Repeats, Remains, ChoosesKnown, RepeatsKnown, HaveWords, Assigns, Starts, first_use}
 use Rattle.tpw_occam_code.proofs.Standing.{place_of}
 use Rattle.tpw_occam_code.proofs.Naming.{restored}
-use Rattle.tpw_occam_code.proofs.Executing.{skip_executes, stop_executes, sequence_executes, value_executes, variable_executes, array_executes, never_executes, always_executes, choose_executes, branch_executes}
+use Rattle.tpw_occam_code.proofs.Executing.{skip_executes, stop_executes, sequence_executes, value_executes, variable_executes, array_executes}
+use Rattle.tpw_occam_code.proofs.Choosing.{never_executes, always_executes, choose_executes, branch_executes}
 use Rattle.tpw_occam_code.proofs.Looping.{repeat_none, repeat_once, repeat_many, turns_contained, counted}
-use Rattle.tpw_occam_code.proofs.Remaining.{assign_remains, copy_remains, sequence_remains, variable_remains, value_remains, array_remains, choose_remains, never_remains, always_remains, skipped_remains, none_remains, once_remains, repeat_remains}
+use Rattle.tpw_occam_code.proofs.Remaining.{assign_remains, copy_remains, sequence_remains, variable_remains, value_remains, array_remains, choose_remains, never_remains, always_remains, skipped_remains, once_remains, repeat_remains}
 use Rattle.tpw_occam_code.proofs.emitter.Emitter.+process.Goals as goal
 
 -- ---- IF
@@ -147,65 +148,29 @@ process-returns-in-If-clause-remains t c =
     (subst (λ g. ChoosesKnown c.args.self.now c.in-If.guard g c.deref-in-If-2.result.now) c.deref-in-If.ensures remains) (place_of c.in-If.guarded) (place_of c.in-If.rest)))
     c.choice.ensures.remains
 
-pub process-returns-in_ok-process-in-Variable-clause-knowledge : goal.process-returns-in_ok-process-in-Variable-clause-knowledge
-process-returns-in_ok-process-in-Variable-clause-knowledge t c =
-    let k = c.args.self.now in
-    let x = c.in-Variable.name in
-    let set : c.set_fact.new.self ≡ with_fact x c.fact_of.result k = c.set_fact.ensures in
-    c.set_fact-in-Variable.ensures ∙ ap (λ f. with_fact x f c.process-in-Variable.new.self) c.fact-before.ensures
-    ∙ ap (with_fact x (fact_at k x)) c.in_ok-process-in-Variable.ensures.knowledge ∙ restored k c.set_fact.new.self x c.fact_of.result set
+pub process-returns-in-Variable-clause-executes : goal.process-returns-in-Variable-clause-executes
+process-returns-in-Variable-clause-executes t c =
+    on_ok_weaker c.with_variable.result (λ executes.
+    rw c.in-Variable.is (subst (λ b. DeclaresVariable c.args.self.now c.args.code.now c.with_variable.new.code c.in-Variable.name b)
+    c.deref-in-Variable.ensures executes (place_of c.in-Variable.body))) c.with_variable.ensures.executes
 
-pub process-returns-in_ok-process-in-Variable-clause-executes : goal.process-returns-in_ok-process-in-Variable-clause-executes
-process-returns-in_ok-process-in-Variable-clause-executes t c =
-    let k = c.args.self.now in
-    let x = c.in-Variable.name in
-    let set : c.set_fact.new.self ≡ with_fact x (fact_of_kind (kind_of k.kinds x)) k =
-    c.set_fact.ensures ∙ ap (λ f. with_fact x f k) (c.fact_of.ensures ∙ ap fact_of_kind c.kind.ensures) in
-    rw c.in-Variable.is (variable_executes k c.args.code.now c.clear_first.new.code c.process-in-Variable.new.code x (place_of c.in-Variable.body) c.in-Variable.body.value
-    (subst (λ b. Starts (first_use b x) c.args.code.now c.clear_first.new.code x) c.deref-in-Variable.ensures c.in_ok-clear_first-in-Variable.ensures)
-    (subst (λ b. Executes (with_fact x (fact_of_kind (kind_of k.kinds x)) k) c.clear_first.new.code c.process-in-Variable.new.code b) c.deref-in-Variable-2.ensures
-    (subst (λ k. Executes k c.clear_first.new.code c.process-in-Variable.new.code c.deref-in-Variable-2.result.now) set c.in_ok-process-in-Variable.ensures.executes)))
+pub process-returns-in-Variable-clause-remains : goal.process-returns-in-Variable-clause-remains
+process-returns-in-Variable-clause-remains t c =
+    on_ok_weaker c.with_variable.result (λ remains.
+    rw c.in-Variable.is (subst (λ b. VariableKnown c.args.self.now c.in-Variable.name b)
+    c.deref-in-Variable.ensures remains (place_of c.in-Variable.body))) c.with_variable.ensures.remains
 
-pub process-returns-in_ok-process-in-Variable-clause-remains : goal.process-returns-in_ok-process-in-Variable-clause-remains
-process-returns-in_ok-process-in-Variable-clause-remains t c =
-    let k = c.args.self.now in
-    let x = c.in-Variable.name in
-    let set : c.set_fact.new.self ≡ with_fact x (fact_of_kind (kind_of k.kinds x)) k =
-    c.set_fact.ensures ∙ ap (λ f. with_fact x f k) (c.fact_of.ensures ∙ ap fact_of_kind c.kind.ensures) in
-    rw c.in-Variable.is (variable_remains k x (place_of c.in-Variable.body) c.in-Variable.body.value
-    (subst (λ b. Remains (with_fact x (fact_of_kind (kind_of k.kinds x)) k) b) c.deref-in-Variable-2.ensures
-    (subst (λ k. Remains k c.deref-in-Variable-2.result.now) set c.in_ok-process-in-Variable.ensures.remains)))
+pub process-returns-in-Value-clause-executes : goal.process-returns-in-Value-clause-executes
+process-returns-in-Value-clause-executes t c =
+    on_ok_weaker c.with_value.result (λ executes.
+    rw c.in-Value.is (subst (λ b. DeclaresValue c.args.self.now c.args.code.now c.with_value.new.code c.in-Value.name c.in-Value.value b)
+    c.deref-in-Value.ensures executes (place_of c.in-Value.body))) c.with_value.ensures.executes
 
-pub process-returns-in_ok-process-in-Value-clause-knowledge : goal.process-returns-in_ok-process-in-Value-clause-knowledge
-process-returns-in_ok-process-in-Value-clause-knowledge t c =
-    let k = c.args.self.now in
-    let x = c.in-Value.name in
-    let bound = c.in_ok-bind-in-Value.ensures.facts in
-    c.set_fact-in-Value.ensures ∙ ap (λ f. with_fact x f c.process-in-Value.new.self) c.fact-before-in-Value.ensures
-    ∙ ap (with_fact x (fact_at k x)) c.in_ok-process-in-Value.ensures.knowledge ∙ restored k c.bind.new.self x bound.0 bound.1
-
-pub process-returns-in_ok-process-in-Value-clause-executes : goal.process-returns-in_ok-process-in-Value-clause-executes
-process-returns-in_ok-process-in-Value-clause-executes t c =
-    let k = c.args.self.now in
-    let x = c.in-Value.name in
-    let bound = c.in_ok-bind-in-Value.ensures.facts in
-    let after = with_fact x bound.0 k in
-    rw c.in-Value.is (value_executes k bound.0 c.args.code.now c.bind.new.code c.process-in-Value.new.code x c.in-Value.value (place_of c.in-Value.body) c.in-Value.body.value
-    (subst (λ a. Binds k a x c.in-Value.value) bound.1 c.in_ok-bind-in-Value.ensures.knows)
-    (subst (λ a. ComputesBinding k a c.args.code.now c.bind.new.code x c.in-Value.value 3 0) bound.1
-    (subst (λ r. ComputesBinding k c.bind.new.self c.args.code.now c.bind.new.code x c.in-Value.value r.registers r.kept) c.from_word.ensures c.in_ok-bind-in-Value.ensures.computes))
-    (subst (λ b. Executes after c.bind.new.code c.process-in-Value.new.code b) c.deref-in-Value.ensures
-    (subst (λ a. Executes a c.bind.new.code c.process-in-Value.new.code c.deref-in-Value.result.now) bound.1 c.in_ok-process-in-Value.ensures.executes)))
-
-pub process-returns-in_ok-process-in-Value-clause-remains : goal.process-returns-in_ok-process-in-Value-clause-remains
-process-returns-in_ok-process-in-Value-clause-remains t c =
-    let k = c.args.self.now in
-    let x = c.in-Value.name in
-    let bound = c.in_ok-bind-in-Value.ensures.facts in
-    rw c.in-Value.is (value_remains k bound.0 x c.in-Value.value (place_of c.in-Value.body) c.in-Value.body.value
-    (subst (λ a. Binds k a x c.in-Value.value) bound.1 c.in_ok-bind-in-Value.ensures.knows)
-    (subst (λ b. Remains (with_fact x bound.0 k) b) c.deref-in-Value.ensures
-    (subst (λ a. Remains a c.deref-in-Value.result.now) bound.1 c.in_ok-process-in-Value.ensures.remains)))
+pub process-returns-in-Value-clause-remains : goal.process-returns-in-Value-clause-remains
+process-returns-in-Value-clause-remains t c =
+    on_ok_weaker c.with_value.result (λ remains.
+    rw c.in-Value.is (subst (λ b. ValueKnown c.args.self.now c.in-Value.name c.in-Value.value b)
+    c.deref-in-Value.ensures remains (place_of c.in-Value.body))) c.with_value.ensures.remains
 
 pub process-returns-in_ok-clear_array-in-Array-clause-executes : goal.process-returns-in_ok-clear_array-in-Array-clause-executes
 process-returns-in_ok-clear_array-in-Array-clause-executes t c =
@@ -234,6 +199,61 @@ pub process-returns-in-At-clause-remains : goal.process-returns-in-At-clause-rem
 process-returns-in-At-clause-remains t c =
     on_ok_weaker c.process-in-At.result (λ remains.
     rw c.in-At.is (subst (λ b. Remains c.args.self.now b) c.deref-in-At.ensures remains)) c.process-in-At.ensures.remains
+
+-- ---- names
+
+pub with_variable-returns-clause-knowledge : goal.with_variable-returns-clause-knowledge
+with_variable-returns-clause-knowledge t c =
+    let k = c.args.self.now in
+    let x = c.args.x in
+    c.set_fact-2.ensures ∙ ap (λ f. with_fact x f c.process.new.self) c.fact-before.ensures
+    ∙ ap (with_fact x (fact_at k x)) c.in_ok-process.ensures.knowledge ∙ restored k c.set_fact.new.self x c.fact_of.result c.set_fact.ensures
+
+pub with_variable-returns-clause-executes : goal.with_variable-returns-clause-executes
+with_variable-returns-clause-executes t c =
+    let k = c.args.self.now in
+    let x = c.args.x in
+    let set : c.set_fact.new.self ≡ with_fact x (fact_of_kind (kind_of k.kinds x)) k =
+    c.set_fact.ensures ∙ ap (λ f. with_fact x f k) (c.fact_of.ensures ∙ ap fact_of_kind c.kind.ensures) in
+    λ p. variable_executes k c.args.code.now c.clear_first.new.code c.process.new.code x p c.args.body.now c.in_ok-clear_first.ensures
+    (subst (λ k. Executes k c.clear_first.new.code c.process.new.code c.args.body.now) set c.in_ok-process.ensures.executes)
+
+pub with_variable-returns-clause-remains : goal.with_variable-returns-clause-remains
+with_variable-returns-clause-remains t c =
+    let k = c.args.self.now in
+    let x = c.args.x in
+    let set : c.set_fact.new.self ≡ with_fact x (fact_of_kind (kind_of k.kinds x)) k =
+    c.set_fact.ensures ∙ ap (λ f. with_fact x f k) (c.fact_of.ensures ∙ ap fact_of_kind c.kind.ensures) in
+    λ p. variable_remains k x p c.args.body.now (subst (λ k. Remains k c.args.body.now) set c.in_ok-process.ensures.remains)
+
+pub with_value-returns-clause-knowledge : goal.with_value-returns-clause-knowledge
+with_value-returns-clause-knowledge t c =
+    let k = c.args.self.now in
+    let x = c.args.x in
+    let bound = c.in_ok-bind.ensures.facts in
+    c.set_fact.ensures ∙ ap (λ f. with_fact x f c.process.new.self) c.fact-before.ensures
+    ∙ ap (with_fact x (fact_at k x)) c.in_ok-process.ensures.knowledge ∙ restored k c.bind.new.self x bound.0 bound.1
+
+pub with_value-returns-clause-executes : goal.with_value-returns-clause-executes
+with_value-returns-clause-executes t c =
+    let k = c.args.self.now in
+    let x = c.args.x in
+    let e = c.args.e.now in
+    let bound = c.in_ok-bind.ensures.facts in
+    λ p. value_executes k bound.0 c.args.code.now c.bind.new.code c.process.new.code x e p c.args.body.now
+    (subst (λ a. Binds k a x e) bound.1 c.in_ok-bind.ensures.knows)
+    (subst (λ a. ComputesBinding k a c.args.code.now c.bind.new.code x e 3 0) bound.1
+    (subst (λ r. ComputesBinding k c.bind.new.self c.args.code.now c.bind.new.code x e r.registers r.kept) c.from_word.ensures c.in_ok-bind.ensures.computes))
+    (subst (λ a. Executes a c.bind.new.code c.process.new.code c.args.body.now) bound.1 c.in_ok-process.ensures.executes)
+
+pub with_value-returns-clause-remains : goal.with_value-returns-clause-remains
+with_value-returns-clause-remains t c =
+    let k = c.args.self.now in
+    let x = c.args.x in
+    let e = c.args.e.now in
+    let bound = c.in_ok-bind.ensures.facts in
+    λ p. value_remains k bound.0 x e p c.args.body.now (subst (λ a. Binds k a x e) bound.1 c.in_ok-bind.ensures.knows)
+    (subst (λ a. Remains a c.args.body.now) bound.1 c.in_ok-process.ensures.remains)
 
 -- ---- loops
 

@@ -1,4 +1,4 @@
-use Rattle.std.proofs.Common.{◌≡◌, sym, ◌∙◌}
+use Rattle.std.proofs.Common.{sym, ◌∙◌}
 use Rattle.std.proofs.lemmas.Result.{on_ok_weaker}
 use Rattle.tpw_occam_code.proofs.Deciding.{decides_operands, decides_left, decides_right}
 use Rattle.tpw_occam_code.proofs.emitter.Emitter.difference.Goals as goal
