@@ -1,8 +1,8 @@
 -- Assignments of which all values and subscripts are kept in words.
-use Rattle.std.proofs.Common.{◌≡◌, ◌+◌, ◌*◌, ◌/◌, ◌%◌, ◌^◌, ◌≤◌, ◌<◌, [], ◌∷◌, ◌++◌, ℕ, zero, suc, List, length, map, Option, Some, None, Bool, false, true, refl, ap, sym, subst, ◌∙◌, arith, w32}
-use Rattle.std.specs.Prelude.{slice_index, slice_set, slice_index_or, slice_get, ◌||◌, ◌&&◌, not, IsTrue}
+use Rattle.std.proofs.Common.{◌≡◌, ◌+◌, ◌%◌, ◌^◌, ◌≤◌, ◌<◌, [], ◌∷◌, ℕ, zero, suc, List, length, map, Bool, false, true, refl, ap, sym, subst, ◌∙◌, arith, w32}
+use Rattle.std.specs.Prelude.{slice_index, slice_set, slice_index_or, slice_get, ◌||◌, ◌&&◌, not}
 use Rattle.std.specs.Int.{to_le_bytes}
-use Rattle.std.specs.List.{list_any, list_all}
+use Rattle.std.specs.List.{list_any}
 use Rattle.std.proofs.Math.Bool.{or_assoc, or-false}
 use Rattle.tpw_occam_core.specs.declared.arithmetic.Answer.{Answer}
 use Rattle.tpw_occam_core.specs.declared.worker.Storage.{Storage}
@@ -12,10 +12,10 @@ use Rattle.tpw_occam_core.specs.declared.expression.Expression.{Expression}
 use Rattle.tpw_occam_core.specs.declared.process.Target.{Target}
 use Rattle.tpw_occam_core.specs.declared.process.Target.TheVariants as target
 use Rattle.tpw_occam_core.specs.declared.process.Assignment.{Assignment}
-use Rattle.tpw_occam_core.specs.Arithmetic.{answer, plain, subscript}
+use Rattle.tpw_occam_core.specs.Arithmetic.{plain, subscript}
 use Rattle.tpw_occam_core.specs.Arrays.{size, with_element}
 use Rattle.tpw_occam_core.specs.Meaning.{Store, value_of, followed, array_of, subscript_of, stored, flagged, assigned}
-use Rattle.tpw_occam_core.specs.Sound.{is_seen, is_sound_target, is_sound_assignment}
+use Rattle.tpw_occam_core.specs.Sound.{is_sound_assignment}
 use Rattle.tpw_occam_code.specs.declared.expressions.Value.{Value}
 use Rattle.tpw_occam_code.specs.declared.items.Item.TheVariants as item
 use Rattle.tpw_occam_code.specs.declared.code.Step.TheVariants.{Load, Store as StoreTo}
@@ -24,11 +24,11 @@ use Rattle.tpw_occam_code.specs.Blocks.{with_bytes, word_at, bytes_at}
 use Rattle.tpw_occam_code.specs.Symbolic.{Machine, number}
 use Rattle.tpw_occam_code.specs.Leading.{Does, HasConstants, HasWord, word_bytes}
 use Rattle.tpw_occam_code.specs.Ranges.{full, Contains}
-use Rattle.tpw_occam_code.specs.Values.{Holds, HasNumber, HasOperands, HasAddress, Pushes, PushesAlone, Replaces, Answers, scaled}
-use Rattle.tpw_occam_code.specs.Agreement.{Knowledge, elements_of, Knows, Agrees, LeavesItems}
-use Rattle.tpw_occam_code.specs.Computing.{IsPlace, MayStand, Computes, ComputesTo, IsKnown, subscript_value}
-use Rattle.tpw_occam_code.specs.Executing.{sources_read, is_target, first_in_assignments, IsProcessPlace, MayRun, KnowsState, Matches, LeavesCounts, Assigns}
-use Rattle.tpw_occam_code.specs.Assigning.{HasShape, IsInside, taken, taken_value, element_bytes, unset_but, unset_by, Stores, Writes, WritesPopped, IsToStore, HasSmallValue, MayMake, MayMakeAll, LeavesKept, Saved, KeepsSubscript, HasSubscript, HasParts, KeepsParts, StoresKept, StoresParts, AssignsAbove}
+use Rattle.tpw_occam_code.specs.Values.{Holds, HasNumber, HasOperands, HasAddress, Pushes, PushesAlone, Answers, scaled}
+use Rattle.tpw_occam_code.specs.Agreement.{Knowledge, elements_of, Agrees, LeavesItems}
+use Rattle.tpw_occam_code.specs.Computing.{Computes, ComputesTo, IsKnown, subscript_value}
+use Rattle.tpw_occam_code.specs.Executing.{sources_read, is_target, KnowsState, Matches, Assigns}
+use Rattle.tpw_occam_code.specs.Assigning.{HasShape, taken, taken_value, element_bytes, unset_but, unset_by, Stores, Writes, WritesPopped, IsToStore, HasSmallValue, MayMake, MayMakeAll, LeavesKept, Saved, KeepsSubscript, HasSubscript, HasParts, KeepsParts, StoresKept, StoresParts, AssignsAbove}
 use Rattle.tpw_occam_code.proofs.Leading.{does_both, does_less, does_nothing}
 use Rattle.tpw_occam_code.proofs.Computing.{agrees_after, bytes_same, leaves_then}
 use Rattle.tpw_occam_code.proofs.Keeping.{does_recall}

@@ -1,19 +1,18 @@
 -- Assignments of which all values are in registers at once.
-use Rattle.std.proofs.Common.{◌≡◌, ◌+◌, ◌-◌, ◌*◌, ◌^◌, ◌≤◌, ◌<◌, [], ◌∷◌, ℕ, zero, suc, List, length, map, Bool, false, true, refl, ap, sym, subst, ◌∙◌, arith, w32}
-use Rattle.std.specs.Prelude.{slice_index, ◌||◌, ◌&&◌, not, IsTrue}
+use Rattle.std.proofs.Common.{◌≡◌, ◌-◌, ◌*◌, ◌≤◌, ◌<◌, [], ◌∷◌, ℕ, List, length, Bool, false, true, refl, ap, sym, subst, ◌∙◌, arith, w32}
+use Rattle.std.specs.Prelude.{◌||◌, ◌&&◌, not}
 use Rattle.std.specs.Int.{to_le_bytes}
-use Rattle.std.specs.List.{list_any, list_all}
-use Rattle.std.proofs.Math.Bool.{or_assoc, or-false}
+use Rattle.std.specs.List.{list_any}
+use Rattle.std.proofs.Math.Bool.{or-false}
 use Rattle.tpw_occam_core.specs.declared.arithmetic.Answer.{Answer}
 use Rattle.tpw_occam_core.specs.declared.worker.Storage.{Storage}
 use Rattle.tpw_occam_core.specs.declared.scope.Entry.{Entry}
-use Rattle.tpw_occam_core.specs.declared.kind.Kind.{Kind}
 use Rattle.tpw_occam_core.specs.declared.kind.Kind.TheVariants.{Word}
 use Rattle.tpw_occam_core.specs.declared.expression.Expression.{Expression}
 use Rattle.tpw_occam_core.specs.declared.process.Target.{Target}
 use Rattle.tpw_occam_core.specs.declared.process.Target.TheVariants as target
 use Rattle.tpw_occam_core.specs.declared.process.Assignment.{Assignment}
-use Rattle.tpw_occam_core.specs.Arithmetic.{answer, plain, subscript}
+use Rattle.tpw_occam_core.specs.Arithmetic.{plain, subscript}
 use Rattle.tpw_occam_core.specs.Arrays.{size, kept}
 use Rattle.tpw_occam_core.specs.Meaning.{Store, value_of, followed, array_of, kind_of, subscript_of, stored, flagged, assigned}
 use Rattle.tpw_occam_core.specs.Sound.{is_sound_assignment}
@@ -21,12 +20,12 @@ use Rattle.tpw_occam_code.specs.declared.items.Item.TheVariants as item
 use Rattle.tpw_occam_code.specs.Code.{Lines}
 use Rattle.tpw_occam_code.specs.Symbolic.{Machine, number}
 use Rattle.tpw_occam_code.specs.Leading.{Does}
-use Rattle.tpw_occam_code.specs.Values.{HasNumber, Pushes}
-use Rattle.tpw_occam_code.specs.Agreement.{Knowledge, elements_of, Knows, Agrees, LeavesItems}
-use Rattle.tpw_occam_code.specs.Computing.{IsPlace, MayStand, Suffices, Computes, IsFixed, is_simple}
-use Rattle.tpw_occam_code.specs.Executing.{sources_read, is_target, IsProcessPlace, MayRun, KnowsState, Matches, LeavesCounts, Assigns}
-use Rattle.tpw_occam_code.specs.Assigning.{HasShape, IsInside, taken, unset_but, unset_by, Stores, WritesPopped, MayTake, MayMake, MayMakeAll, HasSmallValue}
-use Rattle.tpw_occam_code.specs.Registers.{IsWordTarget, FitAll, KeepsRegisters, Popped, StoresWord, AssignsBelow}
+use Rattle.tpw_occam_code.specs.Values.{HasNumber}
+use Rattle.tpw_occam_code.specs.Agreement.{Knowledge, Knows}
+use Rattle.tpw_occam_code.specs.Computing.{IsPlace, Computes, IsFixed}
+use Rattle.tpw_occam_code.specs.Executing.{sources_read, is_target, Matches, LeavesCounts, Assigns}
+use Rattle.tpw_occam_code.specs.Assigning.{IsInside, taken, unset_but, unset_by, Stores, WritesPopped, MayTake, MayMake, MayMakeAll, HasSmallValue}
+use Rattle.tpw_occam_code.specs.Registers.{IsWordTarget, FitAll, KeepsRegisters, StoresWord, AssignsBelow}
 use Rattle.tpw_occam_code.proofs.Leading.{does_both, does_less, does_nothing}
 use Rattle.tpw_occam_code.proofs.Indexing.{subscript_below}
 use Rattle.tpw_occam_code.proofs.Standing.{and_first, and_second, or_first, or_second}
