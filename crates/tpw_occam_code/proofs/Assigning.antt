@@ -27,6 +27,7 @@ use Rattle.tpw_occam_code.specs.Agreement.{Knowledge, elements_of, Agrees, Leave
 use Rattle.tpw_occam_code.specs.Computing.{MayStand, Computes, ComputesTo, IsKnown, IsKnownOf, IsFixed, IsOffset, subscript_value}
 use Rattle.tpw_occam_code.specs.Assigning.{taken, taken_value, element_bytes, Writes, WritesPopped, IsToStore, Stores, HasTwo, ComputesAbove, ComputesOver, MayTake, StoresIn}
 use Rattle.tpw_occam_code.proofs.Leading.{does_both, does_less, does_step}
+use Rattle.tpw_occam_code.proofs.Elements.{whole_words}
 use Rattle.tpw_occam_code.proofs.Computing.{agrees_after, leaves_then, bytes_same}
 use Rattle.tpw_occam_code.proofs.Keeping.{does_save, does_recall}
 use Rattle.tpw_occam_code.proofs.Indexing.{subscript_below, subscript_word_below}
@@ -255,12 +256,9 @@ element_stores k old between at_element new a view e elements temporaries counte
         traced = at.traced ∙ two.leaves.traced;
       },
       at.error ∙ two.error,
-      record { areg = at.areg; breg = at.breg ∙ two.breg; room = fits _ _ _ long at.room },
+      record { areg = at.areg; breg = at.breg ∙ two.breg; room = whole_words _ _ _ long at.room },
     )) in
     does_both k.arrays old at_element new _ _ _ _ _ pushed (stores k.arrays bytes a one.word word below)
     (λ m middle said after. after.2)
     (λ m middle end said after writes. subst (λ (i : Answer). Stores scope temporaries (item.Array a) (scaled view i.word) (element_bytes view word) i.flag m end) is
     (writes_stores scope temporaries (item.Array a) (scaled view one.word) (element_bytes view word) one.flag m middle end after.0 after.1 writes))
-  where
-    fits : (long bytes room : ℕ) → long ≡ bytes → word_bytes bytes ≤ room → long ≤ room
-    fits long bytes room is h = omega arith

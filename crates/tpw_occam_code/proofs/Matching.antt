@@ -78,7 +78,7 @@ pub word_stored : (i : Item) (w : ℕ) (blocks : Blocks) → bytes_at (with_byte
 unfolding with_word
 word_stored i w blocks = word_written i w blocks
 
-still_set : (u b : Bool) → (u && not b) ≡ false → b ≡ false → u ≡ false
+pub still_set : (u b : Bool) → (u && not b) ≡ false → b ≡ false → u ≡ false
 still_set false b h e = refl
 still_set true true h e = e
 still_set true false h e = h

@@ -45,7 +45,7 @@ use Rattle.tpw_occam_code.proofs.Ranges.{full_contains}
 use Rattle.tpw_occam_code.proofs.Naming.{slice_same, slice_other, slice_length}
 use Rattle.tpw_occam_code.proofs.Reading.{set_beyond, value_flagged, subscript_flagged, stored_flagged, assigned_flagged}
 use Rattle.tpw_occam_code.proofs.Storing.{element_written, does_store}
-use Rattle.tpw_occam_code.proofs.Matching.{knows_shape, does_same, matches_less, knows_unset, make_takes, make_stands, word_stored, run_reads, run_sets}
+use Rattle.tpw_occam_code.proofs.Matching.{still_set, knows_shape, does_same, matches_less, knows_unset, make_takes, make_stands, word_stored, run_reads, run_sets}
 use Rattle.tpw_occam_code.proofs.KeptParts.{stored_shape, matches_left, items_leave, knows_flagged}
 use Rattle.tpw_occam_code.proofs.Ordering.{length_stored, picks_assigned, after}
 
@@ -539,13 +539,9 @@ moves_none k code all temporaries waiting words settles small storages scope uns
     (λ m end said is. subst
     (λ z. Matches k storages scope (unset_by (pending all words waiting) unset) (assigned k.kinds (pending all words waiting) s) z × LeavesCounts scope m z) (sym is) (
       subst (λ w. Matches k storages scope (unset_by (pending all words w) unset) (assigned k.kinds (pending all words w) s) m) (sym settles)
-          (matches_less k storages scope unset (unset_by [] unset) s m (λ x h. still (unset x) h) said.0),
+          (matches_less k storages scope unset (unset_by [] unset) s m (λ x h. still_set (unset x) false h refl) said.0),
       record { counts = λ x j there. refl; to_come = refl; sent = refl },
     ))
-  where
-    still : (u : Bool) → (u && true) ≡ false → u ≡ false
-    still false h = refl
-    still true h = h
 
 pending_from : (f : Waiting → Assignment) (waiting : List Waiting) (all : List Assignment) → length waiting ≡ length all
     → ((i : ℕ) → i < length all → f (waiting_at waiting i) ≡ assignment_at all i) → map f waiting ≡ all

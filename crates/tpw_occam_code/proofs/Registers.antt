@@ -33,8 +33,8 @@ use Rattle.tpw_occam_code.proofs.Constructs.{constant_value, seen_array, size_is
 use Rattle.tpw_occam_code.proofs.Storing.{leaves_self, writes_stores}
 use Rattle.tpw_occam_code.proofs.Assigning.{take_element}
 use Rattle.tpw_occam_code.proofs.Reading.{assigned_flagged, stored_flagged}
-use Rattle.tpw_occam_code.proofs.Matching.{does_same, matches_stored, matches_less, stores_leave, knows_unset, knows_shape, make_takes, make_stands, run_reads, run_sets}
-use Rattle.tpw_occam_code.proofs.KeptParts.{matches_left, matches_unflagged, items_leave, knows_flagged, assigned_shape}
+use Rattle.tpw_occam_code.proofs.Matching.{still_set, does_same, matches_stored, matches_less, stores_leave, knows_unset, knows_shape, make_takes, make_stands, run_reads, run_sets}
+use Rattle.tpw_occam_code.proofs.KeptParts.{both_set, matches_left, matches_unflagged, items_leave, knows_flagged, assigned_shape}
 use Rattle.tpw_occam_code.proofs.Moving.{counts_then}
 
 -- ---- a word that is stored
@@ -108,27 +108,16 @@ registers_none k code registers storages scope unset s place may knows =
     does_less k.arrays code code _ _ _ _ (does_nothing k.arrays code) (λ m said. tt)
     (λ m end said is. subst
     (λ z. Matches k storages scope (unset_by [] unset) s z × LeavesCounts scope m z × KeepsRegisters registers m z) (sym is) (
-      matches_less k storages scope unset (unset_by [] unset) s m (λ x h. still (unset x) h) said,
+      matches_less k storages scope unset (unset_by [] unset) s m (λ x h. still_set (unset x) false h refl) said,
       record { counts = λ x j there. refl; to_come = refl; sent = refl },
       record { areg = λ h. refl; breg = λ h. refl; creg = λ h. refl },
     ))
-  where
-    still : (u : Bool) → (u && true) ≡ false → u ≡ false
-    still false h = refl
-    still true h = h
 
 -- a value is pushed
 pub record Pushed (registers word : ℕ) (m end : Machine) : Type 0 where
   pub areg : end.areg ≡ number word
   pub breg : registers ≤ 2 → end.breg ≡ m.areg
   pub creg : registers ≤ 1 → end.creg ≡ m.breg
-
-both_set : (u a r : Bool) → (u && not (a || r)) ≡ false → ((u && not r) && not a) ≡ false
-both_set false a r h = refl
-both_set true true true h = refl
-both_set true true false h = refl
-both_set true false true h = refl
-both_set true false false h = h
 
 pub registers_more : (k : Knowledge) (old pushed made new : Lines) (one : Assignment) (rest : List Assignment) (registers temporaries : ℕ)
     → registers ≤ 3 → FitAll k (one ∷ rest) registers
