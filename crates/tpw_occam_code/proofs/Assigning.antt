@@ -1,9 +1,8 @@
 -- The code of one assignment.
-use Rattle.std.proofs.Common.{◌≡◌, ◌⊎◌, inl, inr, ◌+◌, ◌*◌, ◌/◌, ◌%◌, ◌^◌, ◌≤◌, ◌<◌, [], ◌∷◌, ◌++◌, ℕ, zero, suc, List, length, map, Option, Some, None, Bool, false, true, nat_eq, refl, ap, sym, subst, ◌∙◌, arith, w32}
-use Rattle.std.specs.Prelude.{slice_index, slice_index_or, slice_set, ◌||◌, ◌&&◌, not, IsTrue, ℤ, pos}
+use Rattle.std.proofs.Common.{◌≡◌, ◌+◌, ◌*◌, ◌%◌, ◌^◌, ◌≤◌, ◌<◌, [], ◌∷◌, ℕ, List, length, Bool, false, refl, ap, sym, subst, ◌∙◌, arith, w32}
+use Rattle.std.specs.Prelude.{slice_index, ◌||◌, IsTrue}
 use Rattle.std.specs.Int.{to_le_bytes}
-use Rattle.std.specs.List.{list_any}
-use Rattle.std.proofs.Math.Bool.{or_assoc, or-false}
+use Rattle.std.proofs.Math.Bool.{or-false}
 use Rattle.tp_decode.specs.declared.instr.Instr.TheVariants.{Rev}
 use Rattle.tpw_occam_core.specs.declared.arithmetic.Answer.{Answer}
 use Rattle.tpw_occam_core.specs.declared.worker.Storage.{Storage}
@@ -11,31 +10,29 @@ use Rattle.tpw_occam_core.specs.declared.scope.Entry.{Entry}
 use Rattle.tpw_occam_core.specs.declared.kind.Kind.{Kind}
 use Rattle.tpw_occam_core.specs.declared.kind.Kind.TheVariants as kind
 use Rattle.tpw_occam_core.specs.declared.expression.Expression.{Expression}
-use Rattle.tpw_occam_core.specs.declared.process.Target.{Target}
 use Rattle.tpw_occam_core.specs.declared.process.Target.TheVariants as target
 use Rattle.tpw_occam_core.specs.declared.process.Assignment.{Assignment}
 use Rattle.tpw_occam_core.specs.Arithmetic.{answer, plain, subscript}
-use Rattle.tpw_occam_core.specs.Arrays.{size, kept}
-use Rattle.tpw_occam_core.specs.Meaning.{Store, value_of, followed, array_of, kind_of, subscript_of}
+use Rattle.tpw_occam_core.specs.Arrays.{size}
+use Rattle.tpw_occam_core.specs.Meaning.{Store, value_of, followed, array_of, subscript_of}
 use Rattle.tpw_occam_core.specs.Sound.{is_seen}
 use Rattle.tpw_occam_code.specs.declared.expressions.Value.{Value}
-use Rattle.tpw_occam_code.specs.declared.items.Item.{Item}
 use Rattle.tpw_occam_code.specs.declared.items.Item.TheVariants as item
 use Rattle.tpw_occam_code.specs.declared.code.Step.TheVariants.{Plain, Load, Store as StoreTo}
-use Rattle.tpw_occam_code.specs.Code.{Lines, followed_by, line_of, place_behind}
-use Rattle.tpw_occam_code.specs.Symbolic.{Machine, effect, performed, at_place, number}
-use Rattle.tpw_occam_code.specs.Leading.{Does, HasWord, HasArray, word_bytes}
+use Rattle.tpw_occam_code.specs.Code.{Lines, followed_by, line_of}
+use Rattle.tpw_occam_code.specs.Symbolic.{effect, performed}
+use Rattle.tpw_occam_code.specs.Leading.{Does, HasWord, word_bytes}
 use Rattle.tpw_occam_code.specs.Values.{Holds, HasNumber, HasAddress, Pushes, Answers, scaled}
-use Rattle.tpw_occam_code.specs.Agreement.{Knowledge, elements_of, Knows, Agrees, LeavesItems}
-use Rattle.tpw_occam_code.specs.Computing.{IsPlace, MayStand, Suffices, Computes, ComputesTo, IsKnown, IsKnownOf, IsFixed, IsOffset, subscript_value}
-use Rattle.tpw_occam_code.specs.Executing.{IsProcessPlace}
+use Rattle.tpw_occam_code.specs.Agreement.{Knowledge, elements_of, Agrees, LeavesItems}
+use Rattle.tpw_occam_code.specs.Computing.{MayStand, Computes, ComputesTo, IsKnown, IsKnownOf, IsFixed, IsOffset, subscript_value}
 use Rattle.tpw_occam_code.specs.Assigning.{taken, taken_value, element_bytes, Writes, WritesPopped, IsToStore, Stores, HasTwo, ComputesAbove, ComputesOver, MayTake, StoresIn}
 use Rattle.tpw_occam_code.proofs.Leading.{does_both, does_less, does_step}
+use Rattle.tpw_occam_code.proofs.Elements.{whole_words}
 use Rattle.tpw_occam_code.proofs.Computing.{agrees_after, leaves_then, bytes_same}
 use Rattle.tpw_occam_code.proofs.Keeping.{does_save, does_recall}
 use Rattle.tpw_occam_code.proofs.Indexing.{subscript_below, subscript_word_below}
 use Rattle.tpw_occam_code.proofs.Standing.{and_first, and_second, suffices_two}
-use Rattle.tpw_occam_code.proofs.Constructs.{computes_then, goes_by, constant_value, seen_array, seen_size, size_is, elements_most, OffsetFacts, offset_facts}
+use Rattle.tpw_occam_code.proofs.Constructs.{computes_then, goes_by, constant_value, seen_array, seen_size, size_is, elements_most, offset_facts}
 use Rattle.tpw_occam_code.proofs.TwoOperands.{leaves_less}
 use Rattle.tpw_occam_code.proofs.Storing.{leaves_self, writes_stores}
 
@@ -259,12 +256,9 @@ element_stores k old between at_element new a view e elements temporaries counte
         traced = at.traced ∙ two.leaves.traced;
       },
       at.error ∙ two.error,
-      record { areg = at.areg; breg = at.breg ∙ two.breg; room = fits _ _ _ long at.room },
+      record { areg = at.areg; breg = at.breg ∙ two.breg; room = whole_words _ _ _ long at.room },
     )) in
     does_both k.arrays old at_element new _ _ _ _ _ pushed (stores k.arrays bytes a one.word word below)
     (λ m middle said after. after.2)
     (λ m middle end said after writes. subst (λ (i : Answer). Stores scope temporaries (item.Array a) (scaled view i.word) (element_bytes view word) i.flag m end) is
     (writes_stores scope temporaries (item.Array a) (scaled view one.word) (element_bytes view word) one.flag m middle end after.0 after.1 writes))
-  where
-    fits : (long bytes room : ℕ) → long ≡ bytes → word_bytes bytes ≤ room → long ≤ room
-    fits long bytes room is h = omega arith

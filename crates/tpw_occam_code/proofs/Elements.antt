@@ -98,7 +98,7 @@ pushes_alone w p m end is = record {
 }
 
 -- so many bytes have room in whole words
-whole_words : (long bytes room : ℕ) → long ≡ bytes → word_bytes bytes ≤ room → long ≤ room
+pub whole_words : (long bytes room : ℕ) → long ≡ bytes → word_bytes bytes ≤ room → long ≤ room
 whole_words long bytes room is h = omega arith
 
 room_of : (arrays : List ℕ) (a : ℕ) (bytes : List ℕ) (m middle : Machine) → length bytes ≡ slice_index arrays a

@@ -1,8 +1,8 @@
 -- Assignments of which all values and subscripts are kept in words.
-use Rattle.std.proofs.Common.{◌≡◌, ◌+◌, ◌*◌, ◌/◌, ◌%◌, ◌^◌, ◌≤◌, ◌<◌, [], ◌∷◌, ◌++◌, ℕ, zero, suc, List, length, map, Option, Some, None, Bool, false, true, refl, ap, sym, subst, ◌∙◌, arith, w32}
-use Rattle.std.specs.Prelude.{slice_index, slice_set, slice_index_or, slice_get, ◌||◌, ◌&&◌, not, IsTrue}
+use Rattle.std.proofs.Common.{◌≡◌, ◌+◌, ◌%◌, ◌^◌, ◌≤◌, ◌<◌, [], ◌∷◌, ℕ, zero, suc, List, length, map, Bool, false, true, refl, ap, sym, subst, ◌∙◌, arith, w32}
+use Rattle.std.specs.Prelude.{slice_index, slice_set, slice_index_or, slice_get, ◌||◌, ◌&&◌, not}
 use Rattle.std.specs.Int.{to_le_bytes}
-use Rattle.std.specs.List.{list_any, list_all}
+use Rattle.std.specs.List.{list_any}
 use Rattle.std.proofs.Math.Bool.{or_assoc, or-false}
 use Rattle.tpw_occam_core.specs.declared.arithmetic.Answer.{Answer}
 use Rattle.tpw_occam_core.specs.declared.worker.Storage.{Storage}
@@ -12,10 +12,10 @@ use Rattle.tpw_occam_core.specs.declared.expression.Expression.{Expression}
 use Rattle.tpw_occam_core.specs.declared.process.Target.{Target}
 use Rattle.tpw_occam_core.specs.declared.process.Target.TheVariants as target
 use Rattle.tpw_occam_core.specs.declared.process.Assignment.{Assignment}
-use Rattle.tpw_occam_core.specs.Arithmetic.{answer, plain, subscript}
+use Rattle.tpw_occam_core.specs.Arithmetic.{plain, subscript}
 use Rattle.tpw_occam_core.specs.Arrays.{size, with_element}
 use Rattle.tpw_occam_core.specs.Meaning.{Store, value_of, followed, array_of, subscript_of, stored, flagged, assigned}
-use Rattle.tpw_occam_core.specs.Sound.{is_seen, is_sound_target, is_sound_assignment}
+use Rattle.tpw_occam_core.specs.Sound.{is_sound_assignment}
 use Rattle.tpw_occam_code.specs.declared.expressions.Value.{Value}
 use Rattle.tpw_occam_code.specs.declared.items.Item.TheVariants as item
 use Rattle.tpw_occam_code.specs.declared.code.Step.TheVariants.{Load, Store as StoreTo}
@@ -24,12 +24,13 @@ use Rattle.tpw_occam_code.specs.Blocks.{with_bytes, word_at, bytes_at}
 use Rattle.tpw_occam_code.specs.Symbolic.{Machine, number}
 use Rattle.tpw_occam_code.specs.Leading.{Does, HasConstants, HasWord, word_bytes}
 use Rattle.tpw_occam_code.specs.Ranges.{full, Contains}
-use Rattle.tpw_occam_code.specs.Values.{Holds, HasNumber, HasOperands, HasAddress, Pushes, PushesAlone, Replaces, Answers, scaled}
-use Rattle.tpw_occam_code.specs.Agreement.{Knowledge, elements_of, Knows, Agrees, LeavesItems}
-use Rattle.tpw_occam_code.specs.Computing.{IsPlace, MayStand, Computes, ComputesTo, IsKnown, subscript_value}
-use Rattle.tpw_occam_code.specs.Executing.{sources_read, is_target, first_in_assignments, IsProcessPlace, MayRun, KnowsState, Matches, LeavesCounts, Assigns}
-use Rattle.tpw_occam_code.specs.Assigning.{HasShape, IsInside, taken, taken_value, element_bytes, unset_but, unset_by, Stores, Writes, WritesPopped, IsToStore, HasSmallValue, MayMake, MayMakeAll, LeavesKept, Saved, KeepsSubscript, HasSubscript, HasParts, KeepsParts, StoresKept, StoresParts, AssignsAbove}
+use Rattle.tpw_occam_code.specs.Values.{Holds, HasNumber, HasOperands, HasAddress, Pushes, PushesAlone, Answers, scaled}
+use Rattle.tpw_occam_code.specs.Agreement.{Knowledge, elements_of, Agrees, LeavesItems}
+use Rattle.tpw_occam_code.specs.Computing.{Computes, ComputesTo, IsKnown, subscript_value}
+use Rattle.tpw_occam_code.specs.Executing.{sources_read, is_target, KnowsState, Matches, Assigns}
+use Rattle.tpw_occam_code.specs.Assigning.{HasShape, taken, taken_value, element_bytes, unset_but, unset_by, Stores, Writes, WritesPopped, IsToStore, HasSmallValue, MayMake, MayMakeAll, LeavesKept, Saved, KeepsSubscript, HasSubscript, HasParts, KeepsParts, StoresKept, StoresParts, AssignsAbove}
 use Rattle.tpw_occam_code.proofs.Leading.{does_both, does_less, does_nothing}
+use Rattle.tpw_occam_code.proofs.Elements.{whole_words}
 use Rattle.tpw_occam_code.proofs.Computing.{agrees_after, bytes_same, leaves_then}
 use Rattle.tpw_occam_code.proofs.Keeping.{does_recall}
 use Rattle.tpw_occam_code.proofs.Indexing.{reduced_below}
@@ -40,7 +41,7 @@ use Rattle.tpw_occam_code.proofs.Constructs.{seen_array, seen_size, size_is, ele
 use Rattle.tpw_occam_code.proofs.TwoOperands.{does_keep, leaves_less}
 use Rattle.tpw_occam_code.proofs.Storing.{writes_stores}
 use Rattle.tpw_occam_code.proofs.Reading.{assigned_flagged, stored_flagged}
-use Rattle.tpw_occam_code.proofs.Matching.{does_same, agrees_same, with_element-length, size_known, knows_shape, target_seen, subscript_inside, matches_stored, matches_less, stores_leave, knows_unset, make_takes, make_stands, taken_small, run_reads, run_sets}
+use Rattle.tpw_occam_code.proofs.Matching.{still_set, does_same, agrees_same, with_element-length, size_known, knows_shape, target_seen, subscript_inside, matches_stored, matches_less, stores_leave, knows_unset, make_takes, make_stands, taken_small, run_reads, run_sets}
 
 -- ---- what is kept
 
@@ -201,7 +202,7 @@ kept_stores k old loaded reduced at_element new source a view elements temporary
     (does_both k.arrays reduced at_element new (HasOperands word i) _ _ _ (Writes (item.Array a) (scaled view i) (element_bytes view word))
     (does_less k.arrays reduced at_element _ _ (HasOperands word i) _ (indexes k.arrays i) (λ m said. said.1) (λ m end said at. at))
     (stores k.arrays bytes a i word inside)
-    (λ m middle said at. record { areg = at.areg; breg = at.breg ∙ said.0; room = fits _ _ _ long at.room })
+    (λ m middle said at. record { areg = at.areg; breg = at.breg ∙ said.0; room = whole_words _ _ _ long at.room })
     (λ m middle end said at writes. record {
       blocks = writes.blocks ∙ ap (with_bytes (item.Array a) (scaled view i) (element_bytes view word)) at.blocks;
       error = writes.error ∙ at.error;
@@ -217,9 +218,6 @@ kept_stores k old loaded reduced at_element new source a view elements temporary
       sent = writes.sent ∙ put.sent;
       traced = writes.traced ∙ put.traced;
     })
-  where
-    fits : (long bytes room : ℕ) → long ≡ bytes → word_bytes bytes ≤ room → long ≤ room
-    fits long bytes room is h = omega arith
 
 pub matches_unflagged : (k : Knowledge) (storages : List Storage) (scope : List Entry) (unset : ℕ → Bool) (s : Store) (m : Machine)
     → Matches k storages scope unset (flagged false s) m → Matches k storages scope unset s m
@@ -348,15 +346,11 @@ pub words_none : (k : Knowledge) (code : Lines) (temporaries : ℕ) → AssignsA
 words_none k code temporaries storages scope unset s place may knows =
     does_less k.arrays code code _ _ _ _ (does_nothing k.arrays code) (λ m said. tt)
     (λ m end said is. subst (λ z. Matches k storages scope (unset_by [] unset) s z × LeavesKept scope temporaries m z) (sym is) (
-      matches_less k storages scope unset (unset_by [] unset) s m (λ x h. still (unset x) h) said,
+      matches_less k storages scope unset (unset_by [] unset) s m (λ x h. still_set (unset x) false h refl) said,
       record { counts = record { counts = λ x j there. refl; to_come = refl; sent = refl }; words = λ n at less. refl },
     ))
-  where
-    still : (u : Bool) → (u && true) ≡ false → u ≡ false
-    still false h = refl
-    still true h = h
 
-both_set : (u a r : Bool) → (u && not (a || r)) ≡ false → ((u && not r) && not a) ≡ false
+pub both_set : (u a r : Bool) → (u && not (a || r)) ≡ false → ((u && not r) && not a) ≡ false
 both_set false a r h = refl
 both_set true true true h = refl
 both_set true true false h = refl

@@ -1,28 +1,23 @@
 -- What a machine matches once a target has taken a word.
-use Rattle.std.proofs.Common.{drop, take, ◌-◌, ◌≡◌, ◌⊎◌, inl, inr, ◌≢◌, ◌+◌, ◌*◌, ◌/◌, ◌%◌, ◌^◌, ◌≤◌, ◌<◌, [], ◌∷◌, ◌++◌, ℕ, zero, suc, List, length, map, Option, Some, None, Bool, false, true, nat_eq, refl, ap, sym, subst, ◌∙◌, arith, w32}
+use Rattle.std.proofs.Common.{drop, take, ◌-◌, ◌≡◌, ◌≢◌, ◌+◌, ◌^◌, ◌≤◌, ◌<◌, [], ◌∷◌, ℕ, zero, suc, List, length, map, None, Bool, false, true, nat_eq, refl, ap, sym, subst, ◌∙◌, arith, w32}
 use Rattle.std.specs.Prelude.{slice_index, slice_index_or, slice_set, slice_get, ◌||◌, ◌&&◌, not, IsTrue, if◌then◌else◌}
 use Rattle.std.specs.Int.{to_le_bytes}
-use Rattle.std.specs.List.{list_any, list_all}
-use Rattle.std.proofs.Math.Bool.{or_assoc, or-false}
+use Rattle.std.specs.List.{list_any}
+use Rattle.std.proofs.Math.Bool.{or-false}
 use Rattle.std.proofs.lemmas.List.{length-map}
 use Rattle.std.proofs.Math.Seq.{take-length}
-use Rattle.std.proofs.lemmas.Bool.{eqb-true, cases_lt}
-use Rattle.std.proofs.lemmas.Bool.Decides.{nat_tests}
-use Rattle.tpw_occam_core.specs.declared.arithmetic.Answer.{Answer}
+use Rattle.std.proofs.lemmas.Bool.{eqb-true}
 use Rattle.tpw_occam_core.specs.declared.worker.Storage.{Storage}
 use Rattle.tpw_occam_core.specs.declared.scope.Entry.{Entry}
-use Rattle.tpw_occam_core.specs.declared.scope.Entry.TheVariants as entry
 use Rattle.tpw_occam_core.specs.declared.kind.Kind.{Kind}
 use Rattle.tpw_occam_core.specs.declared.kind.Kind.TheVariants as kind
 use Rattle.tpw_occam_core.specs.declared.expression.Expression.{Expression}
 use Rattle.tpw_occam_core.specs.declared.process.Target.{Target}
 use Rattle.tpw_occam_core.specs.declared.process.Target.TheVariants as target
 use Rattle.tpw_occam_core.specs.declared.process.Assignment.{Assignment}
-use Rattle.tpw_occam_core.specs.Arithmetic.{answer, plain, subscript}
 use Rattle.tpw_occam_core.specs.Arrays.{size, kept, with_element}
-use Rattle.tpw_occam_core.specs.Meaning.{Store, value_of, array_of, with_value, with_array, kind_of, subscript_of, stored, flagged, assigned}
-use Rattle.tpw_occam_core.specs.Sound.{is_name, is_variable, is_array, is_seen, is_written, is_sound_expression, is_sound_target, is_sound_assignment}
-use Rattle.tpw_occam_code.specs.declared.analysis.First.{First}
+use Rattle.tpw_occam_core.specs.Meaning.{Store, value_of, array_of, with_value, with_array, kind_of, subscript_of, stored, flagged}
+use Rattle.tpw_occam_core.specs.Sound.{is_name, is_array, is_seen, is_sound_target}
 use Rattle.tpw_occam_code.specs.declared.analysis.First.TheVariants.{Nothing, Assigned, Read}
 use Rattle.tpw_occam_code.specs.declared.items.Item.{Item}
 use Rattle.tpw_occam_code.specs.declared.items.Item.TheVariants as item
@@ -31,11 +26,11 @@ use Rattle.tpw_occam_code.specs.Code.{Lines, followed_by, line_of}
 use Rattle.tpw_occam_code.specs.Blocks.{Blocks, with_bytes, with_word, bytes_at}
 use Rattle.tpw_occam_code.specs.Symbolic.{Machine}
 use Rattle.tpw_occam_code.specs.Leading.{Does, HasWord, HasArray}
-use Rattle.tpw_occam_code.specs.Values.{HasNumber, scaled}
-use Rattle.tpw_occam_code.specs.Agreement.{Knowledge, elements_of, fact_at, Knows, Agrees, LeavesItems}
+use Rattle.tpw_occam_code.specs.Values.{scaled}
+use Rattle.tpw_occam_code.specs.Agreement.{Knowledge, fact_at, Knows, Agrees}
 use Rattle.tpw_occam_code.specs.Computing.{IsPlace, MayStand, ComputesTo, reads}
-use Rattle.tpw_occam_code.specs.Executing.{subscript_reads, sources_read, is_target, first_in_assignments, is_nothing, unset_after, IsProcessPlace, MayRun, none_unset, KnowsState, Matches, LeavesCounts, Assigns}
-use Rattle.tpw_occam_code.specs.Assigning.{HasShape, IsInside, taken, taken_value, element_bytes, item_of, place_of, held_bytes, unset_but, Stores, MayTake, StoresIn, HasSmallValue, MayMake, LeavesKept, source_of, after_one, MakesOne}
+use Rattle.tpw_occam_code.specs.Executing.{sources_read, is_target, first_in_assignments, is_nothing, unset_after, IsProcessPlace, MayRun, none_unset, KnowsState, Matches, Assigns}
+use Rattle.tpw_occam_code.specs.Assigning.{HasShape, IsInside, taken, taken_value, element_bytes, item_of, place_of, held_bytes, unset_but, Stores, MayTake, StoresIn, HasSmallValue, MayMake, LeavesKept, MakesOne}
 use Rattle.tpw_occam_code.proofs.Leading.{does_both, does_less}
 use Rattle.tpw_occam_code.proofs.Computing.{agrees_after, bytes_same, word_same}
 use Rattle.tpw_occam_code.proofs.Keeping.{word_written, other_item, does_recall}
@@ -83,7 +78,7 @@ pub word_stored : (i : Item) (w : ℕ) (blocks : Blocks) → bytes_at (with_byte
 unfolding with_word
 word_stored i w blocks = word_written i w blocks
 
-still_set : (u b : Bool) → (u && not b) ≡ false → b ≡ false → u ≡ false
+pub still_set : (u b : Bool) → (u && not b) ≡ false → b ≡ false → u ≡ false
 still_set false b h e = refl
 still_set true true h e = e
 still_set true false h e = h

@@ -1,9 +1,7 @@
 -- Assignments that are made one by one.
-use Rattle.std.proofs.Common.{take, drop, ◌≡◌, ◌≢◌, ◌⊎◌, inl, inr, ◌+◌, ◌^◌, ◌≤◌, ◌<◌, [], ◌∷◌, ◌++◌, ℕ, zero, suc, List, length, map, Option, Some, None, IfSome, Bool, false, true, nat_eq, nat_lt, refl, ap, sym, subst, ◌∙◌, arith}
-use Rattle.std.specs.Prelude.{slice_index, slice_set, slice_index_or, ◌||◌, ◌&&◌, not, IsTrue, if◌then◌else◌}
-use Rattle.std.specs.List.{list_any, list_all}
-use Rattle.std.proofs.Math.Bool.{or_assoc, or_comm, or-false}
-use Rattle.std.proofs.lemmas.Bool.{eqb-true, eq-eqb, le-ltb, lt-ltb, cases_lt}
+use Rattle.std.proofs.Common.{take, drop, ◌≡◌, ◌+◌, ◌<◌, [], ◌∷◌, ◌++◌, ℕ, zero, suc, List, length, Option, Some, None, IfSome, Bool, false, true, nat_eq, nat_lt, refl, ap, sym, subst, ◌∙◌, arith}
+use Rattle.std.specs.Prelude.{slice_index, slice_set, slice_index_or, ◌||◌, if◌then◌else◌}
+use Rattle.std.proofs.lemmas.Bool.{eqb-true, le-ltb, lt-ltb}
 use Rattle.std.proofs.lemmas.Bool.Decides.{nat_tests}
 use Rattle.tpw_occam_core.specs.declared.arithmetic.Answer.{Answer}
 use Rattle.tpw_occam_core.specs.declared.kind.Kind.{Kind}
@@ -14,7 +12,7 @@ use Rattle.tpw_occam_core.specs.declared.expression.Expression.TheVariants.{Cons
 use Rattle.tpw_occam_core.specs.declared.process.Target.{Target}
 use Rattle.tpw_occam_core.specs.declared.process.Target.TheVariants as target
 use Rattle.tpw_occam_core.specs.declared.process.Assignment.{Assignment}
-use Rattle.tpw_occam_core.specs.Arithmetic.{answer, plain, subscript}
+use Rattle.tpw_occam_core.specs.Arithmetic.{subscript}
 use Rattle.tpw_occam_core.specs.Arrays.{size, kept, with_element}
 use Rattle.tpw_occam_core.specs.Meaning.{Store, value_of, followed, array_of, with_value, with_array, kind_of, subscript_of, stored, flagged, assigned}
 use Rattle.tpw_occam_code.specs.declared.order.Waiting.{Waiting}
@@ -22,9 +20,9 @@ use Rattle.tpw_occam_code.specs.declared.order.Move.{Move}
 use Rattle.tpw_occam_code.specs.declared.order.Move.TheVariants.{Keep, Make}
 use Rattle.tpw_occam_code.specs.Computing.{reads}
 use Rattle.tpw_occam_code.specs.Assigning.{reads_array, reads_target, are_near}
-use Rattle.tpw_occam_code.specs.Ordering.{target_reads, Precedes, PrecedesIn, assignment_at, waits, waiting_at, MayGo, IsAlone, IsMove, Picks, picked, before, Marks, marked, behind, AreAll, pending_one, pending}
-use Rattle.tpw_occam_code.proofs.Naming.{slice_same, slice_other, slice_length}
-use Rattle.tpw_occam_code.proofs.Reading.{SameFor, value_same, value_flagged, subscript_flagged, stored_flagged, flagged_both, assigned_flagged}
+use Rattle.tpw_occam_code.specs.Ordering.{target_reads, Precedes, PrecedesIn, assignment_at, waits, waiting_at, MayGo, IsAlone, IsMove, Picks, picked, before, Marks, marked, behind, pending_one, pending}
+use Rattle.tpw_occam_code.proofs.Naming.{slice_other, slice_length}
+use Rattle.tpw_occam_code.proofs.Reading.{value_same, value_flagged, subscript_flagged, stored_flagged, flagged_both}
 use Rattle.tpw_occam_code.proofs.Matching.{sizes_at, with_element-length}
 use Rattle.tpw_occam_code.proofs.KeptParts.{sizes_set}
 

@@ -1,6 +1,6 @@
 -- The value of an expression depends on what it reads alone.
-use Rattle.std.proofs.Common.{◌≡◌, ◌⊎◌, inl, inr, ◌≤◌, ◌<◌, [], ◌∷◌, ℕ, zero, suc, List, length, Bool, false, true, nat_eq, refl, ap, sym, subst, ◌∙◌, arith}
-use Rattle.std.specs.Prelude.{slice_index, slice_set, slice_index_or, ◌||◌, ◌==◌}
+use Rattle.std.proofs.Common.{◌≡◌, ◌⊎◌, inl, inr, ◌≤◌, ◌<◌, [], ◌∷◌, ℕ, zero, suc, List, length, Bool, false, true, nat_eq, refl, ap, sym, ◌∙◌, arith}
+use Rattle.std.specs.Prelude.{slice_index, slice_set, ◌||◌, ◌==◌}
 use Rattle.std.proofs.Math.Bool.{or_assoc, or_comm}
 use Rattle.std.proofs.lemmas.Bool.{eqb-true, eq-eqb, cases_lt}
 use Rattle.tpw_occam_core.specs.declared.arithmetic.Answer.{Answer}

@@ -1,19 +1,18 @@
 -- Assignments of which all values are in registers at once.
-use Rattle.std.proofs.Common.{◌≡◌, ◌+◌, ◌-◌, ◌*◌, ◌^◌, ◌≤◌, ◌<◌, [], ◌∷◌, ℕ, zero, suc, List, length, map, Bool, false, true, refl, ap, sym, subst, ◌∙◌, arith, w32}
-use Rattle.std.specs.Prelude.{slice_index, ◌||◌, ◌&&◌, not, IsTrue}
+use Rattle.std.proofs.Common.{◌≡◌, ◌-◌, ◌*◌, ◌≤◌, ◌<◌, [], ◌∷◌, ℕ, List, length, Bool, false, true, refl, ap, sym, subst, ◌∙◌, arith, w32}
+use Rattle.std.specs.Prelude.{◌||◌, ◌&&◌, not}
 use Rattle.std.specs.Int.{to_le_bytes}
-use Rattle.std.specs.List.{list_any, list_all}
-use Rattle.std.proofs.Math.Bool.{or_assoc, or-false}
+use Rattle.std.specs.List.{list_any}
+use Rattle.std.proofs.Math.Bool.{or-false}
 use Rattle.tpw_occam_core.specs.declared.arithmetic.Answer.{Answer}
 use Rattle.tpw_occam_core.specs.declared.worker.Storage.{Storage}
 use Rattle.tpw_occam_core.specs.declared.scope.Entry.{Entry}
-use Rattle.tpw_occam_core.specs.declared.kind.Kind.{Kind}
 use Rattle.tpw_occam_core.specs.declared.kind.Kind.TheVariants.{Word}
 use Rattle.tpw_occam_core.specs.declared.expression.Expression.{Expression}
 use Rattle.tpw_occam_core.specs.declared.process.Target.{Target}
 use Rattle.tpw_occam_core.specs.declared.process.Target.TheVariants as target
 use Rattle.tpw_occam_core.specs.declared.process.Assignment.{Assignment}
-use Rattle.tpw_occam_core.specs.Arithmetic.{answer, plain, subscript}
+use Rattle.tpw_occam_core.specs.Arithmetic.{plain, subscript}
 use Rattle.tpw_occam_core.specs.Arrays.{size, kept}
 use Rattle.tpw_occam_core.specs.Meaning.{Store, value_of, followed, array_of, kind_of, subscript_of, stored, flagged, assigned}
 use Rattle.tpw_occam_core.specs.Sound.{is_sound_assignment}
@@ -21,12 +20,12 @@ use Rattle.tpw_occam_code.specs.declared.items.Item.TheVariants as item
 use Rattle.tpw_occam_code.specs.Code.{Lines}
 use Rattle.tpw_occam_code.specs.Symbolic.{Machine, number}
 use Rattle.tpw_occam_code.specs.Leading.{Does}
-use Rattle.tpw_occam_code.specs.Values.{HasNumber, Pushes}
-use Rattle.tpw_occam_code.specs.Agreement.{Knowledge, elements_of, Knows, Agrees, LeavesItems}
-use Rattle.tpw_occam_code.specs.Computing.{IsPlace, MayStand, Suffices, Computes, IsFixed, is_simple}
-use Rattle.tpw_occam_code.specs.Executing.{sources_read, is_target, IsProcessPlace, MayRun, KnowsState, Matches, LeavesCounts, Assigns}
-use Rattle.tpw_occam_code.specs.Assigning.{HasShape, IsInside, taken, unset_but, unset_by, Stores, WritesPopped, MayTake, MayMake, MayMakeAll, HasSmallValue}
-use Rattle.tpw_occam_code.specs.Registers.{IsWordTarget, FitAll, KeepsRegisters, Popped, StoresWord, AssignsBelow}
+use Rattle.tpw_occam_code.specs.Values.{HasNumber}
+use Rattle.tpw_occam_code.specs.Agreement.{Knowledge, Knows}
+use Rattle.tpw_occam_code.specs.Computing.{IsPlace, Computes, IsFixed}
+use Rattle.tpw_occam_code.specs.Executing.{sources_read, is_target, Matches, LeavesCounts, Assigns}
+use Rattle.tpw_occam_code.specs.Assigning.{IsInside, taken, unset_but, unset_by, Stores, WritesPopped, MayTake, MayMake, MayMakeAll, HasSmallValue}
+use Rattle.tpw_occam_code.specs.Registers.{IsWordTarget, FitAll, KeepsRegisters, StoresWord, AssignsBelow}
 use Rattle.tpw_occam_code.proofs.Leading.{does_both, does_less, does_nothing}
 use Rattle.tpw_occam_code.proofs.Indexing.{subscript_below}
 use Rattle.tpw_occam_code.proofs.Standing.{and_first, and_second, or_first, or_second}
@@ -34,8 +33,8 @@ use Rattle.tpw_occam_code.proofs.Constructs.{constant_value, seen_array, size_is
 use Rattle.tpw_occam_code.proofs.Storing.{leaves_self, writes_stores}
 use Rattle.tpw_occam_code.proofs.Assigning.{take_element}
 use Rattle.tpw_occam_code.proofs.Reading.{assigned_flagged, stored_flagged}
-use Rattle.tpw_occam_code.proofs.Matching.{does_same, matches_stored, matches_less, stores_leave, knows_unset, knows_shape, make_takes, make_stands, run_reads, run_sets}
-use Rattle.tpw_occam_code.proofs.KeptParts.{matches_left, matches_unflagged, items_leave, knows_flagged, assigned_shape}
+use Rattle.tpw_occam_code.proofs.Matching.{still_set, does_same, matches_stored, matches_less, stores_leave, knows_unset, knows_shape, make_takes, make_stands, run_reads, run_sets}
+use Rattle.tpw_occam_code.proofs.KeptParts.{both_set, matches_left, matches_unflagged, items_leave, knows_flagged, assigned_shape}
 use Rattle.tpw_occam_code.proofs.Settling.{counts_then}
 
 -- ---- a word that is stored
@@ -109,27 +108,16 @@ registers_none k code registers storages scope unset s place may knows =
     does_less k.arrays code code _ _ _ _ (does_nothing k.arrays code) (λ m said. tt)
     (λ m end said is. subst
     (λ z. Matches k storages scope (unset_by [] unset) s z × LeavesCounts scope m z × KeepsRegisters registers m z) (sym is) (
-      matches_less k storages scope unset (unset_by [] unset) s m (λ x h. still (unset x) h) said,
+      matches_less k storages scope unset (unset_by [] unset) s m (λ x h. still_set (unset x) false h refl) said,
       record { counts = λ x j there. refl; to_come = refl; sent = refl },
       record { areg = λ h. refl; breg = λ h. refl; creg = λ h. refl },
     ))
-  where
-    still : (u : Bool) → (u && true) ≡ false → u ≡ false
-    still false h = refl
-    still true h = h
 
 -- a value is pushed
 pub record Pushed (registers word : ℕ) (m end : Machine) : Type 0 where
   pub areg : end.areg ≡ number word
   pub breg : registers ≤ 2 → end.breg ≡ m.areg
   pub creg : registers ≤ 1 → end.creg ≡ m.breg
-
-both_set : (u a r : Bool) → (u && not (a || r)) ≡ false → ((u && not r) && not a) ≡ false
-both_set false a r h = refl
-both_set true true true h = refl
-both_set true true false h = refl
-both_set true false true h = refl
-both_set true false false h = h
 
 pub registers_more : (k : Knowledge) (old pushed made new : Lines) (one : Assignment) (rest : List Assignment) (registers temporaries : ℕ)
     → registers ≤ 3 → FitAll k (one ∷ rest) registers

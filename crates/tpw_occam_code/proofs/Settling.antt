@@ -1,9 +1,9 @@
 -- The code of assignments that are made one by one.
-use Rattle.std.proofs.Common.{◌≡◌, ◌≢◌, ◌⊎◌, inl, inr, ◌+◌, ◌-◌, ◌*◌, ◌/◌, ◌%◌, ◌^◌, ◌≤◌, ◌<◌, [], ◌∷◌, ◌++◌, ℕ, zero, suc, List, length, map, Option, Some, None, Bool, false, true, nat_eq, refl, ap, sym, subst, ◌∙◌, arith, w32, ◌≤ℤ◌}
+use Rattle.std.proofs.Common.{◌≡◌, ◌≢◌, ◌⊎◌, inl, inr, ◌+◌, ◌%◌, ◌^◌, ◌≤◌, ◌<◌, [], ◌∷◌, ℕ, zero, suc, List, length, map, Option, Some, None, Bool, false, true, nat_eq, refl, ap, sym, subst, ◌∙◌, arith, w32, ◌≤ℤ◌}
 use Rattle.std.specs.Prelude.{slice_index, slice_set, slice_index_or, ◌||◌, ◌&&◌, not, IsTrue, if◌then◌else◌, pos}
 use Rattle.std.specs.Int.{to_le_bytes}
 use Rattle.std.specs.List.{list_any, list_all}
-use Rattle.std.proofs.Math.Bool.{or_assoc, or_comm, or-false}
+use Rattle.std.proofs.Math.Bool.{or_assoc}
 use Rattle.std.proofs.lemmas.Bool.{eqb-true, eq-eqb, cases_lt}
 use Rattle.std.proofs.lemmas.Int.{ints, to_z_pos}
 use Rattle.tp_decode.specs.Words.{signed}
@@ -19,11 +19,10 @@ use Rattle.tpw_occam_core.specs.declared.process.Target.TheVariants as target
 use Rattle.tpw_occam_core.specs.declared.process.Assignment.{Assignment}
 use Rattle.tpw_occam_core.specs.Arrays.{kept, written, with_element}
 use Rattle.tpw_occam_core.specs.Meaning.{Store, value_of, array_of, kind_of, subscript_of, stored, flagged, assigned}
-use Rattle.tpw_occam_core.specs.Sound.{is_name, is_array, is_sound_target, is_sound_assignment}
-use Rattle.tpw_occam_code.specs.declared.range.Range.{Range}
+use Rattle.tpw_occam_core.specs.Sound.{is_name, is_sound_target, is_sound_assignment}
 use Rattle.tpw_occam_code.specs.Ranges.{from_to, Contains}
 use Rattle.tpw_occam_code.specs.Values.{scaled}
-use Rattle.tpw_occam_code.specs.Agreement.{Knowledge, any_word, fact_at, fact_of_kind, FitsFact, Knows, Agrees, LeavesItems, Stays}
+use Rattle.tpw_occam_code.specs.Agreement.{Knowledge, fact_at, fact_of_kind, FitsFact, Agrees, LeavesItems, Stays}
 use Rattle.tpw_occam_code.specs.declared.items.Item.{Item}
 use Rattle.tpw_occam_code.specs.declared.items.Item.TheVariants as item
 use Rattle.tpw_occam_code.specs.declared.code.Step.TheVariants.{Store as StoreTo}
@@ -36,17 +35,17 @@ use Rattle.tpw_occam_code.specs.Symbolic.{Machine}
 use Rattle.tpw_occam_code.specs.Leading.{Does, HasWord}
 use Rattle.tpw_occam_code.specs.Computing.{MayStand, ComputesTo, reads}
 use Rattle.tpw_occam_code.specs.Executing.{sources_read, is_target, IsProcessPlace, KnowsState, Matches, LeavesCounts, Assigns}
-use Rattle.tpw_occam_code.specs.Assigning.{element_bytes, HasShape, taken, taken_value, unset_but, unset_by, HasSmallValue, MayMake, MayMakeAll, LeavesKept, source_of, after_one, MakesOne}
-use Rattle.tpw_occam_code.specs.Ordering.{PrecedesIn, assignment_at, waits, waiting_at, Picks, picked, before, Marks, marked, behind, AreAll, Settles, SettleAll, pending_one, pending, HasKept, MakesMoves, MakesMove, KeepsWord, KeepsValue}
+use Rattle.tpw_occam_code.specs.Assigning.{element_bytes, taken, taken_value, unset_but, unset_by, HasSmallValue, MayMake, MayMakeAll, LeavesKept, source_of, after_one, MakesOne}
+use Rattle.tpw_occam_code.specs.Ordering.{assignment_at, waits, waiting_at, Picks, picked, before, Marks, marked, behind, AreAll, SettleAll, pending_one, pending, HasKept, MakesMoves, MakesMove, KeepsWord, KeepsValue}
 use Rattle.tpw_occam_code.proofs.Leading.{does_both, does_less, does_nothing}
 use Rattle.tpw_occam_code.proofs.Computing.{bytes_same}
 use Rattle.tpw_occam_code.proofs.Keeping.{other_item}
 use Rattle.tpw_occam_code.proofs.Standing.{and_first, and_second, or_first, or_second, suffices_two}
 use Rattle.tpw_occam_code.proofs.Ranges.{full_contains}
 use Rattle.tpw_occam_code.proofs.Naming.{slice_same, slice_other, slice_length}
-use Rattle.tpw_occam_code.proofs.Reading.{set_beyond, value_flagged, subscript_flagged, stored_flagged, flagged_both, assigned_flagged}
+use Rattle.tpw_occam_code.proofs.Reading.{set_beyond, value_flagged, subscript_flagged, stored_flagged, assigned_flagged}
 use Rattle.tpw_occam_code.proofs.Storing.{element_written, does_store}
-use Rattle.tpw_occam_code.proofs.Matching.{knows_shape, does_same, matches_less, knows_unset, make_takes, make_stands, word_stored, run_reads, run_sets}
+use Rattle.tpw_occam_code.proofs.Matching.{still_set, knows_shape, does_same, matches_less, knows_unset, make_takes, make_stands, word_stored, run_reads, run_sets}
 use Rattle.tpw_occam_code.proofs.KeptParts.{stored_shape, matches_left, items_leave, knows_flagged}
 use Rattle.tpw_occam_code.proofs.Ordering.{length_stored, picks_assigned, after}
 
@@ -540,13 +539,9 @@ moves_none k code all temporaries waiting words settles small storages scope uns
     (λ m end said is. subst
     (λ z. Matches k storages scope (unset_by (pending all words waiting) unset) (assigned k.kinds (pending all words waiting) s) z × LeavesCounts scope m z) (sym is) (
       subst (λ w. Matches k storages scope (unset_by (pending all words w) unset) (assigned k.kinds (pending all words w) s) m) (sym settles)
-          (matches_less k storages scope unset (unset_by [] unset) s m (λ x h. still (unset x) h) said.0),
+          (matches_less k storages scope unset (unset_by [] unset) s m (λ x h. still_set (unset x) false h refl) said.0),
       record { counts = λ x j there. refl; to_come = refl; sent = refl },
     ))
-  where
-    still : (u : Bool) → (u && true) ≡ false → u ≡ false
-    still false h = refl
-    still true h = h
 
 pending_from : (f : Waiting → Assignment) (waiting : List Waiting) (all : List Assignment) → length waiting ≡ length all
     → ((i : ℕ) → i < length all → f (waiting_at waiting i) ≡ assignment_at all i) → map f waiting ≡ all

@@ -1,8 +1,8 @@
 -- Stores: what they write, and what a machine then agrees with.
-use Rattle.std.proofs.Common.{◌≡◌, ◌⊎◌, inl, inr, ◌+◌, ◌-◌, ◌*◌, ◌/◌, ◌%◌, ◌^◌, ◌≤◌, ◌<◌, [], ◌∷◌, ◌++◌, ℕ, zero, suc, List, length, map, Option, Some, None, Bool, false, true, nat_eq, refl, ap, sym, subst, ◌∙◌, arith, w32}
-use Rattle.std.specs.Prelude.{slice_index, slice_index_or, slice_set, ◌||◌, ◌&&◌, not, nat_le, nat_lt, if◌then◌else◌, IsTrue, ℤ, pos}
+use Rattle.std.proofs.Common.{◌≡◌, ◌⊎◌, inl, inr, ◌+◌, ◌-◌, ◌*◌, ◌%◌, ◌≤◌, ◌<◌, [], ◌∷◌, ℕ, suc, List, length, Some, Bool, false, true, nat_eq, refl, ap, sym, ◌∙◌, arith, w32}
+use Rattle.std.specs.Prelude.{slice_index, slice_set, ◌||◌, ◌&&◌, nat_le, nat_lt, if◌then◌else◌, ℤ, pos}
 use Rattle.std.specs.Int.{to_le_bytes}
-use Rattle.std.proofs.Math.Bool.{or_assoc, or-false}
+use Rattle.std.proofs.Math.Bool.{or_assoc}
 use Rattle.std.proofs.lemmas.Bool.{le-leb, lt-leb, lt-ltb, le-ltb, cases_lt}
 use Rattle.std.proofs.lemmas.Bool.Decides.{nat_tests}
 use Rattle.tp_decode.specs.declared.instr.Instr.TheVariants.{Stnl, Sb}
@@ -14,10 +14,10 @@ use Rattle.tpw_occam_code.specs.declared.items.Item.{Item}
 use Rattle.tpw_occam_code.specs.declared.items.Item.TheVariants as item
 use Rattle.tpw_occam_code.specs.declared.code.Step.TheVariants.{Plain, Store}
 use Rattle.tpw_occam_code.specs.Code.{Lines, followed_by, line_of, place_behind}
-use Rattle.tpw_occam_code.specs.Blocks.{Blocks, is_item, with_bytes, with_word, bytes_at}
+use Rattle.tpw_occam_code.specs.Blocks.{Blocks, is_item, with_bytes, with_word}
 use Rattle.tpw_occam_code.specs.Symbolic.{Machine, effect, performed, at_place, number, address, pop, pop_two, with_blocks}
-use Rattle.tpw_occam_code.specs.Leading.{Does, HasArray, HasWord, word_bytes}
-use Rattle.tpw_occam_code.specs.Values.{HasNumber, PushesAddress, HasAddress, scaled}
+use Rattle.tpw_occam_code.specs.Leading.{Does, HasWord}
+use Rattle.tpw_occam_code.specs.Values.{HasNumber, PushesAddress, scaled}
 use Rattle.tpw_occam_code.specs.Agreement.{LeavesItems}
 use Rattle.tpw_occam_code.specs.Assigning.{element_bytes, Writes, WritesPopped, IsToStore, Stores}
 use Rattle.tpw_occam_code.proofs.Leading.{does_step, does_both, does_less}

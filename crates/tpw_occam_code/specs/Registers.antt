@@ -7,7 +7,6 @@ use Rattle.tpw_occam_core.specs.declared.process.Target.{Target}
 use Rattle.tpw_occam_core.specs.declared.process.Target.TheVariants as target
 use Rattle.tpw_occam_core.specs.declared.process.Assignment.{Assignment}
 use Rattle.tpw_occam_core.specs.Meaning.{Store, kind_of, subscript_of, stored, assigned}
-use Rattle.tpw_occam_core.specs.Sound.{is_sound_target}
 use Rattle.tpw_occam_code.specs.Code.{Lines}
 use Rattle.tpw_occam_code.specs.Symbolic.{Machine}
 use Rattle.tpw_occam_code.specs.Leading.{Does}
@@ -15,7 +14,7 @@ use Rattle.tpw_occam_code.specs.Values.{HasNumber}
 use Rattle.tpw_occam_code.specs.Agreement.{Knowledge}
 use Rattle.tpw_occam_code.specs.Computing.{IsFixed, is_simple}
 use Rattle.tpw_occam_code.specs.Executing.{IsProcessPlace, KnowsState, Matches, LeavesCounts}
-use Rattle.tpw_occam_code.specs.Assigning.{HasShape, IsInside, MayTake, MayMakeAll, unset_but, unset_by}
+use Rattle.tpw_occam_code.specs.Assigning.{HasShape, MayTake, MayMakeAll, unset_but, unset_by}
 
 -- a target that takes any word as it is, in one step: a variable, or a word of an array
 abbrev pub IsWordTarget : Knowledge → Target → Type 0

@@ -1,13 +1,13 @@
 //! Code of assignments.
 
-ghost use Rattle.std.specs.Prelude.{◌≡◌, ◌<◌, ◌≤◌, ◌+◌, ◌*◌, ◌^◌, ℕ, List, length, slice_index, true, false, OnOk, IfOk, IfSome, IsTrue};
+ghost use Rattle.std.specs.Prelude.{◌≡◌, ◌<◌, ◌≤◌, ◌+◌, ◌*◌, ◌^◌, ℕ, List, length, slice_index, true, false, OnOk, IfSome, IsTrue};
 ghost use Rattle.std.specs.Int.{w32, to_le_bytes};
 ghost use Rattle.tpw_occam_core.specs.declared.kind.Kind.TheVariants.{Word};
 ghost use Rattle.tpw_occam_core.specs.declared.process.Target.TheVariants as target;
 ghost use Rattle.tpw_occam_core.specs.Arrays.{size};
 ghost use Rattle.tpw_occam_code.specs.declared.items.Item.TheVariants as item;
 ghost use Rattle.tpw_occam_code.specs.Leading.{Does, HasWord};
-ghost use Rattle.tpw_occam_code.specs.Values.{HasNumber, PushesAlone, scaled};
+ghost use Rattle.tpw_occam_code.specs.Values.{HasNumber, scaled};
 ghost use Rattle.tpw_occam_code.specs.Computing.{ComputesTo, IsFixed, subscript_value};
 ghost use Rattle.tpw_occam_code.specs.Executing.{Assigns};
 ghost use Rattle.tpw_occam_code.specs.Assigning.{element_bytes, IsToStore, Writes, WritesPopped, ComputesOver, ComputesAbove, StoresIn, MakesOne, taken_value, HasSmallValue, AssignsAbove, KeepsParts, KeepsSubscript, StoresParts, StoresKept};

@@ -1,4 +1,3 @@
-use Rattle.std.proofs.Common.{◌≡◌, ◌<◌, ℕ, List}
 use Rattle.std.proofs.lemmas.Result.{on_ok_weaker}
 use Rattle.tpw_occam_code.proofs.Storing.{does_store_word, does_store_byte}
 use Rattle.tpw_occam_code.proofs.assignments.store_at.Goals as goal

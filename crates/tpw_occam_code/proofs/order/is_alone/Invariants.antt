@@ -1,4 +1,4 @@
-use Rattle.std.proofs.Common.{◌≡◌, ◌≢◌, ℕ, ◌<◌}
+use Rattle.std.proofs.Common.{◌≢◌, ℕ, ◌<◌}
 use Rattle.tpw_occam_code.specs.Ordering.{waiting_at}
 use Rattle.tpw_occam_code.proofs.order.is_alone.Given as goal
 

@@ -1,4 +1,4 @@
-use Rattle.std.proofs.Common.{◌≡◌, ◌≢◌, ℕ, ◌<◌, nat_lt}
+use Rattle.std.proofs.Common.{◌≢◌, ℕ, ◌<◌, nat_lt}
 use Rattle.tpw_occam_code.specs.Ordering.{PrecedesIn, waiting_at}
 use Rattle.tpw_occam_code.proofs.order.may_go.Given as goal
 

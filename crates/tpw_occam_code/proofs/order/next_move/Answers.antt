@@ -1,4 +1,4 @@
-use Rattle.std.proofs.Common.{subst, ◌≡◌}
+use Rattle.std.proofs.Common.{subst}
 use Rattle.tpw_occam_code.specs.Ordering.{MayGo}
 use Rattle.tpw_occam_code.proofs.Ordering.{make_is, keep_is, some_weaker}
 use Rattle.tpw_occam_code.proofs.order.next_move.Goals as goal

@@ -1,8 +1,7 @@
-use Rattle.std.proofs.Common.{◌≡◌, ◌≤◌, ◌<◌, ◌+◌, [], ◌∷◌, ℕ, List, sym, subst, ap, ◌∙◌, arith}
+use Rattle.std.proofs.Common.{◌≡◌, ◌+◌, sym, subst, ap, ◌∙◌, arith}
 use Rattle.std.proofs.lemmas.Result.{on_ok_weaker}
 use Rattle.tpw_occam_code.specs.declared.emitter.Room.{Room}
-use Rattle.tpw_occam_code.specs.Agreement.{Knowledge}
-use Rattle.tpw_occam_code.specs.Assigning.{AssignsAbove, StoresParts, KeepsParts}
+use Rattle.tpw_occam_code.specs.Assigning.{AssignsAbove, StoresParts}
 use Rattle.tpw_occam_code.proofs.Matching.{none_of, more_of, rest_of}
 use Rattle.tpw_occam_code.proofs.KeptParts.{words_none, words_more}
 use Rattle.tpw_occam_code.proofs.emitter.Emitter.+assign_by_words.Goals as goal

@@ -1,4 +1,4 @@
-use Rattle.std.proofs.Common.{◌≡◌, ◌≤◌, ◌<◌, [], ◌∷◌, ℕ, List, false, ap, sym, subst, ◌∙◌}
+use Rattle.std.proofs.Common.{false, ap, sym, subst}
 use Rattle.std.proofs.lemmas.Result.{on_ok_weaker}
 use Rattle.tpw_occam_code.specs.declared.emitter.Room.{Room}
 use Rattle.tpw_occam_code.specs.Executing.{Assigns}

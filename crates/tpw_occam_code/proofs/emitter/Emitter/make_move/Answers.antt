@@ -1,7 +1,6 @@
-use Rattle.std.proofs.Common.{◌≡◌, ◌<◌, false, ap, sym, subst, ◌∙◌, arith}
+use Rattle.std.proofs.Common.{◌≡◌, false, subst, ◌∙◌, arith}
 use Rattle.std.proofs.lemmas.Result.{on_ok_weaker}
 use Rattle.tpw_occam_code.specs.Assigning.{MakesOne, HasSmallValue}
-use Rattle.tpw_occam_code.specs.Ordering.{MakesMove, assignment_at}
 use Rattle.tpw_occam_code.proofs.Standing.{on_ok_both}
 use Rattle.tpw_occam_code.proofs.Ordering.{get_same}
 use Rattle.tpw_occam_code.proofs.Settling.{move_makes, move_keeps}

@@ -1,7 +1,6 @@
-use Rattle.std.proofs.Common.{◌≡◌, ◌≤◌, ◌<◌, ◌^◌, ℕ, List, sym, subst}
+use Rattle.std.proofs.Common.{sym, subst}
 use Rattle.std.proofs.lemmas.Result.{on_ok_weaker}
 use Rattle.tpw_occam_core.specs.declared.process.Target.TheVariants as target
-use Rattle.tpw_occam_core.specs.declared.kind.Kind.TheVariants as kind
 use Rattle.tpw_occam_code.specs.Computing.{IsFixed, IsOffset}
 use Rattle.tpw_occam_code.specs.Assigning.{StoresIn}
 use Rattle.tpw_occam_code.proofs.Assigning.{variable_stores, fixed_stores, offset_stores}

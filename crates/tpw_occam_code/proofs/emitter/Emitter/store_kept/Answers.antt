@@ -1,4 +1,4 @@
-use Rattle.std.proofs.Common.{◌≡◌, ◌≤◌, ◌<◌, ◌^◌, ◌∷◌, [], ℕ, List, subst}
+use Rattle.std.proofs.Common.{◌≡◌, ◌∷◌, [], subst}
 use Rattle.std.proofs.lemmas.Result.{on_ok_weaker}
 use Rattle.tpw_occam_code.specs.Code.{followed_by, line_of}
 use Rattle.tpw_occam_code.specs.declared.code.Step.TheVariants.{Load}

@@ -1,9 +1,9 @@
-use Rattle.std.proofs.Common.{◌≡◌, ◌≤◌, ◌%◌, ℕ, ap, sym, subst, ◌∙◌, refl}
+use Rattle.std.proofs.Common.{ap, sym, ◌∙◌}
 use Rattle.std.proofs.lemmas.Result.{on_ok_weaker}
 use Rattle.tpw_occam_core.specs.Arrays.{kept}
 use Rattle.tpw_occam_core.specs.Meaning.{kind_of}
 use Rattle.tpw_occam_code.specs.Agreement.{Knowledge}
-use Rattle.tpw_occam_code.specs.Assigning.{taken, HasSmallValue}
+use Rattle.tpw_occam_code.specs.Assigning.{taken}
 use Rattle.tpw_occam_code.proofs.Assigning.{whole_computes, byte_computes}
 use Rattle.tpw_occam_code.proofs.emitter.Emitter.value.Goals as goal
 
