@@ -113,12 +113,7 @@ impl Emitter<'_> {
     }
 
     /// Sends a trace.
-    pub(crate) fn trace(
-        &mut self,
-        code: &mut Code,
-        m: &Message,
-        line: u32,
-    ) -> Result<(), CodeFault>
+    pub(crate) fn trace(&mut self, code: &mut Code, m: &Message, line: u32) -> Result<(), CodeFault>
         ensures knowledge { OnOk result (self.new ≡ self.old) }
         ensures traces { OnOk result (Traces self.old code.old code.new m.now) }
     {
