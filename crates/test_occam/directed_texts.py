@@ -59,6 +59,24 @@ def truth():
         worker(f'{operator} of three', [f'r := INT ((p[0] = 1) {operator} (p[1] = 1) {operator} ((p[0] * p[1]) = 7))'], pairs())
 
 
+def tree(depth, at=0):
+    """An operator of operators, so many deep, of the variables x0 to x7."""
+    if depth == 0:
+        return f'x{(at * at + at // 3) % 8}'
+    return f'({tree(depth - 1, 2 * at)} {("MINUS", "><", "TIMES")[(depth + at) % 3]} {tree(depth - 1, 2 * at + 1)})'
+
+
+def registers():
+    """Operands for which there are registers, and for which there are none."""
+    fill = [f'x{i} := p[{i % 2}] TIMES {2 * i + 3}' for i in range(8)]
+    for depth in (2, 3, 4, 5):
+        worker(f'operators {depth} deep', fill + [f'r := {tree(depth)}'], pairs()[::7], declared=['INT x0, x1, x2, x3, x4, x5, x6, x7:'])
+    worker('a right operand of three registers', ['r := p[0] MINUS ((p[0] MINUS p[1]) MINUS (p[1] TIMES (p[0] MINUS p[1])))'], pairs())
+    for word in ENDS:
+        worker(f'not above {word}', [f'r := INT (NOT (p[0] > #{word:X}))'], [packet(a, 0) for a in ENDS])
+        worker(f'not below {word}', [f'r := INT (NOT (#{word:X} > p[0]))'], [packet(a, 0) for a in ENDS])
+
+
 def subscripts():
     for size in (1, 2, 3, 4, 5, 7, 8, 16, 20):
         fill = [f'SEQ i = 0 FOR {size}', '  a[i] := 10 + i']
@@ -73,6 +91,10 @@ def subscripts():
     worker('a remainder as a subscript', ['SEQ i = 0 FOR 7', '  a[i] := i', 'r := a[p[0] \\ 7]'], [packet(a, 0) for a in ENDS], declared=['[7]INT a:'])
     worker('an index below the first', ['SEQ i = 0 FOR 3', '  a[i] := 10 + i', 'SEQ i = -1 FOR 3', '  r := (r TIMES 7) PLUS a[i]'], pairs()[:1],
            declared=['[3]INT a:'])
+    worker('an index and a constant beyond the last', ['SEQ i = 0 FOR 4', '  a[i] := 10 + i', 'SEQ i = 0 FOR 4', '  r := (r TIMES 7) PLUS a[i + 2]'],
+           pairs()[:1], declared=['[4]INT a:'])
+    worker('a conjunction with what may be negative', ['SEQ i = 0 FOR 4', '  a[i] := 10 + i', 'SEQ i = -3 FOR 7',
+           '  r := (r TIMES 7) PLUS a[(p[0] /\\ 7) /\\ i]'], [packet(a, 0) for a in ENDS], declared=['[4]INT a:'])
     worker('words of bytes', ['SEQ i = 0 FOR 8', '  m[i] := BYTE i', 'w[p[0] /\\ 1] := p[1]', 'r := (w[0] >< w[1]) PLUS (INT m[3])'],
            pairs(), declared=['[8]BYTE m:', '[2]INT w RETYPES m:'])
 
@@ -119,7 +141,7 @@ def choices():
 
 
 def main():
-    for part in (operators, conversions, truth, subscripts, assignments, parameters, choices):
+    for part in (operators, conversions, truth, registers, subscripts, assignments, parameters, choices):
         part()
 
 

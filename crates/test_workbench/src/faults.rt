@@ -3,7 +3,7 @@
 use crate::program::{check, write_file};
 
 /// Texts, and what is said of them.
-const FAULTS: [(&str, &str); 19] = [
+const FAULTS: [(&str, &str); 20] = [
     (
         "local n\n lld n\n",
         "tpw: standard input:2:2: unknown instruction: lld; ldl is near\n    2 |  lld n\n      |  ^^^\n",
@@ -60,7 +60,7 @@ const FAULTS: [(&str, &str); 19] = [
 tpw: standard input:1:7: a name is wanted here: no mark, and not as a number begins: 3
     1 | local 3, n
       |       ^
-tpw: standard input:3:15: a number is wanted: decimal, #2A or 0x2A, of 32 bits: m
+tpw: standard input:3:15: a number is wanted: decimal, #2A or 0x2A, of 32 bits: m; expected a constant: turns are known before the loop runs
     3 | for i = 0 for m
       |               ^
 tpw: standard input:7:1: unknown instruction: frob
@@ -77,7 +77,7 @@ tpw: standard input:6:3: no label has this name: far
     ),
     (
         "local n\nfor i = 0 for n\nend i\nstopp\n",
-        "tpw: standard input:2:15: a number is wanted: decimal, #2A or 0x2A, of 32 bits: n\n    2 | for i = 0 for n\n      |               ^\n",
+        "tpw: standard input:2:15: a number is wanted: decimal, #2A or 0x2A, of 32 bits: n; expected a constant: turns are known before the loop runs\n    2 | for i = 0 for n\n      |               ^\n",
     ),
     (
         "local n\nfor n = 0 for 2\nend n\nstopp\n",
@@ -86,6 +86,10 @@ tpw: standard input:6:3: no label has this name: far
     (
         "ldc 'a'\n",
         "tpw: standard input:1:5: no local has this name: 'a'; there are no characters: write the number, as 97 for an a\n    1 | ldc 'a'\n      |     ^^^\n",
+    ),
+    (
+        "YES 1 2\n",
+        "tpw: standard input:1:1: unknown instruction: YES; a listing of tpw, which is not read back: give the worker's text or image\n    1 | YES 1 2\n      | ^^^\n",
     ),
     (
         "abc IMAGE 5450\n",

@@ -63,7 +63,13 @@ pub fn write_image<W: Write>(
     image: &[u8],
     writer: &mut W,
     name: Option<&str>,
-) -> Result<Outcome, Failure> {
+) -> Result<Outcome, Failure>
+    ensures line { OnOk result (Appends (W.contents writer.old) (W.contents writer.new)
+        (image_line (option_map (λ n. n.now) name.entry) image.now)) }
+    ensures good { IfOk result (λ outcome. outcome ≡ Good) }
+    ensures refused { IfErr result (λ e. (e ≡ failure.Write)
+        ⊎ ((W.contents writer.new ≡ W.contents writer.old) × (e ≡ failure.Memory))) }
+{
     let line = image_line(alloc, image, name)?;
     write_line(writer, line.as_str())
 }

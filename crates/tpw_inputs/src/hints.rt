@@ -175,6 +175,9 @@ fn of_unknown(text: &str, line: &str, fault: SourceFault) -> Option<&'static str
     if fault.line == 1 && text.starts_with('\u{FEFF}') {
         return Some("the text begins with a byte order mark, U+FEFF: save it without one");
     }
+    if fault.line == 1 && (line.starts_with("YES ") || line.starts_with("NO ")) {
+        return Some("a listing of tpw, which is not read back: give the worker's text or image");
+    }
     if line.contains(" IMAGE ") {
         return Some("a line for farmd: asm without --line writes the image that tpw reads");
     }
@@ -229,6 +232,15 @@ fn of_range(line: &str) -> Option<&'static str> {
     }
 }
 
+/// What is expected where a number is wanted.
+fn of_number(line: &str) -> Option<&'static str> {
+    if word_at(statement_in(line), 1).eq_ignore_ascii_case("for") {
+        Some("a constant: turns are known before the loop runs")
+    } else {
+        None
+    }
+}
+
 /// What is expected, and what helps, at a word of a line that has a fault.
 fn help_of(
     text: &str,
@@ -239,9 +251,8 @@ fn help_of(
     match fault.fault {
         TextFault::Unknown => (None, of_unknown(text, line, fault)),
         TextFault::Missing | TextFault::Unexpected | TextFault::Extra => (form_in(line), None),
-        TextFault::NoNumber | TextFault::NoLocal | TextFault::NoLabel | TextFault::NoLoop => {
-            (None, of_name(word))
-        }
+        TextFault::NoNumber => (of_number(line), of_name(word)),
+        TextFault::NoLocal | TextFault::NoLabel | TextFault::NoLoop => (None, of_name(word)),
         TextFault::Settled => (None, of_settled(line)),
         TextFault::OutOfRange => (of_range(line), None),
         _ => (None, None),
