@@ -23,12 +23,12 @@ use Rattle.tpw_occam_code.specs.Leading.{Does, IsBefore, Arrives, HasLines}
 use Rattle.tpw_occam_code.specs.Agreement.{Knowledge, constant_in}
 use Rattle.tpw_occam_code.specs.Computing.{MayStand, reads, Decided, Decides}
 use Rattle.tpw_occam_code.specs.Executing.{MayRun, Matches, LeavesCounts, Executes, Chooses, chosen_lines, is_skip, first_use, then_first, either_first, is_nothing, unset_after}
-use Rattle.tpw_occam_code.proofs.Leading.{does_less, step_is, leads_then, has_first}
+use Rattle.tpw_occam_code.proofs.Leading.{does_less, step_is, leads_then, has_first, does_kept}
 use Rattle.tpw_occam_code.proofs.Constructs.{constant_value}
 use Rattle.tpw_occam_code.proofs.Conditions.{does_branch, has_behind, jump_stands, cj_jumps, cj_passes, suc_not_zero}
 use Rattle.tpw_occam_code.proofs.Standing.{Place, and_first, and_second}
 use Rattle.tpw_occam_code.proofs.Knowing.{knows_fewer, knows_flagged, matches_fewer, counts_of_items}
-use Rattle.tpw_occam_code.proofs.Executing.{does_kept, matches_leaves, false_true, and_true, not_read}
+use Rattle.tpw_occam_code.proofs.Executing.{matches_leaves, false_true, and_true, not_read}
 
 -- ---- IF
 

@@ -30,6 +30,7 @@ use Rattle.tpw_occam_code.proofs.Keeping.{other_item}
 use Rattle.tpw_occam_code.proofs.Moving.{written, length_bytes_at, index_bytes_at, constants_stay}
 use Rattle.tpw_occam_code.proofs.Computing.{bytes_same}
 use Rattle.tpw_occam_code.proofs.Standing.{and_first, and_second}
+use Rattle.tpw_occam_code.proofs.Knowing.{matches_fewer}
 
 -- ---- sizes
 
@@ -226,21 +227,6 @@ copies k old new to from words whole move storages scope unset s place may knows
       taken_leaves scope to _ m end taken,
     ))
 
--- fewer names are not assigned yet
-pub matches_set : (k : Knowledge) (storages : List Storage) (scope : List Entry) (before after : ℕ → Bool) (s : Store) (m : Machine)
-    → ((x : ℕ) → after x ≡ false → before x ≡ false) → Matches k storages scope before s m → Matches k storages scope after s m
-matches_set k storages scope before after s m set matches = record {
-  agrees = record {
-    words = λ x in_scope assigned none. matches.agrees.words x in_scope (set x assigned) none;
-    arrays = matches.agrees.arrays;
-    constants = matches.agrees.constants;
-  };
-  flag = matches.flag;
-  traced = matches.traced;
-  zeros = matches.zeros;
-  room = matches.room;
-}
-
 same_array : (s : Store) (a : ℕ) → with_array a (array_of s a) s ≡ s
 same_array s a = ap (λ arrays. record s { arrays = arrays }) (set-get_or s.arrays a [])
 
@@ -248,7 +234,7 @@ pub copies_nothing : (k : Knowledge) (code : Lines) (a : ℕ) → Executes k cod
 copies_nothing k code a storages scope unset s place may knows =
     does_less k.arrays code code _ _ _ _ (does_nothing k.arrays code) (λ m matches. tt)
     (λ m end matches is. (
-      rw (same_array s a) (rw is (matches_set k storages scope unset _ s m (λ x e. sym (and-true (unset x)) ∙ e) matches)),
+      rw (same_array s a) (rw is (matches_fewer k storages scope unset _ s m (λ x e. sym (and-true (unset x)) ∙ e) matches)),
       record {
         counts = λ x i there. ap (λ (e : Machine). e.blocks (Variable x) (4 + i)) is;
         to_come = ap (λ (e : Machine). e.to_come) is;

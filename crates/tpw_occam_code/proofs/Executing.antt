@@ -24,7 +24,7 @@ use Rattle.tpw_occam_code.specs.Leading.{Does, Makes, HasConstants}
 use Rattle.tpw_occam_code.specs.Agreement.{Knowledge, with_fact, fact_of_kind, LeavesItems}
 use Rattle.tpw_occam_code.specs.Computing.{MayStand, reads, Binds, ComputesBinding}
 use Rattle.tpw_occam_code.specs.Executing.{Remains, cleared, MayRun, none_unset, KnowsState, Matches, Executes, Clears, Starts, with_item_word, first_use, then_first, is_nothing, unset_after}
-use Rattle.tpw_occam_code.proofs.Leading.{does_both, does_less, does_step, does_nothing}
+use Rattle.tpw_occam_code.proofs.Leading.{does_both, does_less, does_step, does_nothing, does_kept}
 use Rattle.tpw_occam_code.proofs.Computing.{agrees_after}
 use Rattle.tpw_occam_code.proofs.Keeping.{word_written, word_elsewhere}
 use Rattle.tpw_occam_code.proofs.Naming.{new_name, variable_differs}
@@ -35,25 +35,6 @@ pub false_true : ◌≡◌ {A = Bool} false true → ⊥
 false_true e = cc
 
 -- ---- code that stays
-
-pub does_kept : (w : List ℕ) (old new : Lines) (Before : Machine → Type 0) (After : Machine → Machine → Type 0)
-    → Does w old new Before After → Does w old new Before (λ m end. After m end × (end.code ≡ m.code) × (end.sizes ≡ m.sizes))
-does_kept w old new Before After one = record {
-  base = one.base;
-  more = one.more;
-  lines = one.lines;
-  arrives = λ m at said.
-      let a = one.arrives m at said in
-      record {
-        end = a.end;
-        way = a.way;
-        place = a.place;
-        running = a.running;
-        same_code = a.same_code;
-        same_sizes = a.same_sizes;
-        after = (a.after, a.same_code, a.same_sizes);
-      };
-}
 
 -- code that is lengthened twice, where it counts that code and sizes stay
 pub does_in_turn : (w : List ℕ) (old between new : Lines)

@@ -29,7 +29,7 @@ use Rattle.tpw_occam_code.specs.Agreement.{Knowledge, elements_of, Agrees, Leave
 use Rattle.tpw_occam_code.specs.Computing.{Computes, ComputesTo, IsKnown, subscript_value}
 use Rattle.tpw_occam_code.specs.Executing.{sources_read, is_target, KnowsState, Matches, Assigns}
 use Rattle.tpw_occam_code.specs.Assigning.{HasShape, taken, taken_value, element_bytes, unset_but, unset_by, Stores, Writes, WritesPopped, IsToStore, HasSmallValue, MayMake, MayMakeAll, LeavesKept, Saved, KeepsSubscript, HasSubscript, HasParts, KeepsParts, StoresKept, StoresParts, AssignsAbove}
-use Rattle.tpw_occam_code.proofs.Leading.{does_both, does_less, does_nothing}
+use Rattle.tpw_occam_code.proofs.Leading.{does_both, does_less, does_nothing, does_kept}
 use Rattle.tpw_occam_code.proofs.Elements.{whole_words}
 use Rattle.tpw_occam_code.proofs.Computing.{agrees_after, bytes_same, leaves_then}
 use Rattle.tpw_occam_code.proofs.Keeping.{does_recall}
@@ -41,7 +41,8 @@ use Rattle.tpw_occam_code.proofs.Constructs.{seen_array, seen_size, size_is, ele
 use Rattle.tpw_occam_code.proofs.TwoOperands.{does_keep, leaves_less}
 use Rattle.tpw_occam_code.proofs.Storing.{writes_stores}
 use Rattle.tpw_occam_code.proofs.Reading.{assigned_flagged, stored_flagged}
-use Rattle.tpw_occam_code.proofs.Matching.{still_set, does_same, agrees_same, with_element-length, size_known, knows_shape, target_seen, subscript_inside, matches_stored, matches_less, stores_leave, knows_unset, make_takes, make_stands, taken_small, run_reads, run_sets}
+use Rattle.tpw_occam_code.proofs.Matching.{still_set, agrees_same, with_element-length, size_known, knows_shape, target_seen, subscript_inside, matches_stored, stores_leave, knows_unset, make_takes, make_stands, taken_small, run_reads, run_sets}
+use Rattle.tpw_occam_code.proofs.Knowing.{matches_fewer}
 
 -- ---- what is kept
 
@@ -102,7 +103,7 @@ variable_parts k old between new source x value temporaries computes save storag
     let a : Assignment = record { target = target.Variable x; value = value } in
     let v = value_of value s in
     does_less k.arrays old new _ _ _ _
-    (does_same k.arrays old new _ _
+    (does_kept k.arrays old new _ _
     (value_saved k scope unset s old between new source temporaries (taken_value k.kinds a s)
     (computes storages scope unset s place.place (make_stands k storages scope unset a makes) (suffices_two k 3 value (omega arith) (omega arith)) known) save))
     (λ m said. said.agrees)
@@ -142,7 +143,7 @@ element_parts k old between saved_code new source b view e value temporaries com
         place = two.held;
       },
     )) in
-    does_less k.arrays old new _ _ _ _ (does_same k.arrays old new _ _ kept)
+    does_less k.arrays old new _ _ _ _ (does_kept k.arrays old new _ _ kept)
     (λ m said. said.agrees)
     (λ m end said after. (
       matches_left k storages scope unset s temporaries (v.flag || i.flag) m end said after.0.0 after.0.1 after.1 after.2,
@@ -237,7 +238,7 @@ variable_stored k old between new source x temporaries load stores storages scop
     let t : Target = target.Variable x in
     let w = taken k.kinds t word in
     does_less k.arrays old new _ _ _ _
-    (does_same k.arrays old new _ _
+    (does_kept k.arrays old new _ _
     (does_both k.arrays old between new _ _ _ _ (Stores scope temporaries (item.Variable x) 0 (to_le_bytes w32 w) false)
     (does_recall k.arrays old between source (item.Temporary temporaries) w (taken_small k.kinds t word short) load) (stores k.arrays w)
     (λ m middle has alone. alone.pushed.areg)
@@ -263,7 +264,7 @@ element_stored k old between new source a view e temporaries load stores storage
     let long = size_known k s a shape in
     let within : i < size view bytes = subst (λ n. i < n) (size_is view bytes _ long) inside in
     does_less k.arrays old new _ _ _ _
-    (does_same k.arrays old new _ _
+    (does_kept k.arrays old new _ _
     (does_both k.arrays old between new (λ m. HasConstants m × HasParts k.kinds t temporaries word i m) _ _ _
     (Stores scope temporaries (item.Array a) (scaled view i) (element_bytes view word) false)
     (does_less k.arrays old between _ _ (λ m. HasConstants m × HasParts k.kinds t temporaries word i m) _
@@ -346,7 +347,7 @@ pub words_none : (k : Knowledge) (code : Lines) (temporaries : ℕ) → AssignsA
 words_none k code temporaries storages scope unset s place may knows =
     does_less k.arrays code code _ _ _ _ (does_nothing k.arrays code) (λ m said. tt)
     (λ m end said is. subst (λ z. Matches k storages scope (unset_by [] unset) s z × LeavesKept scope temporaries m z) (sym is) (
-      matches_less k storages scope unset (unset_by [] unset) s m (λ x h. still_set (unset x) false h refl) said,
+      matches_fewer k storages scope unset (unset_by [] unset) s m (λ x h. still_set (unset x) false h refl) said,
       record { counts = record { counts = λ x j there. refl; to_come = refl; sent = refl }; words = λ n at less. refl },
     ))
 
@@ -394,7 +395,7 @@ words_more k old kept_code made new one rest temporaries keeps small assigns sto
     (λ m middle said after. (after.0, after.2))
     (λ m middle end said after two. (
       subst (λ z. Matches k storages scope (unset_by (one ∷ rest) unset) z end) state
-          (matches_less k storages scope (unset_but one.target (unset_by rest unset)) (unset_by (one ∷ rest) unset) _ end
+          (matches_fewer k storages scope (unset_but one.target (unset_by rest unset)) (unset_by (one ∷ rest) unset) _ end
           (λ x h. both_set (unset x) (is_target x one.target) (list_any (λ a. is_target x a.target) rest) h) two.0),
       kept_then scope temporaries m middle end after.1 two.1,
     ))
@@ -406,6 +407,6 @@ words_assign k old new all assigns storages scope unset s place may knows =
     (assigns storages scope unset s place (record { sound = may.sound; assigned = λ x h. run_reads storages scope unset _ all x may h }) knows)
     (λ m said. said)
     (λ m end said after. (
-      matches_less k storages scope (unset_by all unset) _ _ end (λ x h. run_sets scope unset _ all x may h) after.0,
+      matches_fewer k storages scope (unset_by all unset) _ _ end (λ x h. run_sets scope unset _ all x may h) after.0,
       after.1.counts,
     ))

@@ -118,6 +118,12 @@ does_within w old new Before After Before2 After2 one before after = record {
       };
 }
 
+-- .. and what no step changes is said of both
+pub does_kept : (w : List ℕ) (old new : Lines) (Before : Machine → Type 0) (After : Machine → Machine → Type 0)
+    → Does w old new Before After → Does w old new Before (λ m end. After m end × (end.code ≡ m.code) × (end.sizes ≡ m.sizes))
+does_kept w old new Before After one =
+    does_within w old new Before After Before _ one (λ m said. said) (λ m end code sizes said after. (after, code, sizes))
+
 -- said less
 pub does_less : (w : List ℕ) (old new : Lines)
     (Before : Machine → Type 0) (After : Machine → Machine → Type 0)

@@ -33,13 +33,13 @@ use Rattle.tpw_occam_code.specs.Symbolic.{Machine, address, distance, Leads, now
 use Rattle.tpw_occam_code.specs.Leading.{Does, IsBefore, Arrives, HasLines, HasWord}
 use Rattle.tpw_occam_code.specs.Agreement.{Knowledge, with_fact, fact_at, counted_fact, constant_fact, FitsFact, LeavesItems}
 use Rattle.tpw_occam_code.specs.Executing.{Follows, Remains, IsProcessPlace, MayRun, KnowsState, Matches, LeavesCounts, Executes, Repeats, Begins, loop_end, first_use, is_nothing, unset_after}
-use Rattle.tpw_occam_code.proofs.Leading.{does_less, does_nothing, step_is, leads_then, has_first}
+use Rattle.tpw_occam_code.proofs.Leading.{does_less, does_nothing, step_is, leads_then, has_first, does_kept}
 use Rattle.tpw_occam_code.proofs.Keeping.{is_item-self, other_item, word_written}
 use Rattle.tpw_occam_code.proofs.Naming.{variable_differs, slice_same, constant_fits, new_name}
 use Rattle.tpw_occam_code.proofs.Conditions.{get_behind, suc_not_zero}
 use Rattle.tpw_occam_code.proofs.Standing.{Place, and_first, and_second}
 use Rattle.tpw_occam_code.proofs.Knowing.{in_longer, variable_named, same_any, declared_last, value_declares, Takes, value_takes, place_taken, knows_taken, knows_outside, fact_new, matches_taken, matches_outside, matches_fewer, counts_then, counts_outside, counts_of_items}
-use Rattle.tpw_occam_code.proofs.Executing.{does_kept, matches_leaves, false_true, and_true}
+use Rattle.tpw_occam_code.proofs.Executing.{matches_leaves, false_true, and_true}
 
 -- ---- numbers
 

@@ -31,7 +31,7 @@ use Rattle.tpw_occam_code.specs.Agreement.{Knowledge, fact_at, Knows, Agrees}
 use Rattle.tpw_occam_code.specs.Computing.{IsPlace, MayStand, ComputesTo, reads}
 use Rattle.tpw_occam_code.specs.Executing.{sources_read, is_target, first_in_assignments, is_nothing, unset_after, IsProcessPlace, MayRun, none_unset, KnowsState, Matches, Assigns}
 use Rattle.tpw_occam_code.specs.Assigning.{HasShape, IsInside, taken, taken_value, element_bytes, item_of, place_of, held_bytes, unset_but, Stores, MayTake, StoresIn, HasSmallValue, MayMake, LeavesKept, MakesOne}
-use Rattle.tpw_occam_code.proofs.Leading.{does_both, does_less}
+use Rattle.tpw_occam_code.proofs.Leading.{does_both, does_less, does_kept}
 use Rattle.tpw_occam_code.proofs.Computing.{agrees_after, bytes_same, word_same}
 use Rattle.tpw_occam_code.proofs.Keeping.{word_written, other_item, does_recall}
 use Rattle.tpw_occam_code.proofs.Indexing.{subscript_word_below}
@@ -39,30 +39,12 @@ use Rattle.tpw_occam_code.proofs.Naming.{slice_same, slice_other}
 use Rattle.tpw_occam_code.proofs.Standing.{and_first, and_second, or_first, or_second, suffices_two}
 use Rattle.tpw_occam_code.proofs.Constructs.{seen_array, seen_size, size_is}
 use Rattle.tpw_occam_code.proofs.Storing.{leaves_stores, behind_written, array_written, element_written, written_length}
+use Rattle.tpw_occam_code.proofs.Knowing.{matches_fewer}
 
 false_true : ◌≡◌ {A = Bool} false true → ⊥
 false_true e = cc
 
 -- ---- what no step changes
-
-pub does_same : (w : List ℕ) (old new : Lines) (Before : Machine → Type 0) (After : Machine → Machine → Type 0) → Does w old new Before After
-    → Does w old new Before (λ m end. After m end × (end.code ≡ m.code) × (end.sizes ≡ m.sizes))
-does_same w old new Before After does = record {
-  base = does.base;
-  more = does.more;
-  lines = does.lines;
-  arrives = λ m at said.
-      let a = does.arrives m at said in
-      record {
-        end = a.end;
-        way = a.way;
-        place = a.place;
-        running = a.running;
-        same_code = a.same_code;
-        same_sizes = a.same_sizes;
-        after = (a.after, a.same_code, a.same_sizes);
-      };
-}
 
 -- ---- agreement
 
@@ -290,7 +272,7 @@ one_evaluated k old between new a number is_kept temporaries none computes small
     let v = value_of a.value s in
     let i = subscript_of a.target s in
     does_less k.arrays old new _ _ _ _
-    (does_same k.arrays old new _ _
+    (does_kept k.arrays old new _ _
     (does_both k.arrays old between new _ _ _ _
     (Stores scope temporaries (item_of a.target) (place_of a.target i.word) (held_bytes a.target (taken k.kinds a.target v.word)) (v.flag || i.flag))
     (computes storages scope unset s place.place stands (suffices_two k 3 a.value (omega arith) (omega arith)) known)
@@ -316,7 +298,7 @@ one_kept k old between new source a number is_kept temporaries kept is stores = 
     let w = taken k.kinds a.target word in
     let i = subscript_of a.target s in
     does_less k.arrays old new _ _ _ _
-    (does_same k.arrays old new _ _
+    (does_kept k.arrays old new _ _
     (does_both k.arrays old between new (λ m. Agrees k scope unset s m × HasWord (item.Temporary number) w m) _ _ _
     (Stores scope temporaries (item_of a.target) (place_of a.target i.word) (held_bytes a.target w) i.flag)
     (does_less k.arrays old between _ _ (λ m. Agrees k scope unset s m × HasWord (item.Temporary number) w m) _
@@ -363,20 +345,6 @@ pub run_sets : (scope : List Entry) (unset : ℕ → Bool) (sound : Bool) (all :
 run_sets scope unset sound all x may h =
     made_set (unset x) (list_any (sources_read x) all) (list_any (λ a. is_target x a.target) all) (may.assigned x) h
 
-pub matches_less : (k : Knowledge) (storages : List Storage) (scope : List Entry) (few many : ℕ → Bool) (s : Store) (m : Machine)
-    → ((x : ℕ) → many x ≡ false → few x ≡ false) → Matches k storages scope few s m → Matches k storages scope many s m
-matches_less k storages scope few many s m set matches = record {
-  agrees = record {
-    words = λ x there h none. matches.agrees.words x there (set x h) none;
-    arrays = matches.agrees.arrays;
-    constants = matches.agrees.constants;
-  };
-  flag = matches.flag;
-  traced = matches.traced;
-  zeros = matches.zeros;
-  room = matches.room;
-}
-
 -- one assignment alone
 pub alone_assigns : (k : Knowledge) (old new : Lines) (a : Assignment) → MakesOne k old new a 0 false 0 → Assigns k old new (a ∷ [])
 alone_assigns k old new a makes storages scope unset s place may knows =
@@ -386,7 +354,7 @@ alone_assigns k old new a makes storages scope unset s place may knows =
     (makes storages scope unset s 0 place (make_takes k storages scope unset a one) (λ e. make_stands k storages scope unset a one) knows (omega arith))
     (λ m said. (said, λ e. absurd (false_true e)))
     (λ m end said after. (
-      matches_less k storages scope (unset_but a.target unset) _ _ end
+      matches_fewer k storages scope (unset_but a.target unset) _ _ end
           (λ x h. subst (λ t. (unset x && not t) ≡ false) (or-false (is_target x a.target)) (run_sets scope unset _ (a ∷ []) x may h)) after.0,
       after.1.counts,
     ))

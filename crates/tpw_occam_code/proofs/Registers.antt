@@ -26,16 +26,17 @@ use Rattle.tpw_occam_code.specs.Computing.{IsPlace, Computes, IsFixed}
 use Rattle.tpw_occam_code.specs.Executing.{sources_read, is_target, Matches, LeavesCounts, Assigns}
 use Rattle.tpw_occam_code.specs.Assigning.{IsInside, taken, unset_but, unset_by, Stores, WritesPopped, MayTake, MayMake, MayMakeAll, HasSmallValue}
 use Rattle.tpw_occam_code.specs.Registers.{IsWordTarget, FitAll, KeepsRegisters, StoresWord, AssignsBelow}
-use Rattle.tpw_occam_code.proofs.Leading.{does_both, does_less, does_nothing}
+use Rattle.tpw_occam_code.proofs.Leading.{does_both, does_less, does_nothing, does_kept}
 use Rattle.tpw_occam_code.proofs.Indexing.{subscript_below}
 use Rattle.tpw_occam_code.proofs.Standing.{and_first, and_second, or_first, or_second}
 use Rattle.tpw_occam_code.proofs.Constructs.{constant_value, seen_array, size_is}
 use Rattle.tpw_occam_code.proofs.Storing.{leaves_self, writes_stores}
 use Rattle.tpw_occam_code.proofs.Assigning.{take_element}
 use Rattle.tpw_occam_code.proofs.Reading.{assigned_flagged, stored_flagged}
-use Rattle.tpw_occam_code.proofs.Matching.{still_set, does_same, matches_stored, matches_less, stores_leave, knows_unset, knows_shape, make_takes, make_stands, run_reads, run_sets}
+use Rattle.tpw_occam_code.proofs.Matching.{still_set, matches_stored, stores_leave, knows_unset, knows_shape, make_takes, make_stands, run_reads, run_sets}
 use Rattle.tpw_occam_code.proofs.KeptParts.{both_set, matches_left, matches_unflagged, items_leave, knows_flagged, assigned_shape}
 use Rattle.tpw_occam_code.proofs.Settling.{counts_then}
+use Rattle.tpw_occam_code.proofs.Knowing.{matches_fewer}
 
 -- ---- a word that is stored
 
@@ -67,7 +68,7 @@ pub variable_word : (k : Knowledge) (old new : Lines) (x : ℕ) → kind_of k.ki
 variable_word k old new x is stores storages scope unset before s first word place takes knows shape small =
     let t : Target = target.Variable x in
     let same : word ≡ taken k.kinds t word = sym (ap (λ b. kept b word) is) in
-    does_less k.arrays old new _ _ _ _ (does_same k.arrays old new _ _ (stores k.arrays word))
+    does_less k.arrays old new _ _ _ _ (does_kept k.arrays old new _ _ (stores k.arrays word))
     (λ m said. said.1)
     (λ m end said after.
     let stored_in : Stores scope 0 (item.Variable x) 0 (to_le_bytes w32 (taken k.kinds t word)) false m end =
@@ -89,7 +90,7 @@ fixed_word_stored k old new a e c fixed stores storages scope unset before s fir
     let parts = take_element k storages scope before a Word e takes in
     let most = place.place.most a (seen_array storages scope a Word parts.0) in
     let inside : IsInside k t c = fixed.below (omega (arith, most)) in
-    does_less k.arrays old new _ _ _ _ (does_same k.arrays old new _ _ (stores k.arrays word))
+    does_less k.arrays old new _ _ _ _ (does_kept k.arrays old new _ _ (stores k.arrays word))
     (λ m said. said.1)
     (λ m end said after.
     let stored_in : Stores scope 0 (item.Array a) (4 * c) (to_le_bytes w32 word) false m end =
@@ -108,7 +109,7 @@ registers_none k code registers storages scope unset s place may knows =
     does_less k.arrays code code _ _ _ _ (does_nothing k.arrays code) (λ m said. tt)
     (λ m end said is. subst
     (λ z. Matches k storages scope (unset_by [] unset) s z × LeavesCounts scope m z × KeepsRegisters registers m z) (sym is) (
-      matches_less k storages scope unset (unset_by [] unset) s m (λ x h. still_set (unset x) false h refl) said,
+      matches_fewer k storages scope unset (unset_by [] unset) s m (λ x h. still_set (unset x) false h refl) said,
       record { counts = λ x j there. refl; to_come = refl; sent = refl },
       record { areg = λ h. refl; breg = λ h. refl; creg = λ h. refl },
     ))
@@ -145,7 +146,7 @@ registers_more k old pushed made new one rest registers temporaries most fit com
     let first : Does k.arrays old pushed (Matches k storages scope unset s)
     (λ m end. Matches k storages scope unset t end × LeavesCounts scope m end × Pushed registers v.word m end) =
     does_less k.arrays old pushed _ _ _ _
-    (does_same k.arrays old pushed _ _
+    (does_kept k.arrays old pushed _ _
     (computes storages scope unset s place.place stands (record { least = least; most = most; simple = fit.1 }) known))
     (λ m said. said.agrees)
     (λ m end said after. (
@@ -173,7 +174,7 @@ registers_more k old pushed made new one rest registers temporaries most fit com
     (λ m middle said after. (after.0, after.2.areg))
     (λ m middle end said after two. (
       subst (λ z. Matches k storages scope (unset_by (one ∷ rest) unset) z end) state
-          (matches_less k storages scope (unset_but one.target (unset_by rest unset)) (unset_by (one ∷ rest) unset) _ end
+          (matches_fewer k storages scope (unset_but one.target (unset_by rest unset)) (unset_by (one ∷ rest) unset) _ end
           (λ x h. both_set (unset x) (is_target x one.target) (list_any (λ a. is_target x a.target) rest) h) two.0),
       counts_then scope m middle end after.1 two.1,
       record {
@@ -189,6 +190,6 @@ registers_assign k old new all registers assigns storages scope unset s place ma
     (assigns storages scope unset s place (record { sound = may.sound; assigned = λ x h. run_reads storages scope unset _ all x may h }) knows)
     (λ m said. said)
     (λ m end said after. (
-      matches_less k storages scope (unset_by all unset) _ _ end (λ x h. run_sets scope unset _ all x may h) after.0,
+      matches_fewer k storages scope (unset_by all unset) _ _ end (λ x h. run_sets scope unset _ all x may h) after.0,
       after.1,
     ))

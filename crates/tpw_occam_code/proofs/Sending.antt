@@ -36,7 +36,8 @@ use Rattle.tpw_occam_code.proofs.Leading.{does_placed, does_within, does_step, d
 use Rattle.tpw_occam_code.proofs.Computing.{agrees_after, leaves_then, in_scope, set_name}
 use Rattle.tpw_occam_code.proofs.Keeping.{does_save}
 use Rattle.tpw_occam_code.proofs.Standing.{and_first, suffices_two}
-use Rattle.tpw_occam_code.proofs.Copying.{array_long, matches_set}
+use Rattle.tpw_occam_code.proofs.Copying.{array_long}
+use Rattle.tpw_occam_code.proofs.Knowing.{matches_fewer}
 
 -- ---- bytes of an item
 
@@ -316,7 +317,7 @@ pub traces : (k : Knowledge) (old new : Lines) (message : Message) → SendsMess
 traces k old new message sends storages scope unset s place may knows =
     does_less k.arrays old new _ _ _ _ (sends storages scope unset s place may knows) (λ m matches. matches)
     (λ m end matches sent. (
-      matches_set k storages scope unset _ _ end (λ x. still_unset message unset x (may.assigned x))
+      matches_fewer k storages scope unset _ _ end (λ x. still_unset message unset x (may.assigned x))
           (subst (λ traced. Matches k storages scope unset (record (flagged (flag_of message s) s) { traced = traced }) end)
           (sent.traced ∙ ap (λ t. t ++ bytes_of message s) matches.traced) sent.matches),
       record { counts = sent.counts; to_come = sent.to_come; sent = sent.sent },

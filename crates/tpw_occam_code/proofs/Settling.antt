@@ -37,7 +37,7 @@ use Rattle.tpw_occam_code.specs.Computing.{MayStand, ComputesTo, reads}
 use Rattle.tpw_occam_code.specs.Executing.{sources_read, is_target, IsProcessPlace, KnowsState, Matches, LeavesCounts, Assigns}
 use Rattle.tpw_occam_code.specs.Assigning.{element_bytes, taken, taken_value, unset_but, unset_by, HasSmallValue, MayMake, MayMakeAll, LeavesKept, source_of, after_one, MakesOne}
 use Rattle.tpw_occam_code.specs.Ordering.{assignment_at, waits, waiting_at, Picks, picked, before, Marks, marked, behind, AreAll, SettleAll, pending_one, pending, HasKept, MakesMoves, MakesMove, KeepsWord, KeepsValue}
-use Rattle.tpw_occam_code.proofs.Leading.{does_both, does_less, does_nothing}
+use Rattle.tpw_occam_code.proofs.Leading.{does_both, does_less, does_nothing, does_kept}
 use Rattle.tpw_occam_code.proofs.Computing.{bytes_same}
 use Rattle.tpw_occam_code.proofs.Keeping.{other_item}
 use Rattle.tpw_occam_code.proofs.Standing.{and_first, and_second, or_first, or_second, suffices_two}
@@ -45,9 +45,10 @@ use Rattle.tpw_occam_code.proofs.Ranges.{full_contains}
 use Rattle.tpw_occam_code.proofs.Naming.{slice_same, slice_other, slice_length}
 use Rattle.tpw_occam_code.proofs.Reading.{set_beyond, value_flagged, subscript_flagged, stored_flagged, assigned_flagged}
 use Rattle.tpw_occam_code.proofs.Storing.{element_written, does_store}
-use Rattle.tpw_occam_code.proofs.Matching.{still_set, knows_shape, does_same, matches_less, knows_unset, make_takes, make_stands, word_stored, run_reads, run_sets}
+use Rattle.tpw_occam_code.proofs.Matching.{still_set, knows_shape, knows_unset, make_takes, make_stands, word_stored, run_reads, run_sets}
 use Rattle.tpw_occam_code.proofs.KeptParts.{stored_shape, matches_left, items_leave, knows_flagged}
 use Rattle.tpw_occam_code.proofs.Ordering.{length_stored, picks_assigned, after}
+use Rattle.tpw_occam_code.proofs.Knowing.{matches_fewer}
 
 none_some : {c : ℕ} → ◌≡◌ {A = Option ℕ} None (Some c) → ⊥
 none_some e = cc
@@ -273,7 +274,7 @@ move_makes k old new all i is_kept temporaries has_small makes made more rest wa
     (λ m middle end said after two. (
       subst (λ z. Matches k storages scope (unset_by (pending all words waiting) unset) z end)
           (sym (picks_assigned k.kinds all words (waits i is_kept) waiting left s picks))
-          (matches_less k storages scope (unset_by (pending all words left) next_unset) (unset_by (pending all words waiting) unset) _ end
+          (matches_fewer k storages scope (unset_by (pending all words left) next_unset) (unset_by (pending all words waiting) unset) _ end
           (λ x h. both_set (unset x) (is_target x a.target) (list_any (λ b. is_target x b.target) (pending all words left))
           (sym (ap (λ b. unset x && not b) (picks_any (λ b. is_target x b.target) all words (waits i is_kept) waiting left picks)) ∙ h)) two.0),
       counts_then scope m middle end after.2 two.1,
@@ -311,7 +312,7 @@ value_keeps k old between new source a i temporaries computes save storages scop
           ∙ other_item (item.Temporary i) (item.Temporary t) 0 at (to_le_bytes w32 w) middle.blocks (apart i t differs)
           ∙ after.1.blocks (item.Temporary t) at less),
     )) in
-    does_less k.arrays old new _ _ _ _ (does_same k.arrays old new _ _ kept)
+    does_less k.arrays old new _ _ _ _ (does_kept k.arrays old new _ _ kept)
     (λ m said. said.agrees)
     (λ m end said after. (
       matches_left k storages scope unset s 0 v.flag m end said after.0.0 after.0.1 after.1 after.2,
@@ -526,7 +527,7 @@ move_keeps k old new all i temporaries there has_small keeps made more rest wait
     (λ m middle end said after two. (
       subst (λ z. Matches k storages scope (unset_by (pending all words waiting) unset) z end)
           (marks_assigned k.kinds all words i waiting left s marks)
-          (matches_less k storages scope (unset_by (pending all words_then left) unset) (unset_by (pending all words waiting) unset) _ end
+          (matches_fewer k storages scope (unset_by (pending all words_then left) unset) (unset_by (pending all words waiting) unset) _ end
           (λ x h. ap (λ b. unset x && not b) (marks_same (λ b. is_target x b.target) all words i v.word waiting left refl marks) ∙ h) two.0),
       counts_then scope m middle end after.2 two.1,
     ))
@@ -539,7 +540,7 @@ moves_none k code all temporaries waiting words settles small storages scope uns
     (λ m end said is. subst
     (λ z. Matches k storages scope (unset_by (pending all words waiting) unset) (assigned k.kinds (pending all words waiting) s) z × LeavesCounts scope m z) (sym is) (
       subst (λ w. Matches k storages scope (unset_by (pending all words w) unset) (assigned k.kinds (pending all words w) s) m) (sym settles)
-          (matches_less k storages scope unset (unset_by [] unset) s m (λ x h. still_set (unset x) false h refl) said.0),
+          (matches_fewer k storages scope unset (unset_by [] unset) s m (λ x h. still_set (unset x) false h refl) said.0),
       record { counts = λ x j there. refl; to_come = refl; sent = refl },
     ))
 
@@ -583,6 +584,6 @@ moves_assign k old new all moves temporaries settle makes storages scope unset s
           let long = are.long in ap (λ (w : Waiting). w.is_kept) (are.each i (omega (arith, less, long)))),
     ))
     (λ m end said after. (
-      matches_less k storages scope (unset_by all unset) _ _ end (λ x h. run_sets scope unset _ all x may h) after.0,
+      matches_fewer k storages scope (unset_by all unset) _ _ end (λ x h. run_sets scope unset _ all x may h) after.0,
       after.1,
     ))

@@ -1,5 +1,6 @@
 -- When a machine agrees with the state of a worker: what the code of a construct may count on, and what it keeps.
-use Rattle.std.specs.Prelude.{◌≡◌, ℕ, ◌+◌, ◌*◌, ◌/◌, ◌^◌, ◌<◌, ◌≤◌, pos, Bool, true, false, ◌||◌, List, length, slice_index, slice_index_or}
+use Rattle.std.specs.Prelude.{◌≡◌, ℕ, ◌+◌, ◌*◌, ◌/◌, ◌^◌, ◌<◌, ◌≤◌, pos, Bool, true, false, ◌||◌, List, length}
+use Rattle.std.specs.Prelude.{slice_index, slice_index_or}
 use Rattle.std.specs.Prelude.{slice_set, All, Option, Some, None, IsTrue}
 use Rattle.std.specs.List.{list_any}
 use Rattle.tp_decode.specs.Words.{signed}
@@ -40,7 +41,12 @@ abbrev pub valued_fact : Range → Fact
 valued_fact source = record { source = source; known = full; constant = None }
 
 abbrev pub constant_fact : ℕ → Fact
-constant_fact c = record { source = from_to (signed c) (signed c); known = from_to (signed c) (signed c); constant = Some c }
+constant_fact c = record {
+  source = from_to (signed c) (signed c);
+  known = from_to (signed c) (signed c);
+  constant =
+      Some c;
+}
 
 abbrev pub counted_fact : Range → Fact
 counted_fact range = record { source = range; known = range; constant = None }

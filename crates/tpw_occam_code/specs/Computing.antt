@@ -1,6 +1,8 @@
 -- What the code of an expression does.
-use Rattle.std.specs.Prelude.{◌≡◌, ℕ, ◌+◌, ◌-◌, ◌*◌, ◌%◌, ◌^◌, ◌<◌, ◌≤◌, Bool, true, false, not, ◌||◌, ◌&&◌, ◌==◌, nat_le}
-use Rattle.std.specs.Prelude.{if◌then◌else◌, List, [], ◌∷◌, ◌++◌, length, map, slice_index, Option, Some, None, is_some, IsTrue, pos, ◌⊎◌, ◌≢◌, Box}
+use Rattle.std.specs.Prelude.{◌≡◌, ℕ, ◌+◌, ◌-◌, ◌*◌, ◌%◌, ◌^◌, ◌<◌, ◌≤◌, Bool, true, false, not, ◌||◌, ◌&&◌, ◌==◌}
+use Rattle.std.specs.Prelude.{nat_le}
+use Rattle.std.specs.Prelude.{if◌then◌else◌, List, [], ◌∷◌, ◌++◌, length, map, slice_index, Option, Some, None, is_some}
+use Rattle.std.specs.Prelude.{IsTrue, pos, ◌⊎◌, ◌≢◌, Box}
 use Rattle.std.specs.Global.{Global}
 use Rattle.std.specs.Option.{option_and_then, option_map_or}
 use Rattle.std.specs.List.{list_any}
@@ -11,7 +13,8 @@ use Rattle.tpw_occam_core.specs.declared.arithmetic.Answer.{Answer}
 use Rattle.tpw_occam_core.specs.declared.scope.Entry.{Entry}
 use Rattle.tpw_occam_core.specs.declared.expression.Operator.{Operator}
 use Rattle.tpw_occam_core.specs.declared.expression.Operator.TheVariants.{Add, Subtract, Multiply, Plus, Minus, Times}
-use Rattle.tpw_occam_core.specs.declared.expression.Operator.TheVariants.{BitAnd, BitOr, BitXor, Equal, ShiftLeft, ShiftRight}
+use Rattle.tpw_occam_core.specs.declared.expression.Operator.TheVariants.{BitAnd, BitOr, BitXor, Equal, ShiftLeft}
+use Rattle.tpw_occam_core.specs.declared.expression.Operator.TheVariants.{ShiftRight}
 use Rattle.tpw_occam_core.specs.declared.expression.Expression.{Expression}
 use Rattle.tpw_occam_core.specs.declared.expression.Expression.TheVariants.{Constant, Variable, Element', Checked'}
 use Rattle.tpw_occam_core.specs.declared.expression.Expression.TheVariants.{Binary', Complement', Not', LowByte', And'}
@@ -226,7 +229,8 @@ ComputesTwo k old new left right b a may_change registers kept =
     → MayStand k storages scope unset left → MayStand k storages scope unset right → 2 ≤ registers → registers ≤ 3
     → Knows k scope unset s
     → Does k.arrays old new (Agrees k scope unset s)
-    (λ m end. PushesTwo registers (b s).word (a s).word ((b s).flag || (a s).flag) may_change m end × LeavesItems scope kept m end)
+    (λ m end. PushesTwo registers (b s).word (a s).word ((b s).flag || (a s).flag) may_change m end
+    × LeavesItems scope kept m end)
 
 -- ---- names with values
 
@@ -245,7 +249,8 @@ pub record Binding (registers kept : ℕ) (scope : List Entry) (flag : Bool) (m 
   pub error : end.error ≡ (m.error || flag)
   pub leaves : LeavesItems scope kept m end
 
-abbrev pub ComputesBinding : (before after : Knowledge) → (old new : Lines) → ℕ → Expression → (registers kept : ℕ) → Type 0
+abbrev pub ComputesBinding : (before after : Knowledge) → (old new : Lines) → ℕ → Expression → (registers kept : ℕ)
+    → Type 0
 ComputesBinding before after old new x e registers kept =
     (storages : List Storage) (scope : List Entry) (unset : ℕ → Bool) (s : Store) → IsPlace before storages scope
     → MayStand before storages scope unset e → Suffices before registers e → Knows before scope unset s

@@ -1,5 +1,6 @@
 -- What the code of a process does.
-use Rattle.std.specs.Prelude.{◌≡◌, ◌≢◌, ℕ, ◌+◌, ◌*◌, ◌^◌, ◌<◌, ◌≤◌, Bool, true, false, ◌||◌, ◌&&◌, ◌==◌, if◌then◌else◌, nat_le}
+use Rattle.std.specs.Prelude.{◌≡◌, ◌≢◌, ℕ, ◌+◌, ◌*◌, ◌^◌, ◌<◌, ◌≤◌, Bool, true, false, ◌||◌, ◌&&◌, ◌==◌, if◌then◌else◌}
+use Rattle.std.specs.Prelude.{nat_le}
 use Rattle.std.specs.Prelude.{List, [], ◌∷◌, ◌++◌, length, map, replicate, slice_index, slice_get, Some, IsTrue, Box}
 use Rattle.std.specs.Global.{Global}
 use Rattle.tp_decode.specs.declared.instr.Instr.TheVariants.{Lend}
@@ -10,7 +11,8 @@ use Rattle.tpw_occam_core.specs.declared.scope.Entry.TheVariants as entry
 use Rattle.tpw_occam_core.specs.declared.expression.Expression.{Expression}
 use Rattle.tpw_occam_core.specs.declared.expression.Expression.TheVariants as expression
 use Rattle.tpw_occam_core.specs.declared.expression.Expression.TheVariants.{Constant, Element', Checked', Binary'}
-use Rattle.tpw_occam_core.specs.declared.expression.Expression.TheVariants.{Complement', Not', LowByte', And', Or', Let'}
+use Rattle.tpw_occam_core.specs.declared.expression.Expression.TheVariants.{Complement', Not', LowByte', And', Or'}
+use Rattle.tpw_occam_core.specs.declared.expression.Expression.TheVariants.{Let'}
 use Rattle.tpw_occam_core.specs.declared.process.Target.{Target}
 use Rattle.tpw_occam_core.specs.declared.process.Target.TheVariants as target
 use Rattle.tpw_occam_core.specs.declared.process.Assignment.{Assignment}
@@ -19,7 +21,8 @@ use Rattle.tpw_occam_core.specs.declared.process.Message.TheVariants as message
 use Rattle.tpw_occam_core.specs.declared.process.Process.{Process}
 use Rattle.tpw_occam_core.specs.declared.process.Process.TheVariants as process
 use Rattle.tpw_occam_core.specs.Meaning.{Store, array_of, with_array, kind_of, assigned, traced, run}
-use Rattle.tpw_occam_core.specs.Sound.{is_variable, is_name, is_new_array, is_sized, is_sound_assignment, is_sound_message}
+use Rattle.tpw_occam_core.specs.Sound.{is_variable, is_name, is_new_array, is_sized, is_sound_assignment}
+use Rattle.tpw_occam_core.specs.Sound.{is_sound_message}
 use Rattle.tpw_occam_core.specs.Sound.{is_sound_process}
 use Rattle.tpw_occam_code.specs.declared.analysis.First.{First}
 use Rattle.tpw_occam_code.specs.declared.analysis.First.TheVariants.{Nothing, Assigned, Read}
@@ -81,7 +84,8 @@ first_use (process.Assign list) x = first_in_assignments list.items x
 first_use (process.Copy to from) x = Nothing
 first_use (process.Sequence' p first q second) x = then_first (first_use first x) (first_use second x)
 first_use (process.Repeat' y start count p body) x = if count == 0 then Nothing else first_use body x
-first_use (process.If' e p guarded q rest) x = then_first (first_in e x) (either_first (first_use guarded x) (first_use rest x))
+first_use (process.If' e p guarded q rest) x = then_first (first_in e x) (either_first (first_use guarded x)
+    (first_use rest x))
 first_use (process.Variable' y p body) x = first_use body x
 first_use (process.Value' y e p body) x = then_first (first_in e x) (first_use body x)
 first_use (process.Array' a p body) x = first_use body x
@@ -98,7 +102,8 @@ unset_after first unset x = unset x && is_nothing (first x)
 
 -- ---- states
 
--- Where processes stand: as expressions; a variable is there, and what is known of it is what its kind says; every array
+-- Where processes stand: as expressions; a variable is there, and what is known of it is what its kind says; every
+-- array
 -- has 1 to 2,048 bytes.
 pub record IsProcessPlace (k : Knowledge) (storages : List Storage) (scope : List Entry) : Type 0 where
   pub place : IsPlace k storages scope
@@ -130,7 +135,8 @@ cleared_bytes bytes = if nat_le (word_bytes bytes) (4 * most_cleared) then word_
 
 -- A machine between processes: it agrees with a state, with its flag and its traces. The zeros are zeros, and where
 -- code points at them they are enough for each array that may be declared.
-pub record Matches (k : Knowledge) (storages : List Storage) (scope : List Entry) (unset : ℕ → Bool) (s : Store) (m : Machine)
+pub record Matches (k : Knowledge) (storages : List Storage) (scope : List Entry) (unset : ℕ
+    → Bool) (s : Store) (m : Machine)
     : Type 0 where
   pub agrees : Agrees k scope unset s m
   pub flag : m.error ≡ s.flag
@@ -141,7 +147,8 @@ pub record Matches (k : Knowledge) (storages : List Storage) (scope : List Entry
 
 -- What the code of a process leaves: the counts of loops, which lie behind their indices; the packet and the result.
 pub record LeavesCounts (scope : List Entry) (m end : Machine) : Type 0 where
-  pub counts : (x i : ℕ) → IsTrue (list_any (is_name x) scope) → end.blocks (Variable x) (4 + i) ≡ m.blocks (Variable x) (4 + i)
+  pub counts : (x i : ℕ) → IsTrue (list_any (is_name x) scope) → end.blocks (Variable x) (4 + i)
+      ≡ m.blocks (Variable x) (4 + i)
   pub to_come : end.to_come ≡ m.to_come
   pub sent : end.sent ≡ m.sent
 
@@ -169,7 +176,8 @@ Assigns k old new all =
 
 abbrev pub Traces : Knowledge → (old new : Lines) → Message → Type 0
 Traces k old new m =
-    ExecutesTo k old new (λ count storages scope. is_sound_message count storages scope m) (first_in_message m) (traced m)
+    ExecutesTo k old new (λ count storages scope. is_sound_message count storages scope m) (first_in_message m)
+    (traced m)
 
 -- .. of an array's bytes, which are made 0 where it is declared, ..
 abbrev pub Clears : Knowledge → (old new : Lines) → ℕ → Type 0
@@ -211,7 +219,8 @@ chosen_lines old source some none =
 abbrev pub Begins : (old new : Lines) → (x start count : ℕ) → Type 0
 Begins old new x start count =
     (arrays : List ℕ) → Does arrays old new HasConstants
-    (λ m end. (end ≡ at_place (place_behind new) (with_item_word (Variable x) 1 count (with_item_word (Variable x) 0 start m)))
+    (λ m end. (end ≡ at_place (place_behind new) (with_item_word (Variable x) 1 count (with_item_word (Variable x) 0
+    start m)))
     × (8 ≤ m.sizes (Variable x)))
 
 -- the lines at the end of a turn
@@ -233,7 +242,8 @@ abbrev pub Chooses : Knowledge → (old new : Lines) → Expression → (guarded
 Chooses k old new e guarded rest = (p q : Box (Unit {0}) Global) → Executes k old new (process.If' e p guarded q rest)
 
 abbrev pub Repeats : Knowledge → (old new : Lines) → (x start count : ℕ) → Process → Type 0
-Repeats k old new x start count body = (p : Box (Unit {0}) Global) → Executes k old new (process.Repeat' x start count p body)
+Repeats k old new x start count body = (p : Box (Unit {0}) Global)
+    → Executes k old new (process.Repeat' x start count p body)
 
 -- ---- what stays known
 
@@ -265,7 +275,8 @@ pub record Follows (k : Knowledge) (scope : List Entry) (s t : Store) : Type 0 w
 abbrev pub Remains : Knowledge → Process → Type 0
 Remains k p =
     (storages : List Storage) (scope : List Entry) (s : Store) → IsProcessPlace k storages scope
-    → IsTrue (is_sound_process (length k.kinds) storages scope p) → KnowsState k scope s → Follows k scope s (run k.kinds p s)
+    → IsTrue (is_sound_process (length k.kinds) storages scope p) → KnowsState k scope s
+    → Follows k scope s (run k.kinds p s)
 
 -- .. with a name of its own, of IF, and of loops
 abbrev pub VariableKnown : Knowledge → ℕ → Process → Type 0

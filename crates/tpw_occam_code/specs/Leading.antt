@@ -1,5 +1,6 @@
 -- What code does, wherever it stands in a worker's code: from the place before it control gets to the place behind it.
-use Rattle.std.specs.Prelude.{◌≡◌, ℕ, ◌+◌, ◌*◌, ◌/◌, ◌^◌, ◌<◌, ◌≤◌, Bool, false, not, List, ◌++◌, length, map, slice_get, Option, Some}
+use Rattle.std.specs.Prelude.{◌≡◌, ℕ, ◌+◌, ◌*◌, ◌/◌, ◌^◌, ◌<◌, ◌≤◌, Bool, false, not, List, ◌++◌, length, map}
+use Rattle.std.specs.Prelude.{slice_get, Option, Some}
 use Rattle.std.specs.Prelude.{slice_index}
 use Rattle.tpw_occam_code.specs.declared.items.Item.{Item}
 use Rattle.tpw_occam_code.specs.declared.items.Item.TheVariants.{Variable, Temporary, Constant, Array, Zeros}
@@ -69,4 +70,5 @@ HasWord i word m = bytes_at m.blocks i 0 4 ≡ to_le_bytes w32 word
 
 -- the lines lengthen code, and make of each machine with its constants what f says
 abbrev pub Makes : Lines → Lines → (Machine → Type 0) → (Machine → Machine) → Type 0
-Makes old new Before f = (arrays : List ℕ) → Does arrays old new Before (λ m end. end ≡ at_place (place_behind new) (f m))
+Makes old new Before f = (arrays : List ℕ) → Does arrays old new Before (λ m end. end
+    ≡ at_place (place_behind new) (f m))

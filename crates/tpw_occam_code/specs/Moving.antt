@@ -51,5 +51,6 @@ pub record HasCleared (a bytes : ℕ) (m end : Machine) : Type 0 where
 abbrev pub ClearsWords : (old new : Lines) (a words done : ℕ) → Type 0
 ClearsWords old new a words done =
     (arrays : List ℕ) → 4 * words ≤ word_bytes (slice_index arrays a) → Does arrays old new
-    (λ m. HasConstants m × ((i : ℕ) → m.blocks Zeros i ≡ 0) × Provides arrays m (Pointer Zeros 0) Zeros (cleared_bytes (4 * words)))
+    (λ m. HasConstants m × ((i : ℕ) → m.blocks Zeros i ≡ 0)
+    × Provides arrays m (Pointer Zeros 0) Zeros (cleared_bytes (4 * words)))
     (HasCleared a (4 * done))

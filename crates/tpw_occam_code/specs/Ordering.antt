@@ -1,5 +1,6 @@
 -- The order in which assignments that are made together may be made one by one.
-use Rattle.std.specs.Prelude.{◌≡◌, ◌≢◌, ℕ, ◌<◌, ◌^◌, Bool, true, false, nat_lt, if◌then◌else◌, List, [], ◌∷◌, length, map, slice_index_or}
+use Rattle.std.specs.Prelude.{◌≡◌, ◌≢◌, ℕ, ◌<◌, ◌^◌, Bool, true, false, nat_lt, if◌then◌else◌, List, [], ◌∷◌, length}
+use Rattle.std.specs.Prelude.{map, slice_index_or}
 use Rattle.tpw_occam_core.specs.declared.kind.Kind.{Kind}
 use Rattle.tpw_occam_core.specs.declared.worker.Storage.{Storage}
 use Rattle.tpw_occam_core.specs.declared.scope.Entry.{Entry}
@@ -26,7 +27,8 @@ abbrev pub target_reads : Target → Target → Bool
 target_reads (target.Variable x) t = false
 target_reads (target.Element a kind e) t = reads_target e t
 
--- One assignment may be made before another that waits: the other reads nothing that it writes, and where both may write
+-- One assignment may be made before another that waits: the other reads nothing that it writes, and where both may
+-- write
 -- to one place the other is the earlier one.
 pub record Precedes (one other : Assignment) (is_kept is_earlier : Bool) : Type 0 where
   pub value : is_kept ≡ false → reads_target other.value one.target ≡ false
@@ -121,12 +123,14 @@ MakesMoves k old new all moves temporaries =
     → (storages : List Storage) (scope : List Entry) (unset : ℕ → Bool) (s : Store) → IsProcessPlace k storages scope
     → MayMakeAll k storages scope unset (pending all words waiting) → KnowsState k scope s
     → Does k.arrays old new (λ m. Matches k storages scope unset s m × HasKept k.kinds all words temporaries waiting m)
-    (λ m end. Matches k storages scope (unset_by (pending all words waiting) unset) (assigned k.kinds (pending all words waiting) s) end
+    (λ m end. Matches k storages scope (unset_by (pending all words waiting) unset) (assigned k.kinds (pending all
+    words waiting) s) end
     × LeavesCounts scope m end)
 
 -- .. one move a part of it
 abbrev pub MakesMove : Knowledge → (old new : Lines) → List Assignment → Move → (temporaries : ℕ) → Type 0
-MakesMove k old new all move temporaries = (made : Lines) (more : List Move) → MakesMoves k new made all more temporaries
+MakesMove k old new all move temporaries = (made : Lines) (more : List Move)
+    → MakesMoves k new made all more temporaries
     → MakesMoves k old made all (move ∷ more) temporaries
 
 -- the value of an assignment is kept in a word

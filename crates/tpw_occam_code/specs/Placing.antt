@@ -1,5 +1,6 @@
 -- Where items are placed, and what a program is made of.
-use Rattle.std.specs.Prelude.{◌≡◌, ℕ, ◌+◌, ◌*◌, ◌<◌, ◌≤◌, ◌^◌, if◌then◌else◌, List, [], ◌∷◌, map, slice_index, All, None, IsTrue}
+use Rattle.std.specs.Prelude.{◌≡◌, ℕ, ◌+◌, ◌*◌, ◌<◌, ◌≤◌, ◌^◌, if◌then◌else◌, List, [], ◌∷◌, map, slice_index, All}
+use Rattle.std.specs.Prelude.{None, IsTrue}
 use Rattle.std.specs.Int.{w32, to_le_bytes}
 use mir.Val.{SFits}
 use Rattle.tp_decode.specs.Table.{entry}

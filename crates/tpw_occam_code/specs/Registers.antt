@@ -25,7 +25,8 @@ IsWordTarget k (target.Element a view e) = (view ≡ Word) × ((c : ℕ) × IsFi
 abbrev pub FitAll : Knowledge → List Assignment → (registers : ℕ) → Type 0
 FitAll k [] registers = Unit {0}
 FitAll k (a ∷ more) registers =
-    (1 ≤ registers) × (registers ≤ 1 → IsTrue (is_simple k a.value)) × IsWordTarget k a.target × FitAll k more (registers - 1)
+    (1 ≤ registers) × (registers ≤ 1 → IsTrue (is_simple k a.value)) × IsWordTarget k a.target
+    × FitAll k more (registers - 1)
 
 -- what the others hold stays, where so many registers are used
 pub record KeepsRegisters (registers : ℕ) (m end : Machine) : Type 0 where
@@ -41,7 +42,8 @@ pub record Popped (m end : Machine) : Type 0 where
 -- a word in Areg is stored, in a state in which the subscript is what it was in the one before
 abbrev pub StoresWord : Knowledge → (old new : Lines) → Target → Type 0
 StoresWord k old new t =
-    (storages : List Storage) (scope : List Entry) (unset before : ℕ → Bool) (s first : Store) (word : ℕ) → IsProcessPlace k storages scope
+    (storages : List Storage) (scope : List Entry) (unset before : ℕ → Bool) (s first : Store) (word : ℕ)
+    → IsProcessPlace k storages scope
     → MayTake k storages scope before t → KnowsState k scope first → HasShape k s → word < 2 ^ 32
     → Does k.arrays old new (λ m. Matches k storages scope unset s m × HasNumber word m)
     (λ m end. Matches k storages scope (unset_but t unset) (stored k.kinds t (subscript_of t first).word word s) end

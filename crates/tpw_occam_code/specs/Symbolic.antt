@@ -2,8 +2,10 @@
 -- is an item and a place in it, and memory in blocks.
 --
 -- It is defined where every register and byte is: what the transputer's profile leaves undefined it keeps.
-use Rattle.std.specs.Prelude.{◌≡◌, ℕ, zero, suc, ◌+◌, ◌*◌, ◌/◌, ◌%◌, ◌^◌, Bool, true, false, not, ◌||◌, ◌==◌, nat_le, nat_lt}
-use Rattle.std.specs.Prelude.{if◌then◌else◌, pos, ◌+ℤ◌, ◌-ℤ◌, int_lt, List, [], ◌∷◌, ◌++◌, length, take, drop, slice_get}
+use Rattle.std.specs.Prelude.{◌≡◌, ℕ, zero, suc, ◌+◌, ◌*◌, ◌/◌, ◌%◌, ◌^◌, Bool, true, false, not, ◌||◌, ◌==◌, nat_le}
+use Rattle.std.specs.Prelude.{nat_lt}
+use Rattle.std.specs.Prelude.{if◌then◌else◌, pos, ◌+ℤ◌, ◌-ℤ◌, int_lt, List, [], ◌∷◌, ◌++◌, length, take, drop}
+use Rattle.std.specs.Prelude.{slice_get}
 use Rattle.std.specs.Prelude.{Option, Some, None}
 use Rattle.std.specs.Ordering.{int_eq}
 use Rattle.tp_decode.specs.Words.{signed, low_word, complement}
@@ -198,7 +200,9 @@ effect Input m = do
   only_if (channel == link0_input)
   only_if (nat_le n (length m.to_come))
   only_if (has_bytes m target.0 target.1 n)
-  Some (with_blocks (with_bytes target.0 target.1 (take n m.to_come) m.blocks) (record m { to_come = drop n m.to_come }))
+  Some (with_blocks (with_bytes target.0 target.1 (take n m.to_come) m.blocks) (record m {
+    to_come = drop n m.to_come;
+  }))
 effect Output m = do
   n ← number_in m.areg
   channel ← number_in m.breg

@@ -266,8 +266,8 @@ fn word(c: u32) -> u32
     c
 }
 
-/// Does nothing: that each constant is a word is said by its type, and here by a contract.
-fn words(e: &Expression)
+/// Each constant of an expression is a word. It does nothing: its contract says what types say.
+fn law_constants_are_words(e: &Expression)
     ensures { HasWords e.now }
 {
     match e {
@@ -279,44 +279,45 @@ fn words(e: &Expression)
             array: _,
             kind: _,
             subscript,
-        } => words(subscript),
+        } => law_constants_are_words(subscript),
         Expression::Checked {
             below: _,
             subscript,
-        } => words(subscript),
+        } => law_constants_are_words(subscript),
         Expression::Binary {
             operator: _,
             left,
             right,
         } => {
-            words(left);
-            words(right);
+            law_constants_are_words(left);
+            law_constants_are_words(right);
         }
-        Expression::Complement(e) | Expression::Not(e) | Expression::LowByte(e) => words(e),
+        Expression::Complement(e) | Expression::Not(e) | Expression::LowByte(e) =>
+            law_constants_are_words(e),
         Expression::And(left, right) | Expression::Or(left, right) => {
-            words(left);
-            words(right);
+            law_constants_are_words(left);
+            law_constants_are_words(right);
         }
         Expression::Let {
             name: _,
             value,
             within,
         } => {
-            words(value);
-            words(within);
+            law_constants_are_words(value);
+            law_constants_are_words(within);
         }
     }
 }
 
-/// .. so of each value that is assigned.
-pub(crate) fn words_of_all(list: &[Assignment])
+/// .. of each value that is assigned.
+pub(crate) fn law_values_are_words(list: &[Assignment])
     ensures { HaveWords list.now }
 {
     match list {
         [] => {}
         [first, more @ ..] => {
-            words(&first.value);
-            words_of_all(more);
+            law_constants_are_words(&first.value);
+            law_values_are_words(more);
         }
     }
 }

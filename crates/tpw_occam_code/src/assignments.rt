@@ -1,6 +1,7 @@
 //! Code of assignments.
 
-ghost use Rattle.std.specs.Prelude.{◌≡◌, ◌<◌, ◌≤◌, ◌+◌, ◌*◌, ◌^◌, ℕ, List, length, slice_index, true, false, OnOk, IfSome, IsTrue};
+ghost use Rattle.std.specs.Prelude.{◌≡◌, ◌<◌, ◌≤◌, ◌+◌, ◌*◌, ◌^◌, ℕ, List, length, slice_index, true, false, OnOk};
+ghost use Rattle.std.specs.Prelude.{IfSome, IsTrue};
 ghost use Rattle.std.specs.Int.{w32, to_le_bytes};
 ghost use Rattle.tpw_occam_core.specs.declared.kind.Kind.TheVariants.{Word};
 ghost use Rattle.tpw_occam_core.specs.declared.process.Target.TheVariants as target;
@@ -10,7 +11,9 @@ ghost use Rattle.tpw_occam_code.specs.Leading.{Does, HasWord};
 ghost use Rattle.tpw_occam_code.specs.Values.{HasNumber, scaled};
 ghost use Rattle.tpw_occam_code.specs.Computing.{ComputesTo, IsFixed, subscript_value};
 ghost use Rattle.tpw_occam_code.specs.Executing.{Assigns};
-ghost use Rattle.tpw_occam_code.specs.Assigning.{element_bytes, IsToStore, Writes, WritesPopped, ComputesOver, ComputesAbove, StoresIn, MakesOne, taken_value, HasSmallValue, AssignsAbove, KeepsParts, KeepsSubscript, StoresParts, StoresKept};
+ghost use Rattle.tpw_occam_code.specs.Assigning.{element_bytes, IsToStore, Writes, WritesPopped, ComputesOver};
+ghost use Rattle.tpw_occam_code.specs.Assigning.{ComputesAbove, StoresIn, MakesOne, taken_value, HasSmallValue};
+ghost use Rattle.tpw_occam_code.specs.Assigning.{AssignsAbove, KeepsParts, KeepsSubscript, StoresParts, StoresKept};
 ghost use Rattle.tpw_occam_code.specs.Registers.{IsWordTarget, FitAll, StoresWord, AssignsBelow};
 ghost use Rattle.tpw_occam_code.specs.Ordering.{SettleAll, MakesMoves, MakesMove, KeepsValue, assignment_at};
 
@@ -120,7 +123,8 @@ impl Emitter<'_> {
         room: Room,
     ) -> Result<(), CodeFault>
         ensures knowledge { OnOk result (self.new ≡ self.old) }
-        ensures makes { OnOk result (room.registers ≡ 3 → MakesMoves self.old code.old code.new all.now moves.now room.kept) }
+        ensures makes { OnOk result (room.registers ≡ 3
+            → MakesMoves self.old code.old code.new all.now moves.now room.kept) }
     {
         let [next, rest @ ..] = moves else {
             return Ok(());
@@ -372,7 +376,8 @@ impl Emitter<'_> {
         line: u32,
     ) -> Result<(), CodeFault>
         ensures knowledge { OnOk result (self.new ≡ self.old) }
-        ensures stores { OnOk result (IsWordTarget self.old target.now → StoresWord self.old code.old code.new target.now) }
+        ensures stores { OnOk result (IsWordTarget self.old target.now
+            → StoresWord self.old code.old code.new target.now) }
     {
         match target {
             Target::Variable(x) => store_variable(code, line, *x),
@@ -417,7 +422,8 @@ impl Emitter<'_> {
         room: Room,
     ) -> Result<(), CodeFault>
         ensures knowledge { OnOk result (self.new ≡ self.old) }
-        ensures keeps { OnOk result (room.registers ≡ 3 → KeepsParts self.old code.old code.new assignment.now room.kept) }
+        ensures keeps { OnOk result (room.registers ≡ 3
+            → KeepsParts self.old code.old code.new assignment.now room.kept) }
         ensures small { OnOk result (HasSmallValue self.old assignment.now.value) }
     {
         self.value(code, assignment, room)?;

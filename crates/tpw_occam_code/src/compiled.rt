@@ -34,27 +34,27 @@ pub struct Compiled {
     pub placed: Vec<Placed>,
 }
 
-/// What bytes are is below 256. It says so to proofs, and does nothing.
-fn know_bytes(_bytes: &[u8])
+/// Bytes are below 256. It does nothing: its contract says what types say.
+fn law_bytes(_bytes: &[u8])
     ensures { (i : ℕ) → slice_index _bytes.now i < 256 }
 {}
 
 /// .. the bytes of an array, ..
-fn know_array(storage: &Storage)
+fn law_array(storage: &Storage)
     ensures { AreBytes storage.now }
 {
     match storage {
         Storage::Zeros(_) => {}
-        Storage::Table(bytes) => know_bytes(bytes),
+        Storage::Table(bytes) => law_bytes(bytes),
     }
 }
 
 /// .. and of all arrays.
-fn know_arrays(worker: &Worker)
+fn law_arrays(worker: &Worker)
     ensures { All AreBytes worker.now.arrays.items }
 {
     for storage in &worker.arrays {
-        know_array(storage);
+        law_array(storage);
     }
 }
 
@@ -62,7 +62,7 @@ fn know_arrays(worker: &Worker)
 fn code_of(alloc: Global, worker: &Worker) -> Result<Code, CodeFault>
     ensures { IfOk result (λ code. IsTrue (is_sound worker.now) → Works worker.now code) }
 {
-    know_arrays(worker);
+    law_arrays(worker);
     let mut emitter = Emitter::new(alloc, worker)?;
     let mut code = Code::new(alloc);
     emitter.receive(&mut code, worker.receive, worker.line)?;
@@ -142,7 +142,8 @@ fn program_of(
     })
 }
 
-/// The program of a worker, or why there is none. The program has a layout, within the code bytes of an image, and means
+/// The program of a worker, or why there is none. The program has a layout, within the code bytes of an image, and
+/// means
 /// what the worker does.
 pub fn compile(alloc: Global, worker: &Worker) -> Result<Compiled, CodeFault>
     ensures layout { IfOk result (λ compiled. HasLayout compiled.program) }

@@ -2,7 +2,8 @@
 
 ghost use Rattle.std.specs.Prelude.{◌≡◌, ◌<◌, ◌^◌, ◌+◌, ◌-◌, ◌*◌, ℕ, List, Some, OnOk, IfOk, IfSome, map, slice_index};
 ghost use Rattle.tpw_occam_core.specs.Meaning.{kind_of};
-ghost use Rattle.tpw_occam_code.specs.Agreement.{fact_of_kind, valued_fact, constant_fact, counted_fact, fact_at, with_fact};
+ghost use Rattle.tpw_occam_code.specs.Agreement.{fact_of_kind, valued_fact, constant_fact, counted_fact, fact_at};
+ghost use Rattle.tpw_occam_code.specs.Agreement.{with_fact};
 ghost use Rattle.tpw_occam_code.specs.Agreement.{constant_in, elements_of};
 ghost use Rattle.tpw_occam_code.specs.Computing.{is_short as short};
 ghost use Rattle.tpw_occam_code.specs.declared.items.Item.TheVariants.{Temporary};
@@ -229,14 +230,16 @@ impl<'a> Emitter<'a> {
 
     /// The words of an array.
     pub(crate) fn words(&self, array: usize) -> u32
-        ensures { slice_index self.now.arrays array < 2 ^ 32 → 4 * result ≡ word_bytes (slice_index self.now.arrays array) }
+        ensures { slice_index self.now.arrays array < 2 ^ 32 → 4 * result
+            ≡ word_bytes (slice_index self.now.arrays array) }
     {
         self.bytes(array).div_ceil(4)
     }
 
     /// The elements of an array that is seen as words or bytes.
     pub(crate) fn elements(&self, array: usize, kind: Kind) -> u32
-        ensures { slice_index self.now.arrays array < 2 ^ 32 → result ≡ elements_of kind (slice_index self.now.arrays array) }
+        ensures { slice_index self.now.arrays array < 2 ^ 32 → result
+            ≡ elements_of kind (slice_index self.now.arrays array) }
     {
         match kind {
             Kind::Word => self.bytes(array) / 4,

@@ -11,7 +11,8 @@ ghost use Rattle.tpw_occam_code.specs.declared.code.Step.TheVariants.{CjTo};
 ghost use Rattle.tpw_occam_code.specs.Code.{joined, followed_by, line_of, place_behind};
 ghost use Rattle.tpw_occam_code.specs.Agreement.{with_fact};
 ghost use Rattle.tpw_occam_code.specs.Values.{Holds};
-ghost use Rattle.tpw_occam_code.specs.Computing.{Binds, ComputesBinding, Computes, ComputesTo, IsKnown, IsKnownOf, IsSuccessor, IsPredecessor, inverse_of, Decides, DecidesUnequal};
+ghost use Rattle.tpw_occam_code.specs.Computing.{Binds, ComputesBinding, Computes, ComputesTo, IsKnown, IsKnownOf};
+ghost use Rattle.tpw_occam_code.specs.Computing.{IsSuccessor, IsPredecessor, inverse_of, Decides, DecidesUnequal};
 
 use crate::code::{Code, Step};
 use crate::emitter::{Emitter, Room, constant, valued};
@@ -140,7 +141,8 @@ impl Emitter<'_> {
 
     /// Pushes the value of a name.
     fn name(&self, code: &mut Code, line: u32, x: usize) -> Result<Value, CodeFault>
-        ensures computes { OnOk result ((registers kept : ℕ) → Computes self.now code.old code.new (expression.Variable x) registers kept) }
+        ensures computes { OnOk result ((registers kept : ℕ)
+            → Computes self.now code.old code.new (expression.Variable x) registers kept) }
         ensures known { IfOk result (λ value. IsKnown self.now (expression.Variable x) value) }
     {
         let fact = self.fact(x);
@@ -169,7 +171,8 @@ impl Emitter<'_> {
         ensures arrays { OnOk result (self.new.arrays ≡ self.old.arrays) }
         ensures facts { OnOk result ((fact : Fact) × (self.new ≡ with_fact x fact self.old)) }
         ensures knows { OnOk result (Binds self.old self.new x e.now) }
-        ensures computes { OnOk result (ComputesBinding self.old self.new code.old code.new x e.now room.registers room.kept) }
+        ensures computes { OnOk result (ComputesBinding self.old self.new code.old code.new x e.now room.registers
+            room.kept) }
     {
         if let Some(c) = self.constant_of(e) {
             self.set_fact(x, constant(c));
@@ -205,7 +208,8 @@ impl Emitter<'_> {
     #[cycle(expression)]
     fn inverted(&mut self, code: &mut Code, e: &Expression, room: Room) -> Result<Value, CodeFault>
         ensures knowledge { OnOk result (self.new ≡ self.old) }
-        ensures computes { OnOk result (ComputesTo self.old code.old code.new e.now (inverse_of e.now) room.registers room.kept) }
+        ensures computes { OnOk result (ComputesTo self.old code.old code.new e.now (inverse_of e.now) room.registers
+            room.kept) }
         ensures known { IfOk result (λ value. IsKnownOf self.old e.now (inverse_of e.now) value) }
     {
         if let Expression::Binary {
@@ -272,7 +276,8 @@ impl Emitter<'_> {
         room: Room,
     ) -> Result<(), CodeFault>
         ensures knowledge { OnOk result (self.new ≡ self.old) }
-        ensures decides { OnOk result (DecidesUnequal self.old code.old code.new left.now right.now room.registers room.kept) }
+        ensures decides { OnOk result (DecidesUnequal self.old code.old code.new left.now right.now room.registers
+            room.kept) }
     {
         if let Some(0) = self.constant_of(right) {
             self.expression(code, left, room)?;
@@ -289,7 +294,8 @@ impl Emitter<'_> {
 
 /// Appends code that is passed over, by a `cj` before it, where Areg is 0.
 pub(crate) fn branch(code: &mut Code, line: u32, more: &Code) -> Result<(), CodeFault>
-    ensures { OnOk result (code.new ≡ joined (followed_by code.old (line_of line (CjTo (place_behind more.now)) ∷ [])) more.now) }
+    ensures { OnOk result (code.new
+        ≡ joined (followed_by code.old (line_of line (CjTo (place_behind more.now)) ∷ [])) more.now) }
 {
     code.emit(line, Step::CjTo(more.here()))?;
     code.append(line, more)

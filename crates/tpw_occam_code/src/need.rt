@@ -5,7 +5,8 @@ ghost use Rattle.std.specs.Option.{option_map};
 ghost use Rattle.tp_decode.specs.Words.{signed};
 ghost use Rattle.tpw_occam_code.specs.Agreement.{constant_in};
 ghost use Rattle.tpw_occam_core.specs.declared.expression.Operator.TheVariants.{ShiftLeft, ShiftRight};
-ghost use Rattle.tpw_occam_code.specs.Computing.{IsNoShift, immediate_of, is_immediate, is_simple, is_swapped, IsConstantBelow};
+ghost use Rattle.tpw_occam_code.specs.Computing.{IsNoShift, immediate_of, is_immediate, is_simple, is_swapped};
+ghost use Rattle.tpw_occam_code.specs.Computing.{IsConstantBelow};
 ghost use Rattle.tpw_occam_code.specs.Computing.{commutes as commute};
 
 use crate::emitter::{Emitter, is_short};

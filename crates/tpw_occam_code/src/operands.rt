@@ -3,8 +3,10 @@
 ghost use Rattle.std.specs.Prelude.{◌≡◌, ◌≤◌, ℕ, false, IfOk, OnOk, IsTrue};
 ghost use Rattle.tpw_occam_core.specs.Meaning.{value_of};
 ghost use Rattle.tpw_occam_code.specs.Ranges.{full};
-ghost use Rattle.tpw_occam_code.specs.Computing.{ComputesBoth, ComputesTo, ComputesTwo, IsKnownOfBoth, IsKnownOf, IsNoShift};
-ghost use Rattle.tpw_occam_code.specs.Computing.{HasImmediate, IsSimplePair, has_immediate, subscript_value, applied_value};
+ghost use Rattle.tpw_occam_code.specs.Computing.{ComputesBoth, ComputesTo, ComputesTwo, IsKnownOfBoth, IsKnownOf};
+ghost use Rattle.tpw_occam_code.specs.Computing.{IsNoShift};
+ghost use Rattle.tpw_occam_code.specs.Computing.{HasImmediate, IsSimplePair, has_immediate, subscript_value};
+ghost use Rattle.tpw_occam_code.specs.Computing.{applied_value};
 ghost use Rattle.tpw_occam_code.specs.Computing.{applied_last, applied_first};
 
 use crate::code::{Code, Step};
@@ -40,8 +42,10 @@ impl Emitter<'_> {
     ) -> Result<Value, CodeFault>
         ensures knowledge { OnOk result (self.new ≡ self.old) }
         ensures computes { OnOk result ((room.registers ≤ 1 → IsSimplePair self.old operator left.now right.now)
-            → ComputesBoth self.old code.old code.new left.now right.now (applied_value operator left.now right.now) room.registers room.kept) }
-        ensures known { IfOk result (λ value. IsKnownOfBoth self.old left.now right.now (applied_value operator left.now right.now) value) }
+            → ComputesBoth self.old code.old code.new left.now right.now (applied_value operator left.now right.now)
+            room.registers room.kept) }
+        ensures known { IfOk result (λ value. IsKnownOfBoth self.old left.now right.now (applied_value operator
+            left.now right.now) value) }
     {
         if is_shift(operator) {
             let (b, a) = self.shifted(code, left, right, room)?;
@@ -66,9 +70,12 @@ impl Emitter<'_> {
         room: Room,
     ) -> Result<Value, CodeFault>
         ensures knowledge { OnOk result (self.new ≡ self.old) }
-        ensures computes { OnOk result (IsNoShift operator → (room.registers ≤ 1 → HasImmediate self.old operator left.now right.now)
-            → ComputesBoth self.old code.old code.new left.now right.now (applied_value operator left.now right.now) room.registers room.kept) }
-        ensures known { IfOk result (λ value. IsKnownOfBoth self.old left.now right.now (applied_value operator left.now right.now) value) }
+        ensures computes { OnOk result (IsNoShift operator → (room.registers ≤ 1
+            → HasImmediate self.old operator left.now right.now)
+            → ComputesBoth self.old code.old code.new left.now right.now (applied_value operator left.now right.now)
+            room.registers room.kept) }
+        ensures known { IfOk result (λ value. IsKnownOfBoth self.old left.now right.now (applied_value operator
+            left.now right.now) value) }
     {
         if let Some(c) = self.constant_of(right) {
             return self.with_constant(code, operator, left, c, room);
@@ -92,7 +99,8 @@ impl Emitter<'_> {
     ) -> Result<Value, CodeFault>
         ensures knowledge { OnOk result (self.new ≡ self.old) }
         ensures computes { OnOk result (IsNoShift operator → (room.registers ≤ 1 → IsTrue (has_immediate operator c))
-            → ComputesTo self.old code.old code.new left.now (applied_last operator left.now c) room.registers room.kept) }
+            → ComputesTo self.old code.old code.new left.now (applied_last operator left.now c) room.registers
+            room.kept) }
         ensures known { IfOk result (λ value. IsKnownOf self.old left.now (applied_last operator left.now c) value) }
     {
         let b = self.expression(code, left, room)?;
@@ -111,7 +119,8 @@ impl Emitter<'_> {
     ) -> Result<Value, CodeFault>
         ensures knowledge { OnOk result (self.new ≡ self.old) }
         ensures computes { OnOk result (IsNoShift operator → 2 ≤ room.registers
-            → ComputesTo self.old code.old code.new right.now (applied_first operator c right.now) room.registers room.kept) }
+            → ComputesTo self.old code.old code.new right.now (applied_first operator c right.now) room.registers
+            room.kept) }
         ensures known { IfOk result (λ value. IsKnownOf self.old right.now (applied_first operator c right.now) value) }
     {
         if self.need(right) < room.registers {
@@ -136,7 +145,8 @@ impl Emitter<'_> {
         commute: bool,
     ) -> Result<(Value, Value), CodeFault>
         ensures knowledge { OnOk result (self.new ≡ self.old) }
-        ensures computes { OnOk result (ComputesTwo self.old code.old code.new left.now right.now (value_of left.now) (value_of right.now)
+        ensures computes { OnOk result (ComputesTwo self.old code.old code.new left.now right.now (value_of left.now)
+            (value_of right.now)
             commute room.registers room.kept) }
         ensures left { IfOk result (λ both. IsKnownOf self.old left.now (value_of left.now) both.0) }
         ensures right { IfOk result (λ both. IsKnownOf self.old right.now (value_of right.now) both.1) }

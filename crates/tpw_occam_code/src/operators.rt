@@ -6,7 +6,8 @@ ghost use Rattle.tpw_occam_code.specs.Symbolic.{push, number, pair_answer};
 ghost use Rattle.tpw_occam_code.specs.Ranges.{TwinsAgree};
 ghost use Rattle.tpw_occam_code.specs.Leading.{Makes, HasConstants};
 ghost use Rattle.tpw_occam_code.specs.Computing.{IsNoShift, has_immediate, commutes};
-ghost use Rattle.tpw_occam_code.specs.Values.{Answers, WorksOn, Holds, HasOperands, HasCount, answered, working, AreTwins};
+ghost use Rattle.tpw_occam_code.specs.Values.{Answers, WorksOn, Holds, HasOperands, HasCount, answered, working};
+ghost use Rattle.tpw_occam_code.specs.Values.{AreTwins};
 
 use crate::code::Code;
 use crate::expressions::Value;
@@ -84,7 +85,8 @@ fn result_value(operator: Operator, b: Value, a: Value) -> Value
 
 /// Works out an operator on Breg and Areg, whose result always fits or need not.
 fn work_out(code: &mut Code, line: u32, operator: Operator, fits: bool) -> Result<(), CodeFault>
-    ensures { OnOk result ((b a : ℕ) → b < 2 ^ 32 → a < 2 ^ 32 → (IsTrue fits → AreTwins operator b a) → HasCount operator a
+    ensures { OnOk result ((b a : ℕ) → b < 2 ^ 32 → a < 2 ^ 32 → (IsTrue fits → AreTwins operator b a)
+        → HasCount operator a
         → Makes code.old code.new (HasOperands b a) (answered (applied operator b a))) }
 {
     match operator {
@@ -107,7 +109,8 @@ pub(crate) fn apply(
 ) -> Result<Value, CodeFault>
     ensures makes { OnOk result ((vb va : ℕ) → Holds b vb → Holds a va → HasCount operator va
         → Makes code.old code.new (HasOperands vb va) (answered (applied operator vb va))) }
-    ensures swapped { OnOk result ((vb va : ℕ) → Holds b vb → Holds a va → commutes operator ≡ true → HasCount operator vb
+    ensures swapped { OnOk result ((vb va : ℕ) → Holds b vb → Holds a va → commutes operator ≡ true
+        → HasCount operator vb
         → Makes code.old code.new (HasOperands va vb) (answered (applied operator vb va))) }
     ensures holds { IfOk result (λ made. (vb va : ℕ) → Holds b vb → Holds a va
         → Holds made (applied operator vb va).word) }

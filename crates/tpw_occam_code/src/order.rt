@@ -2,7 +2,8 @@
 
 ghost use Rattle.std.specs.Prelude.{◌≡◌, ◌<◌, ◌+◌, ◌++◌, take, drop, length, IsTrue, IfSome, IfOk};
 ghost use Rattle.tpw_occam_code.specs.declared.order.Move.TheVariants.{Keep, Make};
-ghost use Rattle.tpw_occam_code.specs.Ordering.{target_reads, Precedes, PrecedesIn, MayGo, IsAlone, IsMove, Marks, AreAll, SettleAll, waiting_at};
+ghost use Rattle.tpw_occam_code.specs.Ordering.{target_reads, Precedes, PrecedesIn, MayGo, IsAlone, IsMove, Marks};
+ghost use Rattle.tpw_occam_code.specs.Ordering.{AreAll, SettleAll, waiting_at};
 
 use crate::analysis::{is_read, may_be_same};
 use std::alloc::{AllocError, Global};
@@ -120,7 +121,8 @@ fn to_be_kept(waiting: &[Waiting]) -> Option<usize> {
 
 /// Makes the one at a place.
 fn make_at(waiting: &mut Vec<Waiting>, place: usize) -> Option<Move>
-    ensures { IfSome result (λ move. (move ≡ Make (waiting_at waiting.old.items place).number (waiting_at waiting.old.items place).is_kept)
+    ensures { IfSome result (λ move. (move
+        ≡ Make (waiting_at waiting.old.items place).number (waiting_at waiting.old.items place).is_kept)
         × (waiting.new.items ≡ take place waiting.old.items ++ drop (place + 1) waiting.old.items)) }
 {
     if place >= waiting.len() {

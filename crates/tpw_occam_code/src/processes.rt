@@ -15,7 +15,7 @@ ghost use Rattle.tpw_occam_code.specs.Executing.{DeclaresVariable, DeclaresValue
 ghost use Rattle.tpw_occam_code.specs.Executing.{VariableKnown, ValueKnown};
 ghost use Rattle.tpw_occam_code.specs.Moving.{ClearsWords, Moves};
 
-use crate::analysis::{First, first_use, words_of_all};
+use crate::analysis::{First, first_use, law_values_are_words};
 use crate::code::{Code, Step, Turns};
 use crate::emitter::{Emitter, Room, constant, counted, fact_of};
 use crate::expressions::branch;
@@ -161,7 +161,7 @@ impl Emitter<'_> {
             Process::Skip => Ok(()),
             Process::Stop => code.instr(line, Instr::Seterr),
             Process::Assign(list) => {
-                words_of_all(list);
+                law_values_are_words(list);
                 self.assignments(code, list, line)
             }
             Process::Copy { to, from } => self.copy(code, *to, *from, line),

@@ -3,7 +3,8 @@
 //! A check is left out where the text shows that it holds. A mask is left out where the verifier knows the range of
 //! the register.
 
-ghost use Rattle.std.specs.Prelude.{◌≡◌, ◌⊎◌, ◌<◌, ◌≤◌, ◌+◌, ◌*◌, ◌^◌, ◌%◌, ℕ, List, length, slice_index, pos, Some, None, IsTrue, OnOk, IfOk, IfSome, IfNone, bit_and, nat_le};
+ghost use Rattle.std.specs.Prelude.{◌≡◌, ◌⊎◌, ◌<◌, ◌≤◌, ◌+◌, ◌*◌, ◌^◌, ◌%◌, ℕ, List, length, slice_index, pos, Some};
+ghost use Rattle.std.specs.Prelude.{None, IsTrue, OnOk, IfOk, IfSome, IfNone, bit_and, nat_le};
 ghost use Rattle.tpw_occam_core.specs.Arithmetic.{answer, plain, subscript};
 ghost use Rattle.tpw_occam_code.specs.Ranges.{from_to, Contains, ContainsAllOf};
 ghost use Rattle.tpw_occam_core.specs.Arrays.{size, element};
@@ -12,8 +13,10 @@ ghost use Rattle.tpw_occam_core.specs.declared.expression.Operator.TheVariants.{
 ghost use Rattle.tpw_occam_code.specs.Leading.{Does, HasArray, HasWord};
 ghost use Rattle.tpw_occam_code.specs.declared.items.Item.TheVariants.{Variable};
 ghost use Rattle.tpw_occam_code.specs.Agreement.{fact_at, constant_in};
-ghost use Rattle.tpw_occam_code.specs.Computing.{ComputesTo, IsKnownOf, IsConstantBelow, IsByteVariable, IsFixed, IsOffset, IsOffsetOf, subscript_value};
-ghost use Rattle.tpw_occam_code.specs.Values.{Answers, Holds, HasNumber, HasAddress, Replaces, PushesAlone, IsAtElement, PushesAddress, PushesOver, scaled};
+ghost use Rattle.tpw_occam_code.specs.Computing.{ComputesTo, IsKnownOf, IsConstantBelow, IsByteVariable, IsFixed};
+ghost use Rattle.tpw_occam_code.specs.Computing.{IsOffset, IsOffsetOf, subscript_value};
+ghost use Rattle.tpw_occam_code.specs.Values.{Answers, Holds, HasNumber, HasAddress, Replaces, PushesAlone};
+ghost use Rattle.tpw_occam_code.specs.Values.{IsAtElement, PushesAddress, PushesOver, scaled};
 
 use crate::code::{Code, Step};
 use crate::emitter::{Emitter, Room};
@@ -60,7 +63,8 @@ fn exponent_of(size: u32) -> Option<u32>
 /// Takes all bits but the sign of Areg, of which the verifier knows this. There is nothing to do where it is never
 /// below 0.
 fn without_sign(code: &mut Code, line: u32, known: Range) -> Result<(), CodeFault>
-    ensures { OnOk result ((i : ℕ) → i < 2 ^ 32 → Contains known i → Answers code.old code.new 2 i (plain (i % 2 ^ 31))) }
+    ensures { OnOk result ((i : ℕ) → i < 2 ^ 32 → Contains known i
+        → Answers code.old code.new 2 i (plain (i % 2 ^ 31))) }
 {
     if known.is_within(Range::below(MOST_POSITIVE + 1)) {
         return Ok(());
@@ -70,7 +74,8 @@ fn without_sign(code: &mut Code, line: u32, known: Range) -> Result<(), CodeFaul
 
 /// Takes the remainder of Areg by a size; neither is below 0.
 fn remainder(code: &mut Code, line: u32, size: u32) -> Result<(), CodeFault>
-    ensures { OnOk result ((i : ℕ) → i < 2 ^ 31 → 0 < size → size ≤ 2 ^ 31 → Answers code.old code.new 2 i (plain (i % size))) }
+    ensures { OnOk result ((i : ℕ) → i < 2 ^ 31 → 0 < size → size ≤ 2 ^ 31
+        → Answers code.old code.new 2 i (plain (i % size))) }
 {
     code.constant(line, size)?;
     code.instr(line, Instr::Rem)
@@ -326,7 +331,8 @@ impl Emitter<'_> {
 
     /// Whether a name is a BYTE that has a word.
     fn is_byte(&self, x: usize) -> bool
-        ensures { IsTrue result → ((fact_at self.now x).constant ≡ None) × ContainsAllOf (from_to (pos 0) (pos 255)) (fact_at self.now x).source }
+        ensures { IsTrue result → ((fact_at self.now x).constant ≡ None)
+            × ContainsAllOf (from_to (pos 0) (pos 255)) (fact_at self.now x).source }
     {
         let fact = self.fact(x);
         self.kind(x) == Kind::Byte && fact.constant.is_none() && fact.source.is_within(BYTE)
@@ -342,7 +348,8 @@ impl Emitter<'_> {
         room: Room,
     ) -> Result<Value, CodeFault>
         ensures knowledge { OnOk result (self.new ≡ self.old) }
-        ensures computes { OnOk result (0 < size → size ≤ 2 ^ 31 → (room.registers ≤ 1 → IsConstantBelow self.old e.now size)
+        ensures computes { OnOk result (0 < size → size ≤ 2 ^ 31
+            → (room.registers ≤ 1 → IsConstantBelow self.old e.now size)
             → ComputesTo self.old code.old code.new e.now (subscript_value e.now size) room.registers room.kept) }
         ensures known { IfOk result (λ value. 0 < size → size ≤ 2 ^ 31
             → IsKnownOf self.old e.now (subscript_value e.now size) value) }
@@ -415,7 +422,8 @@ impl Emitter<'_> {
         left: &Expression,
         right: &Expression,
     ) -> Option<Offset>
-        ensures { IfSome result (λ offset. IsOffsetOf self.now array kind left.now right.now offset.variable offset.constant) }
+        ensures { IfSome result (λ offset. IsOffsetOf self.now array kind left.now right.now offset.variable
+            offset.constant) }
     {
         let Expression::Variable(x) = left else {
             return None;

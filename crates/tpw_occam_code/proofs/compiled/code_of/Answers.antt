@@ -11,7 +11,7 @@ returns c sound =
     let is = c.in_ok-emitter.ensures in
     let remains = subst (λ k. Remains k w.body) is c.in_ok-process.ensures.remains in
     code_works w c.receive.new.code c.process.new.code c.send.new.code
-    (λ storages scope s place sound known. (remains storages scope s place sound known).knows) sound (has_bytes w c.know_arrays.ensures)
+    (λ storages scope s place sound known. (remains storages scope s place sound known).knows) sound (has_bytes w c.law_arrays.ensures)
     (subst (λ k. Receives k (none_at 0) c.receive.new.code w.receive) is
     (subst (λ old. Receives c.in_ok-emitter.emitter old c.receive.new.code w.receive) c.new-code.ensures c.in_ok-receive.ensures))
     (subst (λ k. Executes k c.receive.new.code c.process.new.code w.body) is c.in_ok-process.ensures.executes)

@@ -94,7 +94,7 @@ process-returns-in-Assign-clause-executes t c =
 pub process-returns-in-Assign-clause-remains : goal.process-returns-in-Assign-clause-remains
 process-returns-in-Assign-clause-remains t c =
     on_ok_weaker c.assignments.result (λ assigns.
-    rw c.in-Assign.is (assign_remains c.args.self.now c.in-Assign.list.items (subst HaveWords c.deref.ensures.value c.words_of_all.ensures))) c.assignments.ensures.assigns
+    rw c.in-Assign.is (assign_remains c.args.self.now c.in-Assign.list.items (subst HaveWords c.deref.ensures.value c.law_values_are_words.ensures))) c.assignments.ensures.assigns
 
 pub process-returns-in-Copy-clause-executes : goal.process-returns-in-Copy-clause-executes
 process-returns-in-Copy-clause-executes t c = on_ok_weaker c.copy.result (λ executes. rw c.in-Copy.is executes) c.copy.ensures
