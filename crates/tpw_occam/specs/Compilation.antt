@@ -1,4 +1,5 @@
--- What compiling a text gives: a worker that is sound, with a program that means what it does, or messages whose places lie in the text.
+-- What compiling a text gives: a worker that is sound, with a program that means what it does, or messages whose places
+-- lie in the text.
 use Rattle.std.specs.Prelude.{◌≡◌, ◌≤◌, ℕ, true, List, Result, Ok, Err, All, length, ⊤}
 use Rattle.tpw_occam_core.specs.Sound.{is_sound}
 use Rattle.tpw_occam_code.specs.Program.{HasLayout, Means}

@@ -1,15 +1,11 @@
 -- What batches give of workers that have a meaning.
-use Rattle.std.specs.Prelude.{◌≡◌, ℕ, ◌<◌, List, All, Some, slice_get}
+use Rattle.std.specs.Prelude.{◌≡◌, ℕ, List, Some, slice_get}
 use Rattle.tp_collect.specs.declared.collected.Entry.{Entry}
 use Rattle.tp_collect.specs.declared.collected.Entry.TheVariants as entry
 use Rattle.tp_collect.specs.DoneValue.{DoneValue}
 use Rattle.tp_collect.specs.Collected.{JobValue}
 use Rattle.tpw_occam_core.specs.declared.worker.Worker.{Worker}
 use Rattle.tpw_occam_core.specs.Meaning.{meaning}
-
--- packets are bytes
-abbrev pub AreBytes : JobValue → Type 0
-AreBytes batch = All (All (λ byte. byte < 256)) batch.packets
 
 -- each result that was collected is what the worker means of its packet
 abbrev pub AreMeant : Worker → JobValue → List Entry → Type 0

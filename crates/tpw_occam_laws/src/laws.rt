@@ -9,19 +9,20 @@ ghost use Rattle.tpw_asm.specs.declared.program.Program.{Program};
 ghost use Rattle.tpw_asm.specs.Assembly.{IsAssembly};
 ghost use Rattle.tpw_occam_core.specs.declared.worker.Worker.{Worker};
 ghost use Rattle.tpw_occam_code.specs.Program.{Means};
-ghost use Rattle.tpw_occam_laws.specs.Meanings.{AreBytes, AreMeant};
+ghost use Rattle.tpw_occam_laws.specs.Meanings.{AreMeant};
 
 use tp_farm::Job;
 
 /// Each result that the farm collects of a compiled worker is what the worker means of its packet: the result's bytes,
 /// the error flag and the trace, whatever the members, their schedule, the devices and the gate are.
 ///
-/// The premises: the image of the job is the one that the worker's program is assembled to, the program means what the
-/// worker does (`compile` answers that of every sound worker), and the batch was run (`run_batch` answers that). A packet
-/// whose traces are longer than 256 bytes means nothing, and has no result.
+/// The premises: the job's image is the one that the worker's program is assembled to, the program means what the
+/// worker does (`compile` answers that of every sound worker), and the batch was run (`run_batch` answers that). A
+/// packet whose traces are longer than 256 bytes means nothing, and has no result.
 pub fn batches_give_meanings(job: &Job<'_>)
-    ensures { (worker : Worker) (program : Program) (open_for_good : Bool) (before after : List Devices) (entries : List Entry) →
-        Means worker program → IsAssembly program job.now.image.now.image → AreBytes (value_of_job job.now) →
+    ensures { (worker : Worker) (program : Program) (open_for_good : Bool) (before after : List Devices)
+        (entries : List Entry) →
+        Means worker program → IsAssembly program job.now.image.now.image →
         IsBatch (value_of_job job.now) open_for_good before after entries →
         AreMeant worker (value_of_job job.now) entries }
 {}

@@ -1,6 +1,8 @@
-use Rattle.std.proofs.Common.{◌≡◌, ◌<◌, ◌≤◌, ◌*◌, ℕ, List, Option, Some, None, refl, ap, sym, subst, ◌∙◌, arith, length}
-use Rattle.std.specs.Prelude.{slice_get, All}
+use Rattle.std.proofs.Common.{◌≡◌, ◌≤◌, Option, Some, None, refl, ap, sym, subst, ◌∙◌, arith, length}
+use Rattle.std.specs.Prelude.{slice_get}
 use Rattle.std.proofs.lemmas.Option.{same_Some}
+use Rattle.tp_accept.specs.Ending.{IsPacket}
+use Rattle.tp_farm.specs.Jobs.{value_of_job}
 use Rattle.tp_step.specs.Runs.{RunsAlone}
 use Rattle.tp_collect.specs.declared.collected.Entry.TheVariants as entry
 use Rattle.tp_collect.specs.DoneValue.{DoneValue, run_of_done}
@@ -16,12 +18,14 @@ given done (Some meant) gives short = rw gives.0 (rw gives.1 (rw gives.2 refl))
 given done None long short = absurd (omega (arith, long, short))
 
 pub returns : goal.returns
-returns c worker program open_for_good before after entries means assembly bytes batch i done packet there packet_there =
+returns c worker program open_for_good before after entries means assembly batch i done packet there packet_there =
+    let job = value_of_job c.args.job.now in
     let result = batch.collected.each i (entry.Done done) there in
+    let whole = all_get (IsPacket job.image) job.packets i packet batch.packets packet_there in
     let same : packet ≡ done.bytes = same_Some _ _ (sym packet_there ∙ ap (slice_get _) (sym result.number) ∙ result.names.packet) in
     let run = subst (λ image. RunsAlone image packet (run_of_done done)) result.names.image
     (subst (λ b. RunsAlone done.image b (run_of_done done)) (sym same) result.alone.run) in
     given done (meaning worker packet)
-    (means _ packet (run_of_done done) assembly
-    (record { size = all_get _ _ i packet batch.packets packet_there; bytes = all_get _ _ i packet bytes packet_there }) run)
+    (means.runs _ packet (run_of_done done) assembly
+    (record { size = whole.long; bytes = whole.bytes }) run)
     result.alone.short
