@@ -1,5 +1,5 @@
 -- What code makes of a number in Areg.
-use Rattle.std.proofs.Common.{◌≡◌, ◌+◌, ◌≤◌, ◌<◌, [], ◌∷◌, ℕ, List, Option, Some, None, Bool, false, refl, ap, sym, subst, ◌∙◌, arith}
+use Rattle.std.proofs.Common.{◌≡◌, [], ◌∷◌, ℕ, Some, refl, ap, sym, ◌∙◌, arith}
 use Rattle.std.specs.Prelude.{◌||◌, nat_le}
 use Rattle.std.proofs.Math.Bool.{or_assoc, or-false}
 use Rattle.tp_decode.specs.declared.instr.Instr.{Instr}
@@ -9,7 +9,7 @@ use Rattle.tpw_occam_core.specs.Arithmetic.{answer, plain}
 use Rattle.tpw_occam_code.specs.declared.code.Step.TheVariants.{Plain}
 use Rattle.tpw_occam_code.specs.Code.{Lines, followed_by, line_of, place_behind}
 use Rattle.tpw_occam_code.specs.Symbolic.{Machine, pair_answer, effect, performed, at_place, number, push, pop, raised}
-use Rattle.tpw_occam_code.specs.Leading.{Makes, Does, HasConstants}
+use Rattle.tpw_occam_code.specs.Leading.{Makes, HasConstants}
 use Rattle.tpw_occam_core.specs.declared.expression.Operator.{Operator}
 use Rattle.tpw_occam_core.specs.declared.expression.Operator.TheVariants.{ShiftLeft, ShiftRight}
 use Rattle.tpw_occam_code.specs.Computing.{IsNoShift}

@@ -21,7 +21,7 @@ use Rattle.tpw_occam_code.specs.declared.items.Item.TheVariants as item
 use Rattle.tpw_occam_code.specs.declared.code.Step.TheVariants.{Plain, Load, Store as StoreTo}
 use Rattle.tpw_occam_code.specs.Code.{Lines, followed_by, line_of}
 use Rattle.tpw_occam_code.specs.Symbolic.{effect, performed}
-use Rattle.tpw_occam_code.specs.Leading.{Does, HasWord, word_bytes}
+use Rattle.tpw_occam_code.specs.Leading.{Does, HasWord}
 use Rattle.tpw_occam_code.specs.Values.{Holds, HasNumber, HasAddress, Pushes, Answers, scaled}
 use Rattle.tpw_occam_code.specs.Agreement.{Knowledge, elements_of, Agrees, LeavesItems}
 use Rattle.tpw_occam_code.specs.Computing.{MayStand, Computes, ComputesTo, IsKnown, IsKnownOf, IsFixed, IsOffset, subscript_value}

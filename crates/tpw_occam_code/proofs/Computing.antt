@@ -1,31 +1,30 @@
 -- How the code of expressions is put together.
-use Rattle.std.proofs.Common.{◌≡◌, ◌+◌, ◌*◌, ◌^◌, ◌≤◌, ◌<◌, [], ◌∷◌, ℕ, zero, suc, List, length, Option, Some, None, Bool, false, true, refl, ap, sym, subst, ◌∙◌, arith, w32}
+use Rattle.std.proofs.Common.{◌≡◌, ◌+◌, ◌^◌, ◌≤◌, ◌<◌, [], ◌∷◌, ℕ, zero, suc, List, Some, None, Bool, false, true, refl, ap, sym, subst, ◌∙◌, arith, w32}
 use Rattle.std.specs.Prelude.{slice_index, ◌||◌, IsTrue}
 use Rattle.std.specs.List.{list_any}
-use Rattle.std.specs.Int.{from_le_bytes, to_le_bytes}
-use Rattle.std.proofs.Math.Bool.{or_assoc, or-false}
+use Rattle.std.specs.Int.{from_le_bytes}
+use Rattle.std.proofs.Math.Bool.{or_assoc}
 use Rattle.std.proofs.lemmas.Bool.{le-leb, eq-eqb}
 use Rattle.std.proofs.lemmas.Nat.{from_le_bytes-to_le_bytes_4}
 use Rattle.tpw_occam_core.specs.declared.arithmetic.Answer.{Answer}
 use Rattle.tpw_occam_core.specs.declared.scope.Entry.{Entry}
 use Rattle.tpw_occam_core.specs.Arithmetic.{answer, plain}
-use Rattle.tpw_occam_core.specs.Meaning.{Store, array_of}
-use Rattle.tpw_occam_core.specs.Sound.{is_name, is_array}
+use Rattle.tpw_occam_core.specs.Meaning.{Store}
+use Rattle.tpw_occam_core.specs.Sound.{is_name}
 use Rattle.tpw_occam_code.specs.declared.items.Item.{Item}
-use Rattle.tpw_occam_code.specs.declared.items.Item.TheVariants.{Variable, Temporary, Constant, Array, Zeros}
+use Rattle.tpw_occam_code.specs.declared.items.Item.TheVariants.{Variable, Constant, Array}
 use Rattle.tpw_occam_code.specs.declared.code.Step.TheVariants.{Load}
 use Rattle.tpw_occam_code.specs.Code.{Lines, followed_by, line_of, place_behind}
 use Rattle.tpw_occam_code.specs.Blocks.{Blocks, bytes_at, word_at}
 use Rattle.tpw_occam_code.specs.Symbolic.{Machine, performed, at_place, number, push}
-use Rattle.tpw_occam_code.specs.Leading.{Does, HasConstants, HasArray, HasWord, Makes}
-use Rattle.tpw_occam_code.specs.Values.{Holds, Replaces, Pushes, PushesAlone, Answers, HasNumber}
+use Rattle.tpw_occam_code.specs.Leading.{Does, HasConstants, HasWord, Makes}
+use Rattle.tpw_occam_code.specs.Values.{Holds, Replaces, Pushes, PushesAlone, Answers}
 use Rattle.tpw_occam_core.specs.declared.worker.Storage.{Storage}
-use Rattle.tpw_occam_core.specs.declared.expression.Expression.{Expression}
 use Rattle.tpw_occam_core.specs.declared.expression.Expression.TheVariants as expression
 use Rattle.tpw_occam_code.specs.declared.expressions.Value.{Value}
 use Rattle.tpw_occam_code.specs.Ranges.{Contains}
-use Rattle.tpw_occam_code.specs.Computing.{Computes, IsKnown, MayStand, Suffices}
-use Rattle.tpw_occam_code.specs.Agreement.{Knowledge, fact_at, Knows, Agrees, LeavesItems, Stays}
+use Rattle.tpw_occam_code.specs.Computing.{Computes, IsKnown, MayStand}
+use Rattle.tpw_occam_code.specs.Agreement.{Knowledge, fact_at, Agrees, LeavesItems}
 use Rattle.tpw_occam_code.proofs.Leading.{does_both, does_less, does_step}
 use Rattle.tpw_occam_code.proofs.Elements.{pushes_alone}
 

@@ -1,6 +1,6 @@
 -- The code of NOT, AND and OR.
-use Rattle.std.proofs.Common.{◌≡◌, ◌⊎◌, inl, inr, ◌+◌, ◌-◌, ◌%◌, ◌^◌, ◌≤◌, ◌<◌, [], ◌∷◌, ◌++◌, ℕ, zero, suc, List, length, Option, Some, None, Bool, false, true, nat_eq, refl, ap, sym, subst, ◌∙◌, arith, append_assoc, length-append}
-use Rattle.std.specs.Prelude.{slice_get, ◌||◌, ◌&&◌, ◌==◌, not, nat_lt, IsTrue, pos, int_lt}
+use Rattle.std.proofs.Common.{◌≡◌, ◌⊎◌, inl, inr, ◌+◌, ◌^◌, ◌≤◌, ◌<◌, [], ◌∷◌, ◌++◌, ℕ, zero, suc, List, length, Option, Some, None, Bool, false, true, nat_eq, refl, ap, sym, subst, ◌∙◌, arith, append_assoc, length-append}
+use Rattle.std.specs.Prelude.{slice_get, ◌||◌, ◌==◌, nat_lt, IsTrue, pos, int_lt}
 use Rattle.std.specs.Option.{option_map_or}
 use Rattle.std.specs.Ordering.{int_eq}
 use Rattle.std.proofs.Math.Bool.{or_assoc, or-false}
@@ -15,24 +15,24 @@ use Rattle.tpw_occam_core.specs.declared.scope.Entry.{Entry}
 use Rattle.tpw_occam_core.specs.declared.expression.Operator.{Operator}
 use Rattle.tpw_occam_core.specs.declared.expression.Operator.TheVariants.{Greater}
 use Rattle.tpw_occam_core.specs.declared.expression.Expression.{Expression}
-use Rattle.tpw_occam_core.specs.declared.expression.Expression.TheVariants.{Constant, Variable, Element', Checked', Binary', Complement', Not', LowByte', And', Or', Let'}
+use Rattle.tpw_occam_core.specs.declared.expression.Expression.TheVariants.{Binary', Not', And', Or'}
 use Rattle.tpw_occam_core.specs.Arithmetic.{answer, plain, applied}
 use Rattle.tpw_occam_core.specs.Meaning.{Store, followed, value_of, both, either}
 use Rattle.tpw_occam_code.specs.declared.code.Step.TheVariants.{Plain, CjTo}
 use Rattle.tpw_occam_code.specs.declared.code.CodeLine.{CodeLine}
 use Rattle.tpw_occam_code.specs.declared.expressions.Value.{Value}
 use Rattle.tpw_occam_code.specs.Code.{Lines, none_at, followed_by, joined, line_of, place_behind}
-use Rattle.tpw_occam_code.specs.Symbolic.{Machine, Leads, nowhere, onward, effect, performed, at_place, number, pop, set_areg}
-use Rattle.tpw_occam_code.specs.Leading.{Does, IsBefore, Arrives, HasLines, HasConstants, Serves}
-use Rattle.tpw_occam_code.specs.Values.{Holds, HasNumber, Replaces, Pushes, Answers}
-use Rattle.tpw_occam_code.specs.Agreement.{Knowledge, constant_in, Knows, Agrees, LeavesItems}
-use Rattle.tpw_occam_code.specs.Computing.{IsPlace, MayStand, Suffices, Computes, ComputesTo, IsKnown, IsKnownOf, inverse_of, applied_value, applied_last, applied_first, is_simple, is_immediate, has_immediate, commutes, IsSuccessor, IsPredecessor, IsNoShift}
-use Rattle.tpw_occam_code.proofs.Leading.{does_both, does_less, does_step, step_is, leads_then, has_first}
+use Rattle.tpw_occam_code.specs.Symbolic.{Machine, nowhere, onward, effect, performed, at_place, number, pop, set_areg}
+use Rattle.tpw_occam_code.specs.Leading.{Does, IsBefore, Arrives, HasLines}
+use Rattle.tpw_occam_code.specs.Values.{Holds, HasNumber, Pushes, Answers}
+use Rattle.tpw_occam_code.specs.Agreement.{Knowledge, constant_in, Agrees, LeavesItems}
+use Rattle.tpw_occam_code.specs.Computing.{MayStand, Suffices, Computes, ComputesTo, IsKnown, IsKnownOf, inverse_of, applied_last, applied_first, is_simple, is_immediate, has_immediate, IsSuccessor, IsPredecessor, IsNoShift}
+use Rattle.tpw_occam_code.proofs.Leading.{does_less, does_step, step_is, leads_then, has_first}
 use Rattle.tpw_occam_code.proofs.Elements.{replaces_set}
 use Rattle.tpw_occam_code.proofs.Inverses.{greater_inverse, less_inverse}
 use Rattle.tpw_occam_code.proofs.Words.{zero_read}
-use Rattle.tpw_occam_code.proofs.Computing.{agrees_after, leaves_then, replaces_more}
-use Rattle.tpw_occam_code.proofs.Constructs.{computes_then, Goes, goes_by, constant_value}
+use Rattle.tpw_occam_code.proofs.Computing.{agrees_after}
+use Rattle.tpw_occam_code.proofs.Constructs.{computes_then, goes_by, constant_value}
 use Rattle.tpw_occam_code.proofs.Standing.{Place, stand_binary, stand_not, stand_and, stand_or, suffices_two, suffices_part, and_first, and_second}
 
 false_true : ◌≡◌ {A = Bool} false true → ⊥

@@ -1,7 +1,7 @@
 -- Arrays that are written whole.
-use Rattle.std.proofs.Common.{◌≡◌, ◌≢◌, ◌⊎◌, inl, inr, ◌+◌, ◌-◌, ◌*◌, ◌/◌, ◌^◌, ◌≤◌, ◌<◌, [], ◌∷◌, ◌++◌, ℕ, zero, suc, List, length, map, replicate, Bool, false, true, nat_eq, get_or, refl, ap, sym, subst, ◌∙◌, arith}
-use Rattle.std.specs.Prelude.{slice_index, slice_index_or, slice_set, slice_get, if◌then◌else◌, ◌&&◌, ◌||◌, not, nat_lt, nat_le, IsTrue}
-use Rattle.std.specs.List.{list_any, list_all}
+use Rattle.std.proofs.Common.{◌≡◌, ◌≢◌, ◌+◌, ◌-◌, ◌*◌, ◌≤◌, ◌<◌, [], ◌∷◌, ◌++◌, ℕ, zero, suc, List, length, replicate, Bool, false, true, nat_eq, refl, ap, sym, subst, ◌∙◌, arith}
+use Rattle.std.specs.Prelude.{slice_index, slice_get, if◌then◌else◌, ◌&&◌, ◌||◌, not, nat_lt, nat_le, IsTrue}
+use Rattle.std.specs.List.{list_any}
 use Rattle.std.proofs.Math.ListN as math
 use Rattle.std.proofs.Math.Bool.{and-true, or-false}
 use Rattle.std.proofs.lemmas.Bool.{ltb-true, leb-true, eqb-true, eqb-false}
@@ -16,15 +16,13 @@ use Rattle.tpw_occam_core.specs.Meaning.{Store, array_of, with_array}
 use Rattle.tpw_occam_core.specs.Sound.{is_name, is_array, is_written, is_new_array, is_sized, bytes_of, storage_of, is_table}
 use Rattle.tpw_occam_code.specs.declared.items.Item.{Item}
 use Rattle.tpw_occam_code.specs.declared.items.Item.TheVariants.{Variable, Constant, Array, Zeros}
-use Rattle.tpw_occam_code.specs.declared.code.Step.TheVariants.{Pointer}
 use Rattle.tpw_occam_code.specs.Code.{Lines}
-use Rattle.tpw_occam_code.specs.Blocks.{is_item, bytes_at, with_bytes}
+use Rattle.tpw_occam_code.specs.Blocks.{is_item, bytes_at}
 use Rattle.tpw_occam_code.specs.Symbolic.{Machine}
-use Rattle.tpw_occam_code.specs.Leading.{Does, HasArray, word_bytes}
+use Rattle.tpw_occam_code.specs.Leading.{HasArray, word_bytes}
 use Rattle.tpw_occam_code.specs.Agreement.{Knowledge}
-use Rattle.tpw_occam_code.specs.Computing.{IsPlace}
-use Rattle.tpw_occam_code.specs.Executing.{IsProcessPlace, MayRun, KnowsState, Matches, LeavesCounts, Clears, Executes, cleared, cleared_bytes}
-use Rattle.tpw_occam_code.specs.Moving.{HasStep, Writes, Moves, HasCleared, ClearsWords}
+use Rattle.tpw_occam_code.specs.Executing.{IsProcessPlace, KnowsState, Matches, LeavesCounts, Clears, Executes, cleared_bytes}
+use Rattle.tpw_occam_code.specs.Moving.{Moves, ClearsWords}
 use Rattle.tpw_occam_code.proofs.Leading.{does_within, does_less, does_nothing}
 use Rattle.tpw_occam_code.proofs.Keeping.{other_item}
 use Rattle.tpw_occam_code.proofs.Moving.{written, length_bytes_at, index_bytes_at, constants_stay}

@@ -1,5 +1,5 @@
 -- Elements of arrays in machines.
-use Rattle.std.proofs.Common.{◌≡◌, ◌+◌, ◌*◌, ◌/◌, ◌%◌, ◌≤◌, ◌<◌, [], ◌∷◌, ℕ, List, length, Option, Some, None, Bool, false, true, refl, ap, sym, subst, ◌∙◌, arith, w32}
+use Rattle.std.proofs.Common.{◌≡◌, ◌+◌, ◌*◌, ◌/◌, ◌%◌, ◌≤◌, ◌<◌, [], ◌∷◌, ℕ, List, length, Some, false, refl, ap, sym, subst, ◌∙◌, arith, w32}
 use Rattle.std.specs.Prelude.{slice_index, pos, ◌||◌}
 use Rattle.std.specs.Prelude.{ℤ, ◌^◌}
 use Rattle.std.proofs.lemmas.Nat.{from_le_bytes-to_le_bytes_4}
@@ -17,9 +17,9 @@ use Rattle.tpw_occam_code.specs.declared.items.Item.TheVariants.{Array, Variable
 use Rattle.tpw_occam_code.specs.declared.code.Step.TheVariants.{Plain, Load, Pointer}
 use Rattle.tpw_occam_code.specs.Code.{Lines, followed_by, line_of, place_behind}
 use Rattle.tpw_occam_code.specs.Blocks.{bytes_at, word_at}
-use Rattle.tpw_occam_code.specs.Symbolic.{Machine, effect, performed, at_place, number, address, push, set_areg, replace_pair, has_bytes}
+use Rattle.tpw_occam_code.specs.Symbolic.{Machine, effect, performed, at_place, number, address, push, set_areg, replace_pair}
 use Rattle.tpw_occam_code.specs.Leading.{Does, HasArray, HasWord, word_bytes}
-use Rattle.tpw_occam_code.specs.Values.{HasNumber, Replaces, Pushes, PushesAlone, PushesOver, PushesAddress, HasAddress, IsAtElement, scaled}
+use Rattle.tpw_occam_code.specs.Values.{HasNumber, Replaces, PushesAlone, PushesOver, PushesAddress, HasAddress, IsAtElement, scaled}
 use Rattle.tpw_occam_code.proofs.Leading.{does_step, does_served, does_both, does_less}
 
 four : {a a' b b' c c' d d' : ℕ} → a ≡ a' → b ≡ b' → c ≡ c' → d ≡ d'

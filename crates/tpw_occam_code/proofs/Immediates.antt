@@ -1,6 +1,6 @@
 -- Operators with a constant as their right operand.
 use Rattle.std.proofs.Common.{◌≡◌, ◌⊎◌, inl, inr, ◌+◌, ◌-◌, ◌%◌, ◌^◌, ◌<◌, ◌≤◌, [], ◌∷◌, ℕ, suc, ℤ, pos, negsuc, ◌+ℤ◌, ◌-ℤ◌, Option, Some, None, Bool, false, true, nat_eq, refl, ap, sym, subst, ◌∙◌, arith, w32}
-use Rattle.std.specs.Prelude.{not, ◌&&◌, ◌||◌, ◌==◌, if◌then◌else◌, is_some}
+use Rattle.std.specs.Prelude.{not, ◌&&◌, ◌==◌, if◌then◌else◌}
 use Rattle.std.specs.Option.{option_map, option_and_then}
 use Rattle.std.specs.Ordering.{int_eq}
 use Rattle.std.specs.Int.{cast_signed, cast_unsigned}
@@ -9,18 +9,18 @@ use Rattle.std.proofs.lemmas.Option.{same_Some}
 use Rattle.std.proofs.lemmas.Bool.{cases_lt, eqb-false}
 use Rattle.std.proofs.lemmas.Bool.Decides.{nat_tests}
 use Rattle.std.proofs.Math.Bool.{or-false}
-use Rattle.tp_decode.specs.Words.{signed, low_word}
+use Rattle.tp_decode.specs.Words.{signed}
 use Rattle.tp_decode.specs.declared.instr.Instr.{Instr}
 use Rattle.tp_decode.specs.declared.instr.Instr.TheVariants.{Adc, Eqc}
-use Rattle.tp_step.specs.Numbers.{overflows, truth}
-use Rattle.tpw_occam_core.specs.Arithmetic.{checked, plain, applied}
+use Rattle.tp_step.specs.Numbers.{truth}
+use Rattle.tpw_occam_core.specs.Arithmetic.{checked, applied}
 use Rattle.tpw_occam_core.specs.declared.expression.Operator.{Operator}
 use Rattle.tpw_occam_core.specs.declared.expression.Operator.TheVariants.{Add, Subtract, Plus, Minus, Equal}
 use Rattle.tpw_occam_code.specs.declared.code.Step.TheVariants.{Plain}
-use Rattle.tpw_occam_code.specs.Code.{Lines, followed_by, line_of, place_behind}
-use Rattle.tpw_occam_code.specs.Symbolic.{Machine, effect, performed, at_place, number, set_areg, raised}
+use Rattle.tpw_occam_code.specs.Code.{Lines, followed_by, line_of}
+use Rattle.tpw_occam_code.specs.Symbolic.{effect, performed, at_place, number, set_areg}
 use Rattle.tpw_occam_code.specs.Computing.{immediate_of, operand_of, is_short}
-use Rattle.tpw_occam_code.specs.Values.{HasNumber, WorksOn, Answers, Replaces, answered_one}
+use Rattle.tpw_occam_code.specs.Values.{HasNumber, WorksOn, Answers, answered_one}
 use Rattle.tpw_occam_code.proofs.Words.{signed_high}
 use Rattle.tpw_occam_code.proofs.Computing.{replaces_more}
 use Rattle.tpw_occam_core.specs.declared.arithmetic.Answer.{Answer}

@@ -1,16 +1,15 @@
 -- The arithmetic of subscripts.
-use Rattle.std.proofs.Common.{◌≡◌, ◌⊎◌, inl, inr, zero, ◌+◌, ◌-◌, ◌*◌, ◌/◌, ◌%◌, ◌^◌, ◌≤◌, ◌<◌, ℕ, suc, ℤ, pos, negsuc, ◌≤ℤ◌, Bool, true, false, ◌||◌, nat_lt, refl, ap, sym, ◌∙◌, arith, w32}
-use Rattle.std.specs.Prelude.{nat_le, bit_and, max, int_rem, if◌then◌else◌}
+use Rattle.std.proofs.Common.{◌≡◌, ◌⊎◌, inl, inr, zero, ◌+◌, ◌-◌, ◌%◌, ◌^◌, ◌≤◌, ◌<◌, ℕ, suc, ℤ, pos, negsuc, Bool, true, false, ◌||◌, refl, ap, sym, ◌∙◌, arith, w32}
+use Rattle.std.specs.Prelude.{nat_le, bit_and, max, int_rem}
 use Rattle.std.specs.Ordering.{int_eq}
 use Rattle.std.proofs.lemmas.Int.{ints, to_z_pos}
 use Rattle.std.proofs.lemmas.Bool.{cases_lt, le-ltb, lt-ltb, le-leb, lt-leb}
 use Rattle.std.proofs.Math.Nat.{mod-lt, mod-eq_of_lt}
 use Rattle.std.proofs.lemmas.Bool.Decides.{nat_tests, Decides-int_eq}
-use Rattle.std.proofs.Math.Bool.{or-false}
 use Rattle.std.proofs.Math.Pow.{mod-mod-pow}
 use Rattle.std.proofs.lemmas.Nat.{and_mask}
 use Rattle.tpw_occam_code.specs.Ranges.{from_to, Contains}
-use Rattle.tp_decode.specs.Words.{signed, low_word}
+use Rattle.tp_decode.specs.Words.{signed}
 use Rattle.tpw_occam_core.specs.declared.expression.Operator.TheVariants.{Remainder}
 use Rattle.tpw_occam_core.specs.Arithmetic.{answer, plain, applied, subscript, divided}
 

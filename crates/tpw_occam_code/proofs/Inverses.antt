@@ -1,9 +1,8 @@
 -- Inverses of comparisons.
-use Rattle.std.proofs.Common.{◌≡◌, ◌⊎◌, inl, inr, ◌+◌, ◌-◌, ◌%◌, ◌^◌, ◌<◌, ◌≤◌, ℕ, zero, suc, ℤ, pos, negsuc, ◌+ℤ◌, ◌-ℤ◌, Bool, true, false, nat_eq, refl, ap, sym, subst, ◌∙◌, arith, w32}
-use Rattle.std.specs.Prelude.{not, int_lt, int_le, ◌==◌, ◌≢◌}
+use Rattle.std.proofs.Common.{◌≡◌, ◌⊎◌, inl, inr, ◌+◌, ◌-◌, ◌%◌, ◌^◌, ◌<◌, ◌≤◌, ℕ, ℤ, pos, ◌+ℤ◌, ◌-ℤ◌, Bool, true, false, refl, ap, sym, ◌∙◌, arith, w32}
+use Rattle.std.specs.Prelude.{not, int_lt, ◌==◌, ◌≢◌}
 use Rattle.std.proofs.lemmas.Int.{ints, to_z_pos}
 use Rattle.std.proofs.lemmas.Bool.{cases_lt}
-use Rattle.std.proofs.lemmas.Bool.Decides.{nat_tests}
 use Rattle.tp_decode.specs.Words.{signed}
 use Rattle.tp_step.specs.Numbers.{truth}
 use Rattle.tpw_occam_code.proofs.Words.{signed_high}

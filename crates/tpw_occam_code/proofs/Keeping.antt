@@ -1,8 +1,6 @@
 -- Words that are written, kept and read again.
-use Rattle.std.proofs.Common.{◌≡◌, ◌+◌, ◌-◌, ◌*◌, ◌^◌, ◌≤◌, ◌<◌, [], ◌∷◌, ℕ, zero, suc, List, length, Option, Some, None, Bool, false, true, nat_eq, refl, ap, sym, subst, ◌∙◌, arith, w32}
-use Rattle.std.specs.Prelude.{slice_index, ◌&&◌, ◌||◌, nat_le, nat_lt, if◌then◌else◌, IsTrue}
+use Rattle.std.proofs.Common.{◌≡◌, ◌+◌, ◌^◌, ◌<◌, [], ◌∷◌, ℕ, List, Some, Bool, false, true, nat_eq, refl, ap, ◌∙◌, arith, w32}
 use Rattle.std.specs.Int.{to_le_bytes}
-use Rattle.std.proofs.Math.Bool.{or-false}
 use Rattle.std.proofs.lemmas.Bool.{le-leb, eq-eqb, eqb-true}
 use Rattle.tpw_occam_core.specs.declared.scope.Entry.{Entry}
 use Rattle.tpw_occam_core.specs.Arithmetic.{plain}
@@ -10,7 +8,7 @@ use Rattle.tpw_occam_code.specs.declared.items.Item.{Item}
 use Rattle.tpw_occam_code.specs.declared.items.Item.TheVariants.{Variable, Temporary, Constant, Array, Zeros}
 use Rattle.tpw_occam_code.specs.declared.code.Step.TheVariants.{Load, Store}
 use Rattle.tpw_occam_code.specs.Code.{Lines, followed_by, line_of, place_behind}
-use Rattle.tpw_occam_code.specs.Blocks.{Blocks, is_item, sort_of, number_of, with_bytes, bytes_at, word_at, with_word}
+use Rattle.tpw_occam_code.specs.Blocks.{Blocks, is_item, sort_of, number_of, with_bytes, bytes_at, with_word}
 use Rattle.tpw_occam_code.specs.Symbolic.{Machine, performed, at_place, number, push, pop, with_blocks}
 use Rattle.tpw_occam_code.specs.Leading.{Does, HasWord}
 use Rattle.tpw_occam_code.specs.Values.{HasNumber, PushesAlone}

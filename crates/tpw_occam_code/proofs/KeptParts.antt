@@ -22,7 +22,7 @@ use Rattle.tpw_occam_code.specs.declared.code.Step.TheVariants.{Load, Store as S
 use Rattle.tpw_occam_code.specs.Code.{Lines, followed_by, line_of}
 use Rattle.tpw_occam_code.specs.Blocks.{with_bytes, word_at, bytes_at}
 use Rattle.tpw_occam_code.specs.Symbolic.{Machine, number}
-use Rattle.tpw_occam_code.specs.Leading.{Does, HasConstants, HasWord, word_bytes}
+use Rattle.tpw_occam_code.specs.Leading.{Does, HasConstants, HasWord}
 use Rattle.tpw_occam_code.specs.Ranges.{full, Contains}
 use Rattle.tpw_occam_code.specs.Values.{Holds, HasNumber, HasOperands, HasAddress, Pushes, PushesAlone, Answers, scaled}
 use Rattle.tpw_occam_code.specs.Agreement.{Knowledge, elements_of, Agrees, LeavesItems}

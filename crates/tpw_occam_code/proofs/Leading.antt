@@ -1,12 +1,12 @@
 -- How what parts of a code do makes what the whole does.
-use Rattle.std.proofs.Common.{◌≡◌, ◌≤◌, ◌<◌, ◌+◌, ◌-◌, ◌*◌, ℕ, zero, suc, List, [], ◌∷◌, ◌++◌, length, refl, ap, sym, subst, ◌∙◌, arith, Some, None, Option, Bool, false, true, append_assoc, length-append}
+use Rattle.std.proofs.Common.{◌≡◌, ◌<◌, ◌+◌, ℕ, zero, suc, List, [], ◌∷◌, ◌++◌, length, refl, ap, sym, subst, ◌∙◌, arith, Some, false, append_assoc, length-append}
 use Rattle.std.specs.Prelude.{slice_get}
 use Rattle.std.proofs.lemmas.List.{append-nil}
 use Rattle.tpw_occam_code.specs.declared.code.Step.{Step}
 use Rattle.tpw_occam_code.specs.declared.code.CodeLine.{CodeLine}
 use Rattle.tpw_occam_code.specs.Code.{Lines, place_behind, followed_by, line_of}
 use Rattle.tpw_occam_code.specs.Symbolic.{Machine, Leads, nowhere, onward, step, performed, at_place}
-use Rattle.tpw_occam_code.specs.Leading.{Serves, HasLines, IsBefore, Arrives, Does, Makes}
+use Rattle.tpw_occam_code.specs.Leading.{Serves, HasLines, Does, Makes}
 use Rattle.tpw_occam_code.specs.Moving.{HasStep}
 
 -- ---- ways

@@ -1,11 +1,11 @@
 -- What instructions make of machines.
-use Rattle.std.proofs.Common.{◌≡◌, ◌+◌, ◌<◌, [], ◌∷◌, ℕ, Option, Some, None, refl, ap, sym, ◌∙◌}
+use Rattle.std.proofs.Common.{◌≡◌, ◌+◌, ◌<◌, [], ◌∷◌, ℕ, Some, refl, ap, ◌∙◌}
 use Rattle.tp_decode.specs.declared.instr.Instr.{Instr}
 use Rattle.tp_decode.specs.declared.instr.Instr.TheVariants.{Eqc, Diff, Add, Prod, Gt, Sub, Rem, Div, BitXor, Shr, Shl, BitAnd, BitOr, Sum, Mul}
 use Rattle.tpw_occam_core.specs.declared.arithmetic.Answer.{Answer}
 use Rattle.tpw_occam_code.specs.declared.code.Step.TheVariants.{Plain}
 use Rattle.tpw_occam_code.specs.Code.{Lines, followed_by, line_of, place_behind}
-use Rattle.tpw_occam_code.specs.Symbolic.{Machine, pair_answer, pair_effect, effect, performed, at_place, number_in, number, set_areg}
+use Rattle.tpw_occam_code.specs.Symbolic.{Machine, pair_answer, pair_effect, effect, performed, at_place, number, set_areg}
 use Rattle.tpw_occam_code.specs.Leading.{Makes}
 use Rattle.tpw_occam_code.specs.Values.{HasOperands, HasNumber, answered, working}
 use Rattle.tpw_occam_core.specs.Arithmetic.{plain, applied}

@@ -25,7 +25,7 @@ use Rattle.tpw_occam_code.specs.declared.code.Step.TheVariants.{Load}
 use Rattle.tpw_occam_code.specs.Code.{Lines, followed_by, line_of}
 use Rattle.tpw_occam_code.specs.Blocks.{Blocks, with_bytes, with_word, bytes_at}
 use Rattle.tpw_occam_code.specs.Symbolic.{Machine}
-use Rattle.tpw_occam_code.specs.Leading.{Does, HasWord, HasArray}
+use Rattle.tpw_occam_code.specs.Leading.{HasWord, HasArray}
 use Rattle.tpw_occam_code.specs.Values.{scaled}
 use Rattle.tpw_occam_code.specs.Agreement.{Knowledge, fact_at, Knows, Agrees}
 use Rattle.tpw_occam_code.specs.Computing.{IsPlace, MayStand, ComputesTo, reads}

@@ -1,6 +1,6 @@
 -- Words that are copied and cleared.
-use Rattle.std.proofs.Common.{◌≡◌, ◌⊎◌, inl, inr, ◌+◌, ◌-◌, ◌*◌, ◌/◌, ◌^◌, ◌≤◌, ◌<◌, [], ◌∷◌, ◌++◌, ℕ, zero, suc, List, length, Option, Some, None, Bool, false, true, nat_eq, min, refl, ap, sym, subst, ◌∙◌, arith, w32}
-use Rattle.std.specs.Prelude.{slice_index, slice_get, ◌&&◌, nat_le, nat_lt, if◌then◌else◌}
+use Rattle.std.proofs.Common.{◌≡◌, ◌⊎◌, inl, inr, ◌+◌, ◌-◌, ◌*◌, ◌≤◌, ◌<◌, [], ◌∷◌, ℕ, zero, suc, List, length, Bool, false, true, min, refl, ap, sym, subst, ◌∙◌, arith, w32}
+use Rattle.std.specs.Prelude.{slice_index, slice_get, nat_le, if◌then◌else◌}
 use Rattle.std.specs.Int.{to_le_bytes}
 use Rattle.std.proofs.Math.Nat.{min-eq_left, min-eq_right}
 use Rattle.std.proofs.lemmas.Bool.{le-leb, lt-leb, lt-ltb, cases_lt}
@@ -8,12 +8,11 @@ use Rattle.tp_decode.specs.declared.instr.Instr.TheVariants.{MoveBytes}
 use Rattle.tpw_occam_code.specs.declared.items.Item.{Item}
 use Rattle.tpw_occam_code.specs.declared.items.Item.TheVariants.{Constant, Array, Zeros}
 use Rattle.tpw_occam_code.specs.declared.code.Step.{Step}
-use Rattle.tpw_occam_code.specs.declared.code.Step.TheVariants.{Plain, Store, Pointer}
+use Rattle.tpw_occam_code.specs.declared.code.Step.TheVariants.{Plain, Pointer}
 use Rattle.tpw_occam_code.specs.Code.{Lines, followed_by, line_of, place_behind}
-use Rattle.tpw_occam_code.specs.Blocks.{Blocks, is_item, with_bytes, bytes_at, word_at, with_word}
-use Rattle.tpw_occam_code.specs.Symbolic.{Machine, Contents, effect, performed, at_place, number, address, push, pop, with_blocks}
-use Rattle.tpw_occam_code.specs.Leading.{Does, Makes, Serves, HasConstants, word_bytes}
-use Rattle.tpw_occam_code.specs.Values.{HasNumber}
+use Rattle.tpw_occam_code.specs.Blocks.{Blocks, with_bytes, bytes_at, with_word}
+use Rattle.tpw_occam_code.specs.Symbolic.{Machine, Contents, effect, performed, at_place, number, address, push, with_blocks}
+use Rattle.tpw_occam_code.specs.Leading.{Does, Makes, HasConstants, word_bytes}
 use Rattle.tpw_occam_code.specs.Executing.{cleared_bytes, with_item_word}
 use Rattle.tpw_occam_code.specs.Moving.{HasStep, Provides, Writes, Moves, HasCleared, ClearsWords}
 use Rattle.tpw_occam_code.proofs.Leading.{does_placed, does_within, does_step, does_both, does_less, does_nothing}

@@ -1,39 +1,37 @@
 -- Names that take values.
-use Rattle.std.proofs.Common.{◌≡◌, ◌⊎◌, inl, inr, ◌+◌, ◌^◌, ◌≤◌, ◌<◌, [], ◌∷◌, ◌++◌, ℕ, zero, suc, List, length, Option, Some, None, Bool, false, true, nat_eq, get_or, set, refl, ap, sym, subst, ◌∙◌, arith, ◌≤ℤ◌}
-use Rattle.std.specs.Prelude.{slice_index, slice_set, slice_index_or, ◌||◌, ◌&&◌, not, nat_lt, IsTrue, pos}
+use Rattle.std.proofs.Common.{◌≡◌, ◌⊎◌, inl, inr, ◌^◌, ◌<◌, [], ◌∷◌, ◌++◌, ℕ, zero, suc, List, length, Option, Some, None, Bool, false, true, nat_eq, set, refl, ap, sym, subst, ◌∙◌, arith}
+use Rattle.std.specs.Prelude.{slice_index, slice_set, slice_index_or, ◌||◌, ◌&&◌, not, nat_lt, IsTrue}
 use Rattle.std.specs.List.{list_any}
 use Rattle.std.proofs.Math.Bool.{or_assoc, or-false}
-use Rattle.std.proofs.lemmas.Bool.{ltb-true, eqb-true, eqb-false, eq-eqb, le-leb, cases_lt}
+use Rattle.std.proofs.lemmas.Bool.{ltb-true, eqb-true, le-leb}
 use Rattle.std.proofs.lemmas.Bool.Decides.{nat_tests}
 use Rattle.std.proofs.lemmas.Int.{ints}
 use Rattle.std.proofs.lemmas.Option.{same_Some}
-use Rattle.tp_decode.specs.Words.{signed}
 use Rattle.tpw_occam_core.specs.declared.arithmetic.Answer.{Answer}
 use Rattle.tpw_occam_core.specs.declared.worker.Storage.{Storage}
 use Rattle.tpw_occam_core.specs.declared.scope.Entry.{Entry}
 use Rattle.tpw_occam_core.specs.declared.scope.Entry.TheVariants as entry
 use Rattle.tpw_occam_core.specs.declared.expression.Expression.{Expression}
 use Rattle.tpw_occam_core.specs.declared.expression.Expression.TheVariants.{Let'}
-use Rattle.tpw_occam_core.specs.Arithmetic.{answer, plain}
-use Rattle.tpw_occam_core.specs.Meaning.{Store, value_of, with_value, followed, array_of}
+use Rattle.tpw_occam_core.specs.Arithmetic.{plain}
+use Rattle.tpw_occam_core.specs.Meaning.{Store, value_of, with_value}
 use Rattle.tpw_occam_core.specs.Sound.{is_name, is_array, is_new_name, is_sound_expression}
 use Rattle.tpw_occam_code.specs.declared.items.Item.{Item}
 use Rattle.tpw_occam_code.specs.declared.items.Item.TheVariants as item
 use Rattle.tpw_occam_code.specs.declared.code.Step.TheVariants.{Store as StoreTo}
 use Rattle.tpw_occam_code.specs.declared.emitter.Fact.{Fact}
 use Rattle.tpw_occam_code.specs.declared.expressions.Value.{Value}
-use Rattle.tpw_occam_code.specs.Code.{Lines, followed_by, line_of, place_behind}
-use Rattle.tpw_occam_code.specs.Ranges.{Contains, from_to}
+use Rattle.tpw_occam_code.specs.Code.{Lines, followed_by, line_of}
 use Rattle.tpw_occam_code.specs.Blocks.{is_item, bytes_at, with_word}
-use Rattle.tpw_occam_code.specs.Symbolic.{Machine, performed, at_place, number, pop, with_blocks}
+use Rattle.tpw_occam_code.specs.Symbolic.{Machine, performed, pop, with_blocks}
 use Rattle.tpw_occam_code.specs.Leading.{Does, HasWord}
 use Rattle.tpw_occam_code.specs.Values.{Holds, HasNumber, Pushes}
 use Rattle.tpw_occam_code.specs.Agreement.{Knowledge, any_word, fact_at, with_fact, constant_in, constant_fact, valued_fact, FitsFact, Knows, Agrees, LeavesItems, Stays}
-use Rattle.tpw_occam_code.specs.Computing.{IsPlace, MayStand, reads, Suffices, Computes, ComputesTo, IsKnown, Binds, Binding, ComputesBinding}
+use Rattle.tpw_occam_code.specs.Computing.{IsPlace, MayStand, reads, Computes, IsKnown, Binds, ComputesBinding}
 use Rattle.tpw_occam_code.proofs.Ranges.{full_contains}
 use Rattle.tpw_occam_code.proofs.Leading.{does_both, does_less, does_step, does_nothing}
 use Rattle.tpw_occam_code.proofs.Keeping.{word_written, word_elsewhere}
-use Rattle.tpw_occam_code.proofs.Computing.{agrees_after, leaves_then, bytes_same, word_same}
+use Rattle.tpw_occam_code.proofs.Computing.{agrees_after, leaves_then}
 use Rattle.tpw_occam_code.proofs.Constructs.{constant_value}
 use Rattle.tpw_occam_code.proofs.Standing.{Place, and_first, and_second, or_first, or_second, two_registers, suffices_two}
 

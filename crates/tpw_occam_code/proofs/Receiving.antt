@@ -1,11 +1,11 @@
 -- The code of a packet that comes, and of a result that is sent.
-use Rattle.std.proofs.Common.{◌≡◌, ◌≢◌, ◌⊎◌, inl, inr, ℕ, zero, suc, ◌+◌, ◌*◌, ◌<◌, ◌≤◌, ◌^◌, Bool, true, false, List, [], ◌∷◌, ◌++◌, length, map, nat_eq, take, drop}
-use Rattle.std.proofs.Common.{Option, Some, None, refl, ap, sym, subst, ◌∙◌, arith, w32, append_assoc, length-append}
-use Rattle.std.specs.Prelude.{slice_index, slice_index_or, slice_set, All, IsTrue, nat_lt, ◌||◌, ◌&&◌, slice_get}
+use Rattle.std.proofs.Common.{◌≡◌, ◌≢◌, ℕ, zero, suc, ◌+◌, ◌<◌, ◌≤◌, ◌^◌, Bool, true, false, List, [], ◌∷◌, ◌++◌, length, nat_eq, take, drop}
+use Rattle.std.proofs.Common.{Some, None, refl, ap, sym, subst, ◌∙◌, arith, w32, append_assoc, length-append}
+use Rattle.std.specs.Prelude.{slice_index, slice_index_or, slice_set, All, IsTrue, slice_get}
 use Rattle.std.specs.List.{list_any}
 use Rattle.std.specs.Int.{to_le_bytes}
 use Rattle.std.proofs.lemmas.Nat.{le_bytes_4}
-use Rattle.std.proofs.lemmas.Bool.{le-leb, lt-ltb, eqb-true, eqb-false, eq-eqb}
+use Rattle.std.proofs.lemmas.Bool.{le-leb, lt-ltb, eqb-true, eqb-false}
 use Rattle.std.proofs.lemmas.List.{take_all, length-map, get_or-set_same, get_or-set_other}
 use Rattle.tp_decode.specs.declared.instr.Instr.TheVariants.{Input, Stopp}
 use Rattle.tp_step.specs.Effects.{link0_input}
@@ -23,8 +23,8 @@ use Rattle.tpw_occam_code.specs.declared.code.CodeLine.{CodeLine}
 use Rattle.tpw_occam_code.specs.declared.code.Step.TheVariants.{Plain, Pointer}
 use Rattle.tpw_occam_code.specs.Code.{Lines, followed_by, line_of, place_behind}
 use Rattle.tpw_occam_code.specs.Blocks.{Blocks, is_item, with_bytes, bytes_at}
-use Rattle.tpw_occam_code.specs.Symbolic.{Machine, Contents, number, address, push, with_blocks, at_place, performed, effect, nowhere, onward}
-use Rattle.tpw_occam_code.specs.Leading.{Serves, HasConstants, HasArray, HasWord, Does, Makes}
+use Rattle.tpw_occam_code.specs.Symbolic.{Machine, number, address, push, with_blocks, at_place, performed, effect, nowhere, onward}
+use Rattle.tpw_occam_code.specs.Leading.{Serves, HasConstants, HasArray, HasWord, Makes}
 use Rattle.tpw_occam_code.specs.Agreement.{Knowledge, fact_at}
 use Rattle.tpw_occam_code.specs.Executing.{Matches, none_unset, cleared_bytes}
 use Rattle.tpw_occam_code.specs.Starting.{IsInput, Inputs, Receives, Outputs, Sends}

@@ -1,6 +1,6 @@
 -- Assignments of which all values are in registers at once.
-use Rattle.std.proofs.Common.{◌≡◌, ◌-◌, ◌*◌, ◌≤◌, ◌<◌, [], ◌∷◌, ℕ, List, length, Bool, false, true, refl, ap, sym, subst, ◌∙◌, arith, w32}
-use Rattle.std.specs.Prelude.{◌||◌, ◌&&◌, not}
+use Rattle.std.proofs.Common.{◌≡◌, ◌-◌, ◌*◌, ◌≤◌, ◌<◌, [], ◌∷◌, ℕ, List, length, Bool, false, refl, ap, sym, subst, ◌∙◌, arith, w32}
+use Rattle.std.specs.Prelude.{◌||◌}
 use Rattle.std.specs.Int.{to_le_bytes}
 use Rattle.std.specs.List.{list_any}
 use Rattle.std.proofs.Math.Bool.{or-false}

@@ -1,9 +1,9 @@
 -- Messages that go out.
-use Rattle.std.proofs.Common.{◌≡◌, ◌≢◌, ◌+◌, ◌*◌, ◌^◌, ◌≤◌, ◌<◌, [], ◌∷◌, ◌++◌, ℕ, zero, suc, List, length, Option, Some, None, Bool, false, true, refl, ap, sym, subst, ◌∙◌, arith, w32}
-use Rattle.std.specs.Prelude.{slice_index, slice_get, ◌||◌, ◌&&◌, nat_le, if◌then◌else◌, IsTrue}
+use Rattle.std.proofs.Common.{◌≡◌, ◌≢◌, ◌+◌, ◌^◌, ◌≤◌, ◌<◌, [], ◌∷◌, ◌++◌, ℕ, suc, List, length, Option, Some, None, Bool, false, true, refl, ap, sym, subst, ◌∙◌, arith}
+use Rattle.std.specs.Prelude.{slice_index, slice_get, ◌||◌, ◌&&◌, if◌then◌else◌}
 use Rattle.std.specs.List.{list_any}
 use Rattle.std.specs.Option.{is_some}
-use Rattle.std.proofs.Math.Bool.{and-true, or-false, or_assoc}
+use Rattle.std.proofs.Math.Bool.{or-false}
 use Rattle.std.proofs.lemmas.Bool.{le-leb}
 use Rattle.tp_decode.specs.declared.instr.Instr.TheVariants.{Output}
 use Rattle.tpw_occam_core.specs.declared.worker.Storage.{Storage}
@@ -13,7 +13,7 @@ use Rattle.tpw_occam_core.specs.declared.expression.Expression.TheVariants as ex
 use Rattle.tpw_occam_core.specs.declared.process.Message.{Message}
 use Rattle.tpw_occam_core.specs.declared.process.Message.TheVariants as message
 use Rattle.tpw_occam_core.specs.Meaning.{Store, value_of, flagged, array_of, bytes_of, flag_of}
-use Rattle.tpw_occam_core.specs.Sound.{is_name, is_array, is_sound_message, is_new_array}
+use Rattle.tpw_occam_core.specs.Sound.{is_array, is_sound_message}
 use Rattle.tpw_occam_code.specs.declared.items.Item.{Item}
 use Rattle.tpw_occam_code.specs.declared.items.Item.TheVariants.{Variable, Temporary, Constant, Array, Zeros}
 use Rattle.tpw_occam_code.specs.declared.messages.Channel.{Channel}
@@ -24,14 +24,14 @@ use Rattle.tpw_occam_code.specs.declared.code.Step.TheVariants.{Plain, Store as 
 use Rattle.tpw_occam_code.specs.Code.{Lines, followed_by, line_of, place_behind}
 use Rattle.tpw_occam_code.specs.Blocks.{Blocks, bytes_at, word_at}
 use Rattle.tpw_occam_code.specs.Symbolic.{Machine, Contents, effect, performed, at_place, number, address, push}
-use Rattle.tpw_occam_code.specs.Leading.{Does, Makes, Serves, HasConstants, HasArray, HasWord}
+use Rattle.tpw_occam_code.specs.Leading.{Does, Makes, HasConstants, HasWord}
 use Rattle.tpw_occam_code.specs.Agreement.{Knowledge, fact_at, Knows, Agrees, LeavesItems}
-use Rattle.tpw_occam_code.specs.Computing.{MayStand, Computes, Suffices, reads}
-use Rattle.tpw_occam_code.specs.Executing.{IsProcessPlace, MayRun, KnowsState, Matches, LeavesCounts, none_unset, first_in, first_in_message, unset_after, is_nothing, cleared_bytes}
+use Rattle.tpw_occam_code.specs.Computing.{MayStand, Computes, reads}
+use Rattle.tpw_occam_code.specs.Executing.{MayRun, Matches, LeavesCounts, none_unset, first_in, first_in_message, unset_after, is_nothing, cleared_bytes}
 use Rattle.tpw_occam_code.specs.Moving.{HasStep, Provides}
 use Rattle.tpw_occam_code.specs.Sending.{sent_with, traced_with, HasSent, SendsBytes, KeepsValue, HasSentMessage, SendsMessage, HasRoom, address_of}
 use Rattle.tpw_occam_code.specs.Executing.{Traces}
-use Rattle.tpw_occam_code.specs.Starting.{Outputs, IsSent}
+use Rattle.tpw_occam_code.specs.Starting.{Outputs}
 use Rattle.tpw_occam_code.proofs.Leading.{does_placed, does_within, does_step, does_both, does_less, does_nothing}
 use Rattle.tpw_occam_code.proofs.Computing.{agrees_after, leaves_then, in_scope, set_name}
 use Rattle.tpw_occam_code.proofs.Keeping.{does_save}

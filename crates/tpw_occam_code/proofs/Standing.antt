@@ -1,5 +1,5 @@
 -- Where an expression may stand its parts may.
-use Rattle.std.proofs.Common.{Option, Some, None, Result, Ok, Err, OnOk, ◌≡◌, ◌⊎◌, inl, inr, Box, Global, ◌≤◌, ◌<◌, ◌^◌, ℕ, List, Bool, false, true, ◌&&◌, ◌||◌, refl, ap, sym, ◌∙◌, arith}
+use Rattle.std.proofs.Common.{Option, Some, None, Result, Ok, Err, OnOk, ◌≡◌, ◌⊎◌, inl, inr, Box, Global, ◌≤◌, ◌<◌, ◌^◌, ℕ, List, Bool, false, true, ◌&&◌, ◌||◌, refl, sym, ◌∙◌, arith}
 use Rattle.std.specs.Prelude.{IsTrue}
 use Rattle.std.proofs.lemmas.Bool.{ltb-true, leb-true, cases_lt}
 use Rattle.tpw_occam_core.specs.declared.worker.Storage.{Storage}
@@ -7,8 +7,8 @@ use Rattle.tpw_occam_core.specs.declared.scope.Entry.{Entry}
 use Rattle.tpw_occam_core.specs.declared.kind.Kind.{Kind}
 use Rattle.tpw_occam_core.specs.declared.expression.Operator.{Operator}
 use Rattle.tpw_occam_core.specs.declared.expression.Expression.{Expression}
-use Rattle.tpw_occam_core.specs.declared.expression.Expression.TheVariants.{Constant, Variable, Element', Checked', Binary', Complement', Not', LowByte', And', Or', Let'}
-use Rattle.tpw_occam_core.specs.Sound.{is_sound_expression, is_seen}
+use Rattle.tpw_occam_core.specs.declared.expression.Expression.TheVariants.{Element', Checked', Binary', Complement', Not', LowByte', And', Or'}
+use Rattle.tpw_occam_core.specs.Sound.{is_seen}
 use Rattle.tpw_occam_code.specs.Agreement.{Knowledge}
 use Rattle.tpw_occam_code.specs.Computing.{MayStand, Suffices, is_simple, reads}
 

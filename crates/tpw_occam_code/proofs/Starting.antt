@@ -1,9 +1,9 @@
 -- A program that is made of a worker's code means what the worker does.
-use Rattle.std.proofs.Common.{◌≡◌, ◌⊎◌, inl, inr, ℕ, zero, suc, ◌+◌, ◌-◌, ◌*◌, ◌/◌, ◌%◌, ◌<◌, ◌≤◌, ◌^◌, Bool, true, false, List, [], ◌∷◌, ◌++◌, length, map}
-use Rattle.std.proofs.Common.{replicate, slice_get, Option, Some, None, refl, ap, sym, subst, ◌∙◌, arith, w32}
-use Rattle.std.specs.Prelude.{slice_index, slice_index_or, flat_map, All, IsTrue, ◌&&◌, if◌then◌else◌, nat_lt}
+use Rattle.std.proofs.Common.{◌≡◌, ℕ, zero, suc, ◌+◌, ◌-◌, ◌*◌, ◌/◌, ◌%◌, ◌<◌, ◌^◌, Bool, true, false, List, [], ◌∷◌, ◌++◌, length, map}
+use Rattle.std.proofs.Common.{replicate, slice_get, Some, None, refl, ap, sym, subst, ◌∙◌, arith, w32}
+use Rattle.std.specs.Prelude.{slice_index, flat_map, All, IsTrue, ◌&&◌, if◌then◌else◌, nat_lt}
 use Rattle.std.specs.Int.{to_le_bytes}
-use Rattle.std.proofs.lemmas.Bool.{cases_lt, ltb-true, leb-true, eqb-true}
+use Rattle.std.proofs.lemmas.Bool.{ltb-true, leb-true, eqb-true}
 use Rattle.std.proofs.lemmas.Option.{same_Some}
 use Rattle.std.proofs.lemmas.Nat.{from_le_bytes-to_le_bytes_4}
 use Rattle.std.proofs.lemmas.List.Elements.{All-head, All-tail}
@@ -11,8 +11,6 @@ use Rattle.tp_image.specs.Image.{ImageValue}
 use Rattle.tp_step.specs.State.{mem_start}
 use Rattle.tp_step.specs.Runs.{first_words, Run, RunsAlone}
 use Rattle.tpw_asm.specs.declared.program.Program.{Program}
-use Rattle.tpw_asm.specs.declared.program.Operation.{Operation}
-use Rattle.tpw_asm.specs.declared.program.Line.{Line}
 use Rattle.tpw_asm.specs.declared.program.Line.TheVariants.{Spelled}
 use Rattle.tpw_asm.specs.Layout.{addresses_from}
 use Rattle.tpw_asm.specs.Assembly.{IsAssembly}
@@ -20,7 +18,7 @@ use Rattle.std.specs.List.{list_all, list_any}
 use Rattle.tpw_occam_core.specs.declared.worker.Storage.{Storage}
 use Rattle.tpw_occam_core.specs.declared.worker.Worker.{Worker}
 use Rattle.tpw_occam_core.specs.declared.process.Message.TheVariants as message
-use Rattle.tpw_occam_core.specs.Meaning.{Meant, meaning, meant, most_traced, first, after, bytes_of}
+use Rattle.tpw_occam_core.specs.Meaning.{meaning, meant, most_traced, first, after, bytes_of}
 use Rattle.tpw_occam_core.specs.Sound.{is_sound, is_sound_message, is_sound_place, is_sound_process, is_array, storage_of, are_declared, is_sized, globals, bytes_of as size_of}
 use Rattle.tpw_occam_code.specs.declared.items.Item.{Item}
 use Rattle.tpw_occam_code.specs.declared.items.Item.TheVariants.{Variable, Constant}
@@ -31,11 +29,10 @@ use Rattle.tpw_occam_code.specs.declared.code.CodeLine.{CodeLine}
 use Rattle.tpw_occam_code.specs.Code.{Lines}
 use Rattle.tpw_occam_code.specs.Blocks.{Blocks, is_item, bytes_at, word_at}
 use Rattle.tpw_occam_code.specs.Symbolic.{Machine, number}
-use Rattle.tpw_occam_code.specs.Executing.{none_unset}
 use Rattle.tpw_occam_code.specs.Carried.{Site, base_of, operation_of}
-use Rattle.tpw_occam_code.specs.Placing.{words_at, local_at, AreBetween, site_of, places, line_at, HasOperand, HoldsFirst, IsPlaced, IsBuilt}
+use Rattle.tpw_occam_code.specs.Placing.{words_at, local_at, site_of, places, line_at, HasOperand, HoldsFirst, IsPlaced, IsBuilt}
 use Rattle.tpw_occam_code.specs.Program.{IsPacket, GivesMeaning, Means}
-use Rattle.tpw_occam_code.specs.Starting.{first_blocks, knowledge_of, FitsPlace, Begins, IsSent, Works}
+use Rattle.tpw_occam_code.specs.Starting.{first_blocks, Begins, IsSent, Works}
 use Rattle.tpw_occam_code.proofs.Standing.{and_first, and_second}
 use Rattle.tpw_occam_code.proofs.Carrying.{same_item}
 use Rattle.tpw_occam_code.proofs.CarryingImage.{IsMadeOf, workspace_most}

@@ -1,6 +1,6 @@
 -- The code of two operands, and what works on them.
-use Rattle.std.proofs.Common.{◌≡◌, ◌⊎◌, inl, inr, ◌+◌, ◌-◌, ◌*◌, ◌^◌, ◌≤◌, ◌<◌, [], ◌∷◌, ℕ, List, length, Option, Some, None, Bool, false, true, refl, ap, sym, subst, ◌∙◌, arith}
-use Rattle.std.specs.Prelude.{slice_index, ◌||◌, not, IsTrue}
+use Rattle.std.proofs.Common.{◌≡◌, ◌⊎◌, inl, inr, ◌+◌, ◌-◌, ◌*◌, ◌^◌, ◌≤◌, ◌<◌, [], ◌∷◌, ℕ, List, Option, Some, None, Bool, false, true, refl, ap, sym, subst, ◌∙◌, arith}
+use Rattle.std.specs.Prelude.{◌||◌, not, IsTrue}
 use Rattle.tpw_occam_code.specs.Ranges.{Contains, full}
 use Rattle.tpw_occam_code.proofs.Ranges.{full_contains}
 use Rattle.std.proofs.Math.Bool.{or_assoc, or_comm, or-false}
@@ -12,7 +12,7 @@ use Rattle.tpw_occam_core.specs.declared.expression.Operator.{Operator}
 use Rattle.tpw_occam_core.specs.declared.expression.Expression.{Expression}
 use Rattle.tpw_occam_core.specs.declared.expression.Expression.TheVariants as expression
 use Rattle.tpw_occam_code.proofs.Standing.{suffices_two, and_first, and_second}
-use Rattle.std.specs.Prelude.{pos, ◌==◌, ◌&&◌, ◌/◌, is_some}
+use Rattle.std.specs.Prelude.{pos, ◌&&◌, ◌/◌, is_some}
 use Rattle.std.specs.Option.{option_map_or}
 use Rattle.std.proofs.lemmas.Bool.{cases_lt}
 use Rattle.tpw_occam_code.proofs.Indexing.{subscript_below, subscript_word_below}
@@ -31,9 +31,9 @@ use Rattle.tpw_occam_code.specs.declared.code.Step.TheVariants.{Plain, Load, Sto
 use Rattle.tpw_occam_code.specs.declared.expressions.Value.{Value}
 use Rattle.tpw_occam_code.specs.declared.emitter.Room.{Room}
 use Rattle.tpw_occam_code.specs.Code.{Lines, followed_by, line_of, place_behind}
-use Rattle.tpw_occam_code.specs.Symbolic.{Machine, effect, performed, at_place, number, push, set_areg}
+use Rattle.tpw_occam_code.specs.Symbolic.{Machine, effect, performed, at_place, number, push}
 use Rattle.tpw_occam_code.specs.Leading.{Does, IsBefore, Arrives, HasConstants, HasWord, Makes}
-use Rattle.tpw_occam_code.specs.Values.{Holds, HasCount, HasNumber, HasOperands, Replaces, Pushes, PushesAlone, Answers, answered}
+use Rattle.tpw_occam_code.specs.Values.{Holds, HasCount, HasOperands, Pushes, answered}
 use Rattle.tpw_occam_code.specs.Agreement.{Knowledge, constant_in, Knows, Agrees, LeavesItems, Stays}
 use Rattle.tpw_occam_code.specs.Computing.{IsPlace, MayStand, Suffices, Computes, ComputesTo, ComputesBoth, ComputesTwo, PushesTwo, IsKnown, IsKnownOf, commutes, applied_value, is_simple, IsConstantBelow, IsNoShift, IsKnownOfBoth, IsSimplePair, applied_first, subscript_value, is_immediate, has_immediate, is_swapped, HasImmediate}
 use Rattle.tpw_occam_code.proofs.Answering.{count_of_no_shift}

@@ -1,10 +1,9 @@
 -- Words read signed, and wrapped.
 use Rattle.std.proofs.Common.{◌≡◌, ◌⊎◌, inl, inr, w32, ℕ, suc, ◌-◌, ◌^◌, ◌<◌, ◌≤◌, ℤ, pos, negsuc, arith, ◌∙◌, ap}
-use Rattle.std.specs.Int.{cast_signed, cast_unsigned}
-use Rattle.std.proofs.lemmas.Int.{ints, to_z_pos, of_z-to_z}
+use Rattle.std.proofs.lemmas.Int.{ints, to_z_pos}
 use Rattle.std.proofs.lemmas.Bool.{cases_lt}
 use Rattle.std.proofs.lemmas.Bool.Decides.{nat_tests}
-use Rattle.std.specs.Prelude.{Bool, true, false, ◌||◌, ◌&&◌, if◌then◌else◌, ◌/◌, ◌*◌, ◌+ℤ◌, ◌-ℤ◌, Option, Some, None, int_lt, int_div, int_rem}
+use Rattle.std.specs.Prelude.{Bool, true, false, ◌||◌, ◌&&◌, if◌then◌else◌, ◌/◌, ◌*◌, ◌+ℤ◌, ◌-ℤ◌, Some, None, int_lt, int_div, int_rem}
 use Rattle.std.specs.Ordering.{int_eq}
 use Rattle.std.specs.Int.Bits.{and_lt}
 use Rattle.std.proofs.lemmas.Nat.{or_lt, xor_lt}

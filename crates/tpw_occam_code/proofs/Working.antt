@@ -1,6 +1,6 @@
 -- The code of a worker makes of a packet what the worker does.
-use Rattle.std.proofs.Common.{◌≡◌, ◌≢◌, ◌⊎◌, inl, inr, ℕ, zero, suc, ◌+◌, ◌*◌, ◌<◌, ◌≤◌, ◌^◌, Bool, true, false, List, [], ◌∷◌, ◌++◌, length, map, nat_eq, pos}
-use Rattle.std.proofs.Common.{replicate, slice_get, Option, Some, None, refl, ap, sym, subst, ◌∙◌, arith, w32, append_assoc}
+use Rattle.std.proofs.Common.{◌≡◌, ◌≢◌, ◌⊎◌, inl, inr, ℕ, zero, suc, ◌+◌, ◌<◌, ◌≤◌, ◌^◌, Bool, true, false, List, [], ◌∷◌, ◌++◌, length, map, nat_eq}
+use Rattle.std.proofs.Common.{replicate, slice_get, Option, Some, None, refl, ap, sym, subst, ◌∙◌, arith}
 use Rattle.std.specs.Prelude.{slice_index, slice_index_or, slice_set, All, IsTrue, nat_lt, ◌||◌, ◌&&◌}
 use Rattle.std.specs.List.{list_all, list_any}
 use Rattle.std.proofs.lemmas.Bool.{ltb-true, leb-true, eqb-true, eqb-false, cases_lt}
@@ -17,14 +17,13 @@ use Rattle.tpw_occam_core.specs.declared.worker.Place.TheVariants as place
 use Rattle.tpw_occam_core.specs.declared.worker.Worker.{Worker}
 use Rattle.tpw_occam_core.specs.declared.process.Process.{Process}
 use Rattle.tpw_occam_core.specs.Arrays.{element}
-use Rattle.tpw_occam_core.specs.Meaning.{Store, first, first_bytes, received, after, run, kind_of, array_of, with_value, with_array, bytes_of}
-use Rattle.tpw_occam_core.specs.Sound.{is_sound, is_sound_process, is_sound_message, is_sound_place, are_declared, is_word, is_sized, globals, is_variable, is_name, is_array, storage_of, bytes_of as size_of}
+use Rattle.tpw_occam_core.specs.Meaning.{Store, first, first_bytes, received, after, run, kind_of, bytes_of}
+use Rattle.tpw_occam_core.specs.Sound.{is_sound, is_sound_process, is_sound_place, are_declared, is_word, is_sized, globals, is_variable, is_name, is_array, bytes_of as size_of}
 use Rattle.tpw_occam_code.specs.Program.{place_bytes}
 use Rattle.tpw_occam_code.specs.Code.{Lines, none_at}
 use Rattle.tpw_occam_code.specs.Symbolic.{Machine}
-use Rattle.tpw_occam_code.specs.Leading.{IsBefore, Does}
-use Rattle.tpw_occam_code.specs.Agreement.{Knowledge, fact_at, fact_of_kind, any_word, FitsFact, Knows}
-use Rattle.tpw_occam_code.specs.Computing.{IsPlace}
+use Rattle.tpw_occam_code.specs.Leading.{Does}
+use Rattle.tpw_occam_code.specs.Agreement.{Knowledge, fact_at, fact_of_kind, any_word, FitsFact}
 use Rattle.tpw_occam_code.specs.Executing.{IsProcessPlace, MayRun, KnowsState, Matches, Executes, first_use, none_unset}
 use Rattle.tpw_occam_code.specs.Starting.{AreBytes, knowledge_of, FitsPlace, IsInScope, Receives, DoesLast, Sends, Begins, IsSent, Stops, Works}
 use Rattle.tpw_occam_code.proofs.Ranges.{full_contains}

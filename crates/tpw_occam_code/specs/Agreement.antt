@@ -1,7 +1,7 @@
 -- When a machine agrees with the state of a worker: what the code of a construct may count on, and what it keeps.
-use Rattle.std.specs.Prelude.{◌≡◌, ℕ, ◌+◌, ◌*◌, ◌/◌, ◌^◌, ◌<◌, ◌≤◌, pos, Bool, true, false, ◌||◌, List, length}
+use Rattle.std.specs.Prelude.{◌≡◌, ℕ, ◌/◌, ◌^◌, ◌<◌, pos, Bool, false, List, length}
 use Rattle.std.specs.Prelude.{slice_index, slice_index_or}
-use Rattle.std.specs.Prelude.{slice_set, All, Option, Some, None, IsTrue}
+use Rattle.std.specs.Prelude.{slice_set, Option, Some, None, IsTrue}
 use Rattle.std.specs.List.{list_any}
 use Rattle.tp_decode.specs.Words.{signed}
 use Rattle.tpw_occam_core.specs.declared.kind.Kind.{Kind}
@@ -16,7 +16,7 @@ use Rattle.tpw_occam_code.specs.declared.items.Item.TheVariants as item
 use Rattle.tpw_occam_code.specs.declared.emitter.Fact.{Fact}
 use Rattle.tpw_occam_code.specs.declared.range.Range.{Range}
 use Rattle.tpw_occam_code.specs.Ranges.{full, from_to, Contains}
-use Rattle.tpw_occam_code.specs.Symbolic.{Machine, Contents, number}
+use Rattle.tpw_occam_code.specs.Symbolic.{Machine}
 use Rattle.tpw_occam_code.specs.Leading.{HasConstants, HasArray, HasWord}
 
 -- ---- what is known of names

@@ -1,5 +1,5 @@
 -- What the code of an expression does.
-use Rattle.std.specs.Prelude.{◌≡◌, ℕ, ◌+◌, ◌-◌, ◌*◌, ◌%◌, ◌^◌, ◌<◌, ◌≤◌, Bool, true, false, not, ◌||◌, ◌&&◌, ◌==◌}
+use Rattle.std.specs.Prelude.{◌≡◌, ℕ, ◌+◌, ◌-◌, ◌%◌, ◌^◌, ◌<◌, ◌≤◌, Bool, true, false, not, ◌||◌, ◌&&◌, ◌==◌}
 use Rattle.std.specs.Prelude.{nat_le}
 use Rattle.std.specs.Prelude.{if◌then◌else◌, List, [], ◌∷◌, ◌++◌, length, map, slice_index, Option, Some, None, is_some}
 use Rattle.std.specs.Prelude.{IsTrue, pos, ◌⊎◌, ◌≢◌, Box}
@@ -20,7 +20,7 @@ use Rattle.tpw_occam_core.specs.declared.expression.Expression.TheVariants.{Cons
 use Rattle.tpw_occam_core.specs.declared.expression.Expression.TheVariants.{Binary', Complement', Not', LowByte', And'}
 use Rattle.tpw_occam_core.specs.declared.expression.Expression.TheVariants.{Or', Let'}
 use Rattle.tp_step.specs.Numbers.{truth}
-use Rattle.tpw_occam_core.specs.Arithmetic.{answer, plain, subscript, applied}
+use Rattle.tpw_occam_core.specs.Arithmetic.{plain, subscript, applied}
 use Rattle.tpw_occam_core.specs.Meaning.{Store, value_of, followed, with_value}
 use Rattle.tpw_occam_code.specs.Ranges.{from_to, Contains, ContainsAllOf}
 use Rattle.tpw_occam_core.specs.declared.scope.Entry.TheVariants as entry
@@ -28,7 +28,6 @@ use Rattle.tpw_occam_core.specs.Sound.{is_sound_expression, is_new_name, is_arra
 use Rattle.tpw_occam_core.specs.declared.kind.Kind.{Kind}
 use Rattle.tpw_occam_core.specs.declared.kind.Kind.TheVariants.{Word, Byte}
 use Rattle.tpw_occam_code.specs.declared.expressions.Value.{Value}
-use Rattle.tpw_occam_code.specs.declared.emitter.Room.{Room}
 use Rattle.tpw_occam_code.specs.Code.{Lines}
 use Rattle.tpw_occam_code.specs.Leading.{Does}
 use Rattle.tpw_occam_code.specs.Values.{Holds, HasOperands, Pushes}

@@ -1,9 +1,9 @@
 -- What code does, wherever it stands in a worker's code: from the place before it control gets to the place behind it.
-use Rattle.std.specs.Prelude.{◌≡◌, ℕ, ◌+◌, ◌*◌, ◌/◌, ◌^◌, ◌<◌, ◌≤◌, Bool, false, not, List, ◌++◌, length, map}
-use Rattle.std.specs.Prelude.{slice_get, Option, Some}
+use Rattle.std.specs.Prelude.{◌≡◌, ℕ, ◌+◌, ◌*◌, ◌/◌, ◌^◌, ◌<◌, ◌≤◌, false, List, ◌++◌, length}
+use Rattle.std.specs.Prelude.{slice_get, Some}
 use Rattle.std.specs.Prelude.{slice_index}
 use Rattle.tpw_occam_code.specs.declared.items.Item.{Item}
-use Rattle.tpw_occam_code.specs.declared.items.Item.TheVariants.{Variable, Temporary, Constant, Array, Zeros}
+use Rattle.tpw_occam_code.specs.declared.items.Item.TheVariants.{Constant, Array, Zeros}
 use Rattle.tpw_occam_code.specs.declared.code.Step.{Step}
 use Rattle.tpw_occam_code.specs.declared.code.Step.TheVariants.{Load, Store, Pointer}
 use Rattle.tpw_occam_code.specs.declared.code.CodeLine.{CodeLine}

@@ -1,10 +1,9 @@
 -- What the code of a whole worker does.
-use Rattle.std.specs.Prelude.{◌≡◌, ℕ, ◌+◌, ◌*◌, ◌<◌, ◌≤◌, Bool, false, ◌||◌, List, [], ◌++◌, length, map, slice_index}
+use Rattle.std.specs.Prelude.{◌≡◌, ℕ, ◌<◌, ◌≤◌, ◌||◌, List, [], ◌++◌, length, map, slice_index}
 use Rattle.std.specs.Prelude.{slice_index_or}
-use Rattle.std.specs.Prelude.{slice_get, All, Some, IsTrue}
+use Rattle.std.specs.Prelude.{All, IsTrue}
 use Rattle.std.specs.List.{list_any}
 use Rattle.std.specs.Int.{w32, to_le_bytes}
-use Rattle.tpw_occam_core.specs.declared.kind.Kind.{Kind}
 use Rattle.tpw_occam_core.specs.declared.worker.Storage.{Storage}
 use Rattle.tpw_occam_core.specs.declared.worker.Place.{Place}
 use Rattle.tpw_occam_core.specs.declared.worker.Place.TheVariants as place
@@ -14,7 +13,7 @@ use Rattle.tpw_occam_core.specs.declared.process.Message.{Message}
 use Rattle.tpw_occam_core.specs.Meaning.{Store, kind_of, first, first_bytes, received, after, bytes_of, flag_of}
 use Rattle.tpw_occam_core.specs.Sound.{globals, is_variable, is_array, is_word, is_sound_message, bytes_of as size_of}
 use Rattle.tpw_occam_code.specs.declared.items.Item.{Item}
-use Rattle.tpw_occam_code.specs.declared.items.Item.TheVariants.{Variable, Temporary, Constant, Array, Zeros}
+use Rattle.tpw_occam_code.specs.declared.items.Item.TheVariants.{Constant, Array}
 use Rattle.tpw_occam_code.specs.declared.code.Step.TheVariants.{Pointer}
 use Rattle.tpw_occam_code.specs.declared.code.CodeLine.{CodeLine}
 use Rattle.tpw_occam_code.specs.Program.{place_bytes}
@@ -23,7 +22,7 @@ use Rattle.tpw_occam_code.specs.Blocks.{Blocks, with_bytes}
 use Rattle.tpw_occam_code.specs.Symbolic.{Machine, Leads}
 use Rattle.tpw_occam_code.specs.Leading.{Serves, HasConstants, IsBefore, Does}
 use Rattle.tpw_occam_code.specs.Agreement.{Knowledge, fact_of_kind}
-use Rattle.tpw_occam_code.specs.Executing.{IsProcessPlace, KnowsState, Matches, LeavesCounts, none_unset}
+use Rattle.tpw_occam_code.specs.Executing.{IsProcessPlace, KnowsState, Matches, none_unset}
 
 -- what is known of a worker's names at first
 abbrev pub knowledge_of : Worker → Knowledge

@@ -1,7 +1,7 @@
-use Rattle.std.proofs.Common.{◌≡◌, ℕ, sym, subst, ◌∙◌}
+use Rattle.std.proofs.Common.{subst, ◌∙◌}
 use Rattle.tpw_occam_code.specs.Code.{none_at}
 use Rattle.tpw_occam_code.specs.Executing.{Executes, Remains}
-use Rattle.tpw_occam_code.specs.Starting.{knowledge_of, Receives, Sends}
+use Rattle.tpw_occam_code.specs.Starting.{Receives, Sends}
 use Rattle.tpw_occam_code.proofs.Working.{code_works, has_bytes}
 use Rattle.tpw_occam_code.proofs.compiled.code_of.Goals as goal
 

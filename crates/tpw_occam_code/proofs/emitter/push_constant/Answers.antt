@@ -1,9 +1,8 @@
-use Rattle.std.proofs.Common.{◌≡◌, Some, ℕ, ◌≤◌, refl, ap, sym, ◌∙◌, arith, w32}
+use Rattle.std.proofs.Common.{Some, ap, ◌∙◌, w32}
 use Rattle.std.specs.Int.{cast_unsigned}
 use Rattle.std.proofs.lemmas.Int.{of_z-to_z}
 use Rattle.std.proofs.lemmas.Bool.{le-leb}
 use Rattle.tpw_occam_code.specs.Symbolic.{push, number, performed, effect}
-use Rattle.tpw_occam_code.specs.Leading.{HasConstants}
 use Rattle.tpw_occam_code.proofs.Words.{low_word-cast}
 use Rattle.tpw_occam_code.proofs.emitter.push_constant.Goals as goal
 

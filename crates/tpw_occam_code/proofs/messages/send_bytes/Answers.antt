@@ -1,4 +1,4 @@
-use Rattle.std.proofs.Common.{◌≡◌, OnOk, subst, ap}
+use Rattle.std.proofs.Common.{subst}
 use Rattle.std.proofs.lemmas.Result.{on_ok_weaker}
 use Rattle.tpw_occam_code.specs.Leading.{Makes, HasConstants}
 use Rattle.tpw_occam_code.specs.Symbolic.{push, number}

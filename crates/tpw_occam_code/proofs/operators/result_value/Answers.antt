@@ -1,5 +1,3 @@
-use Rattle.std.proofs.Common.{◌≡◌, ℕ, ◌<◌}
-use Rattle.tpw_occam_code.specs.Values.{Holds}
 use Rattle.tpw_occam_code.proofs.Words.{applied_small}
 use Rattle.tpw_occam_code.proofs.operators.result_value.Goals as goal
 

@@ -1,4 +1,3 @@
-use Rattle.std.proofs.Common.{◌≡◌, ℕ, List, ◌<◌}
 use Rattle.std.proofs.lemmas.Result.{on_ok_weaker}
 use Rattle.tpw_occam_code.proofs.Elements.{does_base}
 use Rattle.tpw_occam_code.proofs.subscripts.base.Goals as goal

@@ -1,4 +1,3 @@
-use Rattle.std.proofs.Common.{◌≡◌, ℕ, refl}
 use Rattle.std.proofs.lemmas.Result.{on_ok_weaker}
 use Rattle.tpw_occam_code.proofs.Answering.{answers_check}
 use Rattle.tpw_occam_code.proofs.subscripts.check.Goals as goal

@@ -1,6 +1,6 @@
-use Rattle.std.proofs.Common.{◌≡◌, ◌%◌, ◌^◌, ◌<◌, ◌||◌, false, ℕ, refl, ap, sym, ◌∙◌, arith, subst}
+use Rattle.std.proofs.Common.{◌%◌, ◌^◌, sym, arith, subst}
 use Rattle.std.specs.Prelude.{nat_le}
-use Rattle.tpw_occam_core.specs.Arithmetic.{answer, plain, subscript}
+use Rattle.tpw_occam_core.specs.Arithmetic.{answer, plain}
 use Rattle.tpw_occam_code.specs.Values.{Answers}
 use Rattle.tpw_occam_code.proofs.Answering.{answers_then, answers_nothing}
 use Rattle.tpw_occam_code.proofs.Indexing.{subscript_below, subscript_checked, subscript_word_below}

@@ -1,4 +1,3 @@
-use Rattle.std.proofs.Common.{◌≡◌, ℕ, List}
 use Rattle.tpw_occam_code.proofs.Elements.{does_element}
 use Rattle.tpw_occam_code.proofs.subscripts.indexed_element.Goals as goal
 

@@ -1,4 +1,4 @@
-use Rattle.std.proofs.Common.{◌≡◌, ◌%◌, ◌<◌, ℕ, refl, arith, subst}
+use Rattle.std.proofs.Common.{◌≡◌, ◌%◌, ◌<◌, arith, subst}
 use Rattle.std.proofs.lemmas.Result.{on_ok_weaker}
 use Rattle.std.proofs.lemmas.Nat.{and_mask}
 use Rattle.tpw_occam_core.specs.Arithmetic.{plain}

@@ -1,4 +1,3 @@
-use Rattle.std.proofs.Common.{◌≡◌, ℕ, List, ◌<◌}
 use Rattle.std.proofs.lemmas.Result.{on_ok_weaker}
 use Rattle.tpw_occam_code.proofs.Elements.{does_load_word, does_load_byte}
 use Rattle.tpw_occam_code.proofs.subscripts.load.Goals as goal

@@ -1,4 +1,4 @@
-use Rattle.std.proofs.Common.{◌≡◌, ◌+◌, ◌*◌, ◌/◌, ℕ, List, length, ◌<◌, ◌≤◌, ◌^◌, ◌∙◌, arith, w32, pos, ap}
+use Rattle.std.proofs.Common.{◌<◌, ◌^◌, ◌∙◌, arith, w32, ap}
 use Rattle.std.specs.Int.{cast_signed, cast_unsigned}
 use Rattle.std.proofs.lemmas.Int.{of_z-to_z, to_z_pos}
 use Rattle.tpw_occam_code.proofs.Elements.{does_offset_element}

@@ -1,4 +1,3 @@
-use Rattle.std.proofs.Common.{◌≡◌, ℕ, List, ◌<◌}
 use Rattle.tpw_occam_code.proofs.Elements.{does_push_variable}
 use Rattle.tpw_occam_code.proofs.subscripts.push_byte.Goals as goal
 

@@ -1,4 +1,4 @@
-use Rattle.std.proofs.Common.{◌≡◌, ℕ, List, refl}
+use Rattle.std.proofs.Common.{refl}
 use Rattle.std.proofs.lemmas.Result.{on_ok_weaker}
 use Rattle.tpw_occam_code.proofs.Elements.{does_push_word, does_push_byte}
 use Rattle.tpw_occam_code.proofs.subscripts.push_fixed.Goals as goal

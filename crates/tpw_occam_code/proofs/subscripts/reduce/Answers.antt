@@ -1,4 +1,4 @@
-use Rattle.std.proofs.Common.{◌≡◌, ◌%◌, ◌^◌, ◌<◌, ◌≤◌, ◌-◌, ◌||◌, false, ℕ, refl, ap, sym, ◌∙◌, arith, subst}
+use Rattle.std.proofs.Common.{◌%◌, ◌^◌, ap, ◌∙◌, arith, subst}
 use Rattle.std.specs.Prelude.{bit_and}
 use Rattle.std.proofs.Math.Nat.{mod-lt}
 use Rattle.tpw_occam_core.specs.Arithmetic.{plain}

@@ -1,4 +1,4 @@
-use Rattle.std.proofs.Common.{◌≡◌, ◌%◌, ℕ, refl, ap, Some}
+use Rattle.std.proofs.Common.{◌%◌, ap, Some}
 use Rattle.std.proofs.lemmas.Result.{on_ok_weaker}
 use Rattle.tp_decode.specs.declared.instr.Instr.TheVariants.{Rem}
 use Rattle.tpw_occam_core.specs.Arithmetic.{plain}

@@ -1,4 +1,4 @@
-use Rattle.std.proofs.Common.{◌≡◌, ◌%◌, ◌^◌, ◌<◌, ◌||◌, false, ℕ, refl, ap, sym, ◌∙◌, arith, subst}
+use Rattle.std.proofs.Common.{◌%◌, ◌^◌, ◌||◌, false, ap, ◌∙◌, subst}
 use Rattle.std.proofs.Math.Bool.{or-false}
 use Rattle.tpw_occam_core.specs.Arithmetic.{answer, plain, subscript}
 use Rattle.tpw_occam_code.specs.Values.{Answers}

@@ -1,5 +1,4 @@
 use Rattle.std.proofs.Common.{◌≡◌, Bool, true, false, ◌&&◌, ◌||◌, refl, ap, sym, ◌∙◌}
-use Rattle.std.specs.Bool.{IsTrue}
 use Rattle.tpw_occam_core.specs.declared.expression.Operator.{Operator}
 use Rattle.tpw_occam_core.specs.declared.expression.Expression.{Expression}
 use Rattle.tpw_occam_code.specs.Agreement.{Knowledge}

@@ -5,7 +5,7 @@ use Rattle.tpw_occam_code.specs.Agreement.{with_fact, fact_at, fact_of_kind}
 use Rattle.tpw_occam_code.specs.declared.code.Turns.{Turns}
 use Rattle.tpw_occam_code.specs.Code.{none_at, place_behind}
 use Rattle.tpw_occam_code.specs.Computing.{Decides, Binds, ComputesBinding}
-use Rattle.tpw_occam_code.specs.Executing.{DeclaresVariable, DeclaresValue, VariableKnown, ValueKnown, Executes, Chooses, Repeats, Remains, ChoosesKnown, RepeatsKnown, HaveWords, Assigns, Starts, first_use}
+use Rattle.tpw_occam_code.specs.Executing.{DeclaresVariable, DeclaresValue, VariableKnown, ValueKnown, Executes, Chooses, Repeats, Remains, ChoosesKnown, RepeatsKnown, HaveWords, Assigns}
 use Rattle.tpw_occam_code.proofs.Standing.{place_of}
 use Rattle.tpw_occam_code.proofs.Naming.{restored}
 use Rattle.tpw_occam_code.proofs.Executing.{skip_executes, stop_executes, sequence_executes, value_executes, variable_executes, array_executes}

@@ -1,5 +1,4 @@
-use Rattle.std.proofs.Common.{◌≡◌, IfOk, OnOk, None, [], ◌∷◌, refl, ap, sym, subst, ◌∙◌}
-use Rattle.tpw_occam_core.specs.declared.expression.Expression.TheVariants as expression
+use Rattle.std.proofs.Common.{◌≡◌, None, [], ◌∷◌, ap, sym, subst, ◌∙◌}
 use Rattle.tpw_occam_code.specs.declared.items.Item.TheVariants.{Variable, Temporary}
 use Rattle.tpw_occam_code.specs.declared.code.Step.TheVariants.{Store as StoreTo}
 use Rattle.tpw_occam_code.specs.declared.emitter.Fact.{Fact}

@@ -1,13 +1,6 @@
-use Rattle.std.proofs.Common.{◌≡◌, ℕ, refl, ap, sym, ◌∙◌}
+use Rattle.std.proofs.Common.{ap, sym, ◌∙◌}
 use Rattle.std.proofs.lemmas.Result.{on_ok_weaker, IfOk-weaker}
 use Rattle.tpw_occam_code.proofs.Computing.{name_known, name_computes, constant_name_known, constant_name_computes}
-use Rattle.tpw_occam_code.proofs.Constructs.{constant_computes}
-use Rattle.tpw_occam_code.proofs.Immediates.{adc_works}
-use Rattle.tpw_occam_code.proofs.Keeping.{does_recall}
-use Rattle.tpw_occam_code.proofs.TwoOperands.{does_rev}
-use Rattle.tpw_occam_code.proofs.Inverses.{greater_inverse}
-use Rattle.tpw_occam_code.proofs.Conditions.{same_known}
-use Rattle.tpw_occam_code.proofs.Naming.{restored}
 use Rattle.tpw_occam_code.proofs.emitter.Emitter.name.Goals as goal
 
 pub returns-in-Some-clause-computes : goal.returns-in-Some-clause-computes

@@ -1,4 +1,3 @@
-use Rattle.std.proofs.Common.{◌≡◌, OnOk}
 use Rattle.std.proofs.lemmas.Result.{on_ok_weaker}
 use Rattle.tpw_occam_code.proofs.Sending.{traces}
 use Rattle.tpw_occam_code.proofs.emitter.Emitter.trace.Goals as goal
