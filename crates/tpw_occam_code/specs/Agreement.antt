@@ -44,8 +44,7 @@ abbrev pub constant_fact : ℕ → Fact
 constant_fact c = record {
   source = from_to (signed c) (signed c);
   known = from_to (signed c) (signed c);
-  constant =
-      Some c;
+  constant = Some c;
 }
 
 abbrev pub counted_fact : Range → Fact

@@ -110,8 +110,8 @@ pub record IsToStore (kind : Kind) (a i word bytes : ℕ) (m : Machine) : Type 0
   pub room : bytes ≤ m.sizes (item.Array a)
 
 -- Bytes are written in an item; the flag may be set, and else all that is in use is left.
-pub record Stores (scope : List Entry) (temporaries : ℕ) (i : Item) (place : ℕ) (bytes : List ℕ) (flag : Bool) (m end
-    : Machine)
+pub record Stores (scope : List Entry) (temporaries : ℕ) (i : Item) (place : ℕ) (bytes : List ℕ) (flag : Bool)
+    (m end : Machine)
     : Type 0 where
   pub blocks : (other : Item) (at : ℕ) → Stays scope temporaries other
       → end.blocks other at ≡ with_bytes i place bytes m.blocks other at
@@ -156,8 +156,8 @@ StoresIn k old new t temporaries =
     → IsProcessPlace k storages scope
     → MayTake k storages scope unset t → Knows k scope unset s → word < 2 ^ 32
     → Does k.arrays old new (λ m. Agrees k scope unset s m × HasNumber word m)
-    (Stores scope temporaries (item_of t) (place_of t (subscript_of t s).word) (held_bytes t word) (subscript_of t
-    s).flag)
+    (Stores scope temporaries (item_of t) (place_of t (subscript_of t s).word) (held_bytes t word)
+    (subscript_of t s).flag)
 
 -- a place in a target is there
 abbrev pub IsInside : Knowledge → Target → ℕ → Type 0
@@ -203,8 +203,7 @@ after_one kinds a v s =
     flagged (v.flag || (subscript_of a.target s).flag) (stored kinds a.target (subscript_of a.target s).word v.word s)
 
 -- The code of one assignment makes of a machine that matches a state one that matches what is made of the state. A
--- value
--- that is kept is in a word, as its target takes it.
+-- value that is kept is in a word, as its target takes it.
 abbrev pub MakesOne : Knowledge → (old new : Lines) → Assignment → (kept_in : ℕ) → (is_kept : Bool) → (temporaries : ℕ)
     → Type 0
 MakesOne k old new a kept_in is_kept temporaries =
@@ -214,17 +213,17 @@ MakesOne k old new a kept_in is_kept temporaries =
     → KnowsState k scope s
     → word < 2 ^ 32
     → Does k.arrays old new
-    (λ m. Matches k storages scope unset s m × (is_kept ≡ true
-    → HasWord (item.Temporary kept_in) (taken k.kinds a.target word) m))
-    (λ m end. Matches k storages scope (unset_but a.target unset) (after_one k.kinds a (source_of a is_kept word s)
-    s) end
+    (λ m. Matches k storages scope unset s m
+    × (is_kept ≡ true → HasWord (item.Temporary kept_in) (taken k.kinds a.target word) m))
+    (λ m end.
+    Matches k storages scope (unset_but a.target unset) (after_one k.kinds a (source_of a is_kept word s) s) end
     × LeavesKept scope temporaries m end)
 
 -- ---- all values and subscripts in words
 
 -- assignments may stand there
-pub record MayMakeAll (k : Knowledge) (storages : List Storage) (scope : List Entry) (unset : ℕ
-    → Bool) (all : List Assignment)
+pub record MayMakeAll (k : Knowledge) (storages : List Storage) (scope : List Entry) (unset : ℕ → Bool)
+    (all : List Assignment)
     : Type 0 where
   pub sound : IsTrue (list_all (is_sound_assignment (length k.kinds) storages scope) all)
   pub assigned : (x : ℕ) → unset x ≡ true → list_any (sources_read x) all ≡ false
@@ -244,8 +243,8 @@ abbrev pub KeepsSubscript : Knowledge → (old new : Lines) → ℕ → Kind →
 KeepsSubscript k old new a view e temporaries =
     (storages : List Storage) (scope : List Entry) (unset : ℕ → Bool) (s : Store) → IsPlace k storages scope
     → IsTrue (is_seen storages scope a view) → MayStand k storages scope unset e → Knows k scope unset s
-    → Does k.arrays old new (Agrees k scope unset s) (Saved scope temporaries (subscript_of (target.Element a view e)
-    s))
+    → Does k.arrays old new (Agrees k scope unset s)
+    (Saved scope temporaries (subscript_of (target.Element a view e) s))
 
 -- the subscript of a target is in a word, if it has one
 abbrev pub HasSubscript : Target → (temporary : ℕ) → ℕ → Machine → Type 0
@@ -262,8 +261,8 @@ KeepsParts k old new a temporaries =
     (storages : List Storage) (scope : List Entry) (unset : ℕ → Bool) (s : Store) → IsProcessPlace k storages scope
     → MayMake k storages scope unset a → KnowsState k scope s
     → Does k.arrays old new (Matches k storages scope unset s)
-    (λ m end. Matches k storages scope unset (flagged ((value_of a.value s).flag || (subscript_of a.target s).flag)
-    s) end
+    (λ m end.
+    Matches k storages scope unset (flagged ((value_of a.value s).flag || (subscript_of a.target s).flag) s) end
     × LeavesKept scope temporaries m end
     × HasParts k.kinds a.target temporaries (value_of a.value s).word (subscript_of a.target s).word end)
 

@@ -84,8 +84,8 @@ first_use (process.Assign list) x = first_in_assignments list.items x
 first_use (process.Copy to from) x = Nothing
 first_use (process.Sequence' p first q second) x = then_first (first_use first x) (first_use second x)
 first_use (process.Repeat' y start count p body) x = if count == 0 then Nothing else first_use body x
-first_use (process.If' e p guarded q rest) x = then_first (first_in e x) (either_first (first_use guarded x)
-    (first_use rest x))
+first_use (process.If' e p guarded q rest) x =
+    then_first (first_in e x) (either_first (first_use guarded x) (first_use rest x))
 first_use (process.Variable' y p body) x = first_use body x
 first_use (process.Value' y e p body) x = then_first (first_in e x) (first_use body x)
 first_use (process.Array' a p body) x = first_use body x
@@ -103,8 +103,7 @@ unset_after first unset x = unset x && is_nothing (first x)
 -- ---- states
 
 -- Where processes stand: as expressions; a variable is there, and what is known of it is what its kind says; every
--- array
--- has 1 to 2,048 bytes.
+-- array has 1 to 2,048 bytes.
 pub record IsProcessPlace (k : Knowledge) (storages : List Storage) (scope : List Entry) : Type 0 where
   pub place : IsPlace k storages scope
   pub declared : (x : ℕ) → IsTrue (list_any (is_variable x) scope) → x < length k.kinds
@@ -135,9 +134,8 @@ cleared_bytes bytes = if nat_le (word_bytes bytes) (4 * most_cleared) then word_
 
 -- A machine between processes: it agrees with a state, with its flag and its traces. The zeros are zeros, and where
 -- code points at them they are enough for each array that may be declared.
-pub record Matches (k : Knowledge) (storages : List Storage) (scope : List Entry) (unset : ℕ
-    → Bool) (s : Store) (m : Machine)
-    : Type 0 where
+pub record Matches (k : Knowledge) (storages : List Storage) (scope : List Entry) (unset : ℕ → Bool)
+    (s : Store) (m : Machine) : Type 0 where
   pub agrees : Agrees k scope unset s m
   pub flag : m.error ≡ s.flag
   pub traced : m.traced ≡ s.traced
@@ -147,8 +145,8 @@ pub record Matches (k : Knowledge) (storages : List Storage) (scope : List Entry
 
 -- What the code of a process leaves: the counts of loops, which lie behind their indices; the packet and the result.
 pub record LeavesCounts (scope : List Entry) (m end : Machine) : Type 0 where
-  pub counts : (x i : ℕ) → IsTrue (list_any (is_name x) scope) → end.blocks (Variable x) (4 + i)
-      ≡ m.blocks (Variable x) (4 + i)
+  pub counts : (x i : ℕ) → IsTrue (list_any (is_name x) scope)
+      → end.blocks (Variable x) (4 + i) ≡ m.blocks (Variable x) (4 + i)
   pub to_come : end.to_come ≡ m.to_come
   pub sent : end.sent ≡ m.sent
 
@@ -219,8 +217,8 @@ chosen_lines old source some none =
 abbrev pub Begins : (old new : Lines) → (x start count : ℕ) → Type 0
 Begins old new x start count =
     (arrays : List ℕ) → Does arrays old new HasConstants
-    (λ m end. (end ≡ at_place (place_behind new) (with_item_word (Variable x) 1 count (with_item_word (Variable x) 0
-    start m)))
+    (λ m end.
+    (end ≡ at_place (place_behind new) (with_item_word (Variable x) 1 count (with_item_word (Variable x) 0 start m)))
     × (8 ≤ m.sizes (Variable x)))
 
 -- the lines at the end of a turn

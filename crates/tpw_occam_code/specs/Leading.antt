@@ -70,5 +70,5 @@ HasWord i word m = bytes_at m.blocks i 0 4 ≡ to_le_bytes w32 word
 
 -- the lines lengthen code, and make of each machine with its constants what f says
 abbrev pub Makes : Lines → Lines → (Machine → Type 0) → (Machine → Machine) → Type 0
-Makes old new Before f = (arrays : List ℕ) → Does arrays old new Before (λ m end. end
-    ≡ at_place (place_behind new) (f m))
+Makes old new Before f = (arrays : List ℕ) → Does arrays old new Before
+    (λ m end. end ≡ at_place (place_behind new) (f m))

@@ -28,8 +28,7 @@ target_reads (target.Variable x) t = false
 target_reads (target.Element a kind e) t = reads_target e t
 
 -- One assignment may be made before another that waits: the other reads nothing that it writes, and where both may
--- write
--- to one place the other is the earlier one.
+-- write to one place the other is the earlier one.
 pub record Precedes (one other : Assignment) (is_kept is_earlier : Bool) : Type 0 where
   pub value : is_kept ≡ false → reads_target other.value one.target ≡ false
   pub place : target_reads other.target one.target ≡ false
@@ -123,8 +122,8 @@ MakesMoves k old new all moves temporaries =
     → (storages : List Storage) (scope : List Entry) (unset : ℕ → Bool) (s : Store) → IsProcessPlace k storages scope
     → MayMakeAll k storages scope unset (pending all words waiting) → KnowsState k scope s
     → Does k.arrays old new (λ m. Matches k storages scope unset s m × HasKept k.kinds all words temporaries waiting m)
-    (λ m end. Matches k storages scope (unset_by (pending all words waiting) unset) (assigned k.kinds (pending all
-    words waiting) s) end
+    (λ m end. Matches k storages scope (unset_by (pending all words waiting) unset)
+    (assigned k.kinds (pending all words waiting) s) end
     × LeavesCounts scope m end)
 
 -- .. one move a part of it

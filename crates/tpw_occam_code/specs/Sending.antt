@@ -65,15 +65,15 @@ KeepsValue k old new e item =
     × LeavesCounts scope m end)
 
 -- A machine that matches a state has sent a message.
-pub record HasSentMessage (k : Knowledge) (storages : List Storage) (scope : List Entry) (unset : ℕ
-    → Bool) (channel : Channel)
+pub record HasSentMessage (k : Knowledge) (storages : List Storage) (scope : List Entry) (unset : ℕ → Bool)
+    (channel : Channel)
     (message : Message) (s : Store) (m end : Machine) : Type 0 where
   pub sent : end.sent ≡ sent_with channel (bytes_of message s) m.sent
   pub traced : end.traced ≡ traced_with channel (bytes_of message s) m.traced
   pub to_come : end.to_come ≡ m.to_come
   pub matches : Matches k storages scope unset (record (flagged (flag_of message s) s) { traced = end.traced }) end
-  pub counts : (x i : ℕ) → IsTrue (list_any (is_name x) scope) → end.blocks (Variable x) (4 + i)
-      ≡ m.blocks (Variable x) (4 + i)
+  pub counts : (x i : ℕ) → IsTrue (list_any (is_name x) scope)
+      → end.blocks (Variable x) (4 + i) ≡ m.blocks (Variable x) (4 + i)
 
 -- the code of a message that goes out
 abbrev pub SendsMessage : Knowledge → (old new : Lines) → Channel → Message → Type 0

@@ -200,9 +200,8 @@ effect Input m = do
   only_if (channel == link0_input)
   only_if (nat_le n (length m.to_come))
   only_if (has_bytes m target.0 target.1 n)
-  Some (with_blocks (with_bytes target.0 target.1 (take n m.to_come) m.blocks) (record m {
-    to_come = drop n m.to_come;
-  }))
+  Some (with_blocks (with_bytes target.0 target.1 (take n m.to_come) m.blocks)
+      (record m { to_come = drop n m.to_come }))
 effect Output m = do
   n ← number_in m.areg
   channel ← number_in m.breg
