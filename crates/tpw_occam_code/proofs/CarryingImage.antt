@@ -59,7 +59,7 @@ workspace_most One n most = omega (arith, most)
 workspace_most Two n most = omega (arith, most)
 
 -- a spelling that no length is stated for
-plain_spelling : (addresses : List ℕ) (number : ℕ) (operation : Operation)
+pub plain_spelling : (addresses : List ℕ) (number : ℕ) (operation : Operation)
     → spelled_at addresses number (Spelled operation None) ≡ shortest (instr_at addresses number operation)
 plain_spelling addresses number operation =
     let spelling = shortest (instr_at addresses number operation) in
@@ -83,7 +83,7 @@ module _ (program : Program) (image : ImageValue) (is : IsAssembly program image
       by_side (inl within) = are.small place within
       by_side (inr behind) = omega (arith, index_behind site.addresses place behind)
 
-  operand_fits : (place : ℕ) (step : Step) → HasOperand site step → SFits w32 (entry (instr_of site place step)).operand
+  pub operand_fits : (place : ℕ) (step : Step) → HasOperand site step → SFits w32 (entry (instr_of site place step)).operand
   operand_fits place (Plain instr) has = has
   operand_fits place (Load item word) has = small_fits _ has
   operand_fits place (Store item word) has = small_fits _ has
@@ -107,7 +107,7 @@ module _ (program : Program) (image : ImageValue) (is : IsAssembly program image
   line_there : (place : ℕ) (line : CodeLine) → slice_get site.code place ≡ Some line → slice_get program.lines.items place ≡ Some (line_at site line)
   line_there place line at = ap (λ ls. slice_get ls place) made.lines ∙ get_map (line_at site) site.code place line at
 
-  code_joined : image.code ≡ concat (spelled_from site.addresses 0 program.lines.items)
+  pub code_joined : image.code ≡ concat (spelled_from site.addresses 0 program.lines.items)
   code_joined = ap (λ (i : ImageValue). i.code) is.said ∙ ap (λ a. concat (spelled_from a 0 program.lines.items)) (sym placed)
 
   long : map length (spelled_from site.addresses 0 program.lines.items) ≡ is.lengths

@@ -47,3 +47,4 @@ pub mod Ordering
 pub mod Remaining
 pub mod Settling
 pub mod Registers
+pub mod Accepting
