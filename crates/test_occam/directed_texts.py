@@ -109,6 +109,9 @@ def assignments():
     worker('a subscript that changes', ['i := p[0] /\\ 1', 'i, p[i] := 1 - i, 9', 'r := (p[0] TIMES 10) PLUS i'], pairs(), declared=['INT i:'])
     worker('zero in each turn', ['SEQ i = 0 FOR 5', '  INT x:', '  [2]INT a:', '  SEQ', '    a[i /\\ 1] := a[1] + 1', '    x := x + a[0]', '    r := r + x'],
            pairs()[:2])
+    for size in (1, 2, 3, 32, 33, 40, 64, 65):
+        worker(f'{size} zeros in each turn', ['SEQ i = 0 FOR 3', f'  [{size}]INT a:', '  SEQ', f'    a[{size - 1}] := a[{size - 1}] + (i + 1)',
+               f'    r := (r * 10) + a[{size - 1}]'], pairs()[:1])
     worker('zero at each call', ['SEQ i = 0 FOR 3', '  once (r)'], pairs()[:2],
            declared=['PROC once (INT total)', '  INT x:', '  SEQ', '    x := x + 1', '    total := total + x', ':'])
 
