@@ -146,7 +146,7 @@ init 7: #0
 init 8: #80000010
 init 9: #80000000
 loop head L8 lend L14 control 6 turns 2 start 0
--- line 1: PROC rise (CHAN OF INT packet, CHAN OF INT result)
+-- line 4: packet ? x
         ldlp 0
         ldl 3
         ldc 4
@@ -168,7 +168,7 @@ L8:
 L14:
         lend
 L15:
--- line 1: PROC rise (CHAN OF INT packet, CHAN OF INT result)
+-- line 7: result ! x
         ldlp 0
         ldl 4
         ldc 4

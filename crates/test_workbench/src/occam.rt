@@ -58,7 +58,7 @@ init 11: #80000010
 init 12: #7ffffff8
 init 13: #80000000
 loop head L8 lend L25 control 7 turns 65 start 0
--- line 2: PROC sums (CHAN OF INT packet, CHAN OF INT result, CHAN OF INT trace)
+-- line 5: packet ? x
         ldlp 1
         ldl 6
         ldc 4
@@ -95,7 +95,7 @@ L23:
 L25:
         lend
 L26:
--- line 2: PROC sums (CHAN OF INT packet, CHAN OF INT result, CHAN OF INT trace)
+-- line 14: result ! sum + 2147483640
         ldl 0
         ldl 7
         add
@@ -157,9 +157,10 @@ const PROFILED: &str = "\
 steps 628
  52.5%           330  ##############################  line 6: SEQ i = 0 FOR 65
  41.7%           262  #######################         line 8: i < x
-  2.2%            14  #                               line 2: PROC sums (CHAN OF INT packet, CHAN OF INT result, CHAN OF INT trace)
   2.2%            14  #                               line 10: sum := sum + (x * i)
+  1.5%            10                                  line 14: result ! sum + 2147483640
   1.2%             8                                  line 11: trace ! sum
+  0.6%             4                                  line 5: packet ? x
  96.9%           609  #############################   loop i (line 6), 9 to 28
 ";
 
@@ -227,11 +228,11 @@ const SAME_LISTED: &str = "\
 YES 10 10
 budget   10
     at  bytes                   left  instruction
-     0  10                        10  ldlp 0        ; line 1: PROC same (CHAN OF INT packet, CHAN OF INT result)
+     0  10                        10  ldlp 0        ; line 4: packet ? x
      1  71                         9  ldl 1
      2  44                         8  ldc 4
      3  f7                         7  in
-     4  10                         6  ldlp 0
+     4  10                         6  ldlp 0        ; line 5: result ! x
      5  72                         5  ldl 2
      6  44                         4  ldc 4
      7  fb                         3  out

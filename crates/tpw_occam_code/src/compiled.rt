@@ -65,9 +65,9 @@ fn code_of(alloc: Global, worker: &Worker) -> Result<Code, CodeFault>
     law_arrays(worker);
     let mut emitter = Emitter::new(alloc, worker)?;
     let mut code = Code::new(alloc);
-    emitter.receive(&mut code, worker.receive, worker.line)?;
-    emitter.process(&mut code, &worker.body, worker.line)?;
-    emitter.send(&mut code, &worker.send, worker.line)?;
+    emitter.receive(&mut code, worker.receive, worker.receive_line)?;
+    emitter.process(&mut code, &worker.body, worker.receive_line)?;
+    emitter.send(&mut code, &worker.send, worker.send_line)?;
     Ok(code)
 }
 

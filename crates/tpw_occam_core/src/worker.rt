@@ -41,6 +41,8 @@ pub struct Worker {
     pub receive: Place,
     pub body: Process,
     pub send: Message,
-    /// The line of the text that the worker begins in.
-    pub line: u32,
+    /// The line of the text that receives the packet.
+    pub receive_line: u32,
+    /// The line of the text that sends the result.
+    pub send_line: u32,
 }

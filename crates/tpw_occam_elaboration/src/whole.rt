@@ -117,6 +117,14 @@ fn parts_of<'a>(p: &'a Written<'a>) -> Option<Parts<'a>> {
     }
 }
 
+/// The line of a step that receives or sends.
+fn step_line(step: &Written<'_>) -> u32 {
+    match step {
+        Written::Receive { span, .. } | Written::Send { span, .. } => line_of(*span),
+        _ => 0,
+    }
+}
+
 impl<'a> Elaborator<'a> {
     /// The word of an expression in front of the worker's SEQ, and whether it sets the flag: what a worker gives that
     /// sends it at once, since all variables and arrays are as at first there.
@@ -130,7 +138,8 @@ impl<'a> Elaborator<'a> {
             receive: Place::Variable(0),
             body: Process::Skip,
             send: Message::Value(e),
-            line: 0,
+            receive_line: 0,
+            send_line: 0,
         };
         let given = evaluate(alloc, &worker, &[])?;
         let Worker {
@@ -365,7 +374,6 @@ impl<'a> Elaborator<'a> {
         declared: Declared,
         parts: Parts<'a>,
         channels: Channels,
-        line: u32,
     ) -> Result<Worker, Stop> {
         let frame = declared.frame;
         let (first, steps, last) = match parts.steps {
@@ -395,7 +403,8 @@ impl<'a> Elaborator<'a> {
             receive: received.place,
             body,
             send: message,
-            line,
+            receive_line: step_line(first),
+            send_line: step_line(last),
         })
     }
 
@@ -430,7 +439,7 @@ impl<'a> Elaborator<'a> {
         };
         let frame = frame.with_scope(channels.scope);
         let declared = self.declared(frame, parts.declarations, Level::Worker, MAX_DEPTH)?;
-        let made = self.with_steps(declared, parts, channels, line_of(worker.span))?;
+        let made = self.with_steps(declared, parts, channels)?;
         self.judged(worker, made)
     }
 
