@@ -107,6 +107,9 @@ def assignments():
     worker('values before targets', ['x, y, z := 1, 2, 3', 'x, y, z := y, z, x', 'r := (x TIMES 100) PLUS ((y TIMES 10) PLUS z)'],
            pairs()[:2], declared=['INT x, y, z:'])
     worker('a subscript that changes', ['i := p[0] /\\ 1', 'i, p[i] := 1 - i, 9', 'r := (p[0] TIMES 10) PLUS i'], pairs(), declared=['INT i:'])
+    worker('subscripts that read what is written', ['SEQ i = 0 FOR 2', '  SEQ', '    a[i] := p[i] /\\ 1', '    b[i] := 1 - a[i]',
+           'a[b[0] /\\ 1], b[a[0] /\\ 1] := 6, 9', 'SEQ i = 0 FOR 2', '  r := (r TIMES 7) PLUS ((a[i] TIMES 3) PLUS b[i])'],
+           pairs()[:30], declared=['[2]INT a, b:'])
     worker('zero in each turn', ['SEQ i = 0 FOR 5', '  INT x:', '  [2]INT a:', '  SEQ', '    a[i /\\ 1] := a[1] + 1', '    x := x + a[0]', '    r := r + x'],
            pairs()[:2])
     for size in (1, 2, 3, 32, 33, 40, 64, 65):
