@@ -59,7 +59,7 @@ workspace_most One n most = omega (arith, most)
 workspace_most Two n most = omega (arith, most)
 
 -- a spelling that no length is stated for
-plain_spelling : (addresses : List ℕ) (number : ℕ) (operation : Operation)
+pub plain_spelling : (addresses : List ℕ) (number : ℕ) (operation : Operation)
     → spelled_at addresses number (Spelled operation None) ≡ shortest (instr_at addresses number operation)
 plain_spelling addresses number operation =
     let spelling = shortest (instr_at addresses number operation) in
@@ -76,14 +76,14 @@ module _ (program : Program) (image : ImageValue) (is : IsAssembly program image
   count : length site.addresses ≡ length program.lines.items + 1
   count = has_count program site.addresses is.lengths is.laid_out placed
 
-  small : (place : ℕ) → address_of site place < 2 ^ 16
+  pub small : (place : ℕ) → address_of site place < 2 ^ 16
   small place = by_side (cases_lt place (length site.addresses))
     where
       by_side : (place < length site.addresses) ⊎ (length site.addresses ≤ place) → address_of site place < 2 ^ 16
       by_side (inl within) = are.small place within
       by_side (inr behind) = omega (arith, index_behind site.addresses place behind)
 
-  operand_fits : (place : ℕ) (step : Step) → HasOperand site step → SFits w32 (entry (instr_of site place step)).operand
+  pub operand_fits : (place : ℕ) (step : Step) → HasOperand site step → SFits w32 (entry (instr_of site place step)).operand
   operand_fits place (Plain instr) has = has
   operand_fits place (Load item word) has = small_fits _ has
   operand_fits place (Store item word) has = small_fits _ has
@@ -104,13 +104,13 @@ module _ (program : Program) (image : ImageValue) (is : IsAssembly program image
   goes_on place (CjTo to) sound = let way = way_is _ _ _ sound in rises (place + 1) to way.0 way.1
   goes_on place (Distance from to) sound = let way = way_is _ _ _ sound in rises from to way.0 way.1
 
-  line_there : (place : ℕ) (line : CodeLine) → slice_get site.code place ≡ Some line → slice_get program.lines.items place ≡ Some (line_at site line)
+  pub line_there : (place : ℕ) (line : CodeLine) → slice_get site.code place ≡ Some line → slice_get program.lines.items place ≡ Some (line_at site line)
   line_there place line at = ap (λ ls. slice_get ls place) made.lines ∙ get_map (line_at site) site.code place line at
 
-  code_joined : image.code ≡ concat (spelled_from site.addresses 0 program.lines.items)
+  pub code_joined : image.code ≡ concat (spelled_from site.addresses 0 program.lines.items)
   code_joined = ap (λ (i : ImageValue). i.code) is.said ∙ ap (λ a. concat (spelled_from a 0 program.lines.items)) (sym placed)
 
-  long : map length (spelled_from site.addresses 0 program.lines.items) ≡ is.lengths
+  pub long : map length (spelled_from site.addresses 0 program.lines.items) ≡ is.lengths
   long = ap (λ a. map length (spelled_from a 0 program.lines.items)) placed ∙ is.laid_out.layout.least.layout
 
   pub spelled_in : (place : ℕ) (line : CodeLine) → slice_get site.code place ≡ Some line → IsSpelledIn image site place line.step

@@ -15,7 +15,7 @@ ends_behind first most [] are = are
 ends_behind first most (one ∷ placed) are = omega (arith, are.0, ends_behind (one.local + one.words) most placed are.1)
 
 -- an item that has words lies between
-lies_between : (first most : ℕ) (placed : List Placed) (item : Item) → AreBetween first most placed → 0 < words_at placed item
+pub lies_between : (first most : ℕ) (placed : List Placed) (item : Item) → AreBetween first most placed → 0 < words_at placed item
     → (first ≤ local_at placed item) × (local_at placed item + words_at placed item ≤ most)
 lies_between first most [] item are some = absurd (omega (arith, some))
 lies_between first most (one ∷ placed) item are some = by_test (lies_between (one.local + one.words) most placed item are.1) (is_item one.item item) some

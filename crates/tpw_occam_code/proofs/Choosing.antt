@@ -1,5 +1,5 @@
 -- The code of IF.
-use Rattle.std.proofs.Common.{◌≡◌, ◌+◌, [], ◌∷◌, ◌++◌, ℕ, zero, suc, List, length, Some, Bool, false, true, nat_eq, refl, ap, sym, subst, ◌∙◌, arith, append_assoc, length-append}
+use Rattle.std.proofs.Common.{◌≡◌, ◌+◌, ◌<◌, [], ◌∷◌, ◌++◌, ℕ, zero, suc, List, length, Some, Bool, false, true, nat_eq, refl, ap, sym, subst, ◌∙◌, arith, append_assoc, length-append}
 use Rattle.std.specs.Prelude.{slice_get, ◌||◌, ◌&&◌, ◌≢◌, if◌then◌else◌}
 use Rattle.std.proofs.Math.Bool.{or-false}
 use Rattle.std.proofs.lemmas.Bool.{eq-eqb}
@@ -17,15 +17,15 @@ use Rattle.tpw_occam_code.specs.declared.analysis.First.{First}
 use Rattle.tpw_occam_code.specs.declared.analysis.First.TheVariants.{Nothing, Assigned, Read}
 use Rattle.tpw_occam_code.specs.declared.code.Step.TheVariants.{JumpTo, CjTo}
 use Rattle.tpw_occam_code.specs.declared.code.CodeLine.{CodeLine}
-use Rattle.tpw_occam_code.specs.Code.{Lines, followed_by, joined, none_at, line_of, place_behind}
+use Rattle.tpw_occam_code.specs.Code.{Lines, followed_by, joined, none_at, line_of, place_behind, chosen_lines}
 use Rattle.tpw_occam_code.specs.Symbolic.{Machine, nowhere, onward, performed, at_place, number, pop}
 use Rattle.tpw_occam_code.specs.Leading.{Does, IsBefore, Arrives, HasLines}
 use Rattle.tpw_occam_code.specs.Agreement.{Knowledge, constant_in}
 use Rattle.tpw_occam_code.specs.Computing.{MayStand, reads, Decided, Decides}
-use Rattle.tpw_occam_code.specs.Executing.{MayRun, Matches, LeavesCounts, Executes, Chooses, chosen_lines, is_skip, first_use, then_first, either_first, is_nothing, unset_after}
+use Rattle.tpw_occam_code.specs.Executing.{MayRun, Matches, LeavesCounts, Executes, Chooses, is_skip, first_use, then_first, either_first, is_nothing, unset_after}
 use Rattle.tpw_occam_code.proofs.Leading.{does_less, step_is, leads_then, has_first, does_kept}
 use Rattle.tpw_occam_code.proofs.Constructs.{constant_value}
-use Rattle.tpw_occam_code.proofs.Conditions.{does_branch, has_behind, jump_stands, cj_jumps, cj_passes, suc_not_zero}
+use Rattle.tpw_occam_code.proofs.Conditions.{get_behind, does_branch, has_behind, jump_stands, cj_jumps, cj_passes, suc_not_zero}
 use Rattle.tpw_occam_code.proofs.Standing.{Place, and_first, and_second}
 use Rattle.tpw_occam_code.proofs.Knowing.{knows_fewer, knows_flagged, matches_fewer, counts_of_items}
 use Rattle.tpw_occam_code.proofs.Executing.{matches_leaves, false_true, and_true, not_read}
@@ -422,3 +422,35 @@ branch_executes k old between more new_code source e guarded rest skips decides 
         },
       );
     })
+
+-- ---- code that is made apart, for the place where it then stands
+
+pub does_joined : (arrays : List ℕ) (old more : Lines) (Before : Machine → Type 0) (After : Machine → Machine → Type 0)
+    → Does arrays (none_at (place_behind old)) more Before After → Does arrays old (joined old more) Before After
+does_joined arrays old more Before After does = record {
+  base = refl;
+  more = more.lines;
+  lines = refl;
+  arrives = λ m before said.
+      let a = does.arrives m (record {
+        place = before.place ∙ omega arith;
+        lines = λ i h.
+            let within : length old.lines + i < length (old.lines ++ more.lines) = omega (arith, h, length-append old.lines more.lines) in
+            ap (slice_get m.code) (omega (arith, does.base)) ∙ before.lines (length old.lines + i) within ∙ get_behind old.lines more.lines i;
+        served = before.served;
+        running = before.running;
+      }) said in
+      record {
+        end = a.end;
+        way = a.way;
+        place = a.place ∙ omega (arith, does.base, length-append old.lines more.lines);
+        running = a.running;
+        same_code = a.same_code;
+        same_sizes = a.same_sizes;
+        after = a.after;
+      };
+}
+
+pub executes_joined : (k : Knowledge) (old more : Lines) (p : Process) → Executes k (none_at (place_behind old)) more p → Executes k old (joined old more) p
+executes_joined k old more p inner storages scope unset s place may known =
+    does_joined k.arrays old more _ _ (inner storages scope unset s place may known)

@@ -1,4 +1,5 @@
 pub mod Leading
+pub mod Flowing
 pub mod Words
 pub mod Machines
 pub mod Answering
@@ -47,3 +48,7 @@ pub mod Ordering
 pub mod Remaining
 pub mod Settling
 pub mod Registers
+pub mod Accepting
+pub mod CutPlaces
+pub mod Nesting
+pub mod KeepingRules

@@ -26,13 +26,13 @@ use Rattle.tpw_occam_code.specs.declared.items.Item.TheVariants as item
 use Rattle.tpw_occam_code.specs.declared.code.Step.TheVariants.{Plain, Pointer, Distance}
 use Rattle.tpw_occam_code.specs.declared.code.CodeLine.{CodeLine}
 use Rattle.tpw_occam_code.specs.declared.code.Turns.{Turns}
-use Rattle.tpw_occam_code.specs.Code.{Lines, followed_by, with_loop, line_of, place_behind}
+use Rattle.tpw_occam_code.specs.Code.{Lines, followed_by, with_loop, line_of, place_behind, loop_end}
 use Rattle.tpw_occam_code.specs.Blocks.{Blocks, is_item, bytes_at, word_at, with_word, with_bytes}
 use Rattle.tpw_occam_code.specs.Ranges.{Contains}
 use Rattle.tpw_occam_code.specs.Symbolic.{Machine, address, distance, Leads, nowhere, onward, performed, effect, at_place, with_blocks, push}
 use Rattle.tpw_occam_code.specs.Leading.{Does, IsBefore, Arrives, HasLines, HasWord}
 use Rattle.tpw_occam_code.specs.Agreement.{Knowledge, with_fact, fact_at, counted_fact, constant_fact, FitsFact, LeavesItems}
-use Rattle.tpw_occam_code.specs.Executing.{Follows, Remains, IsProcessPlace, MayRun, KnowsState, Matches, LeavesCounts, Executes, Repeats, Begins, loop_end, first_use, is_nothing, unset_after}
+use Rattle.tpw_occam_code.specs.Executing.{Follows, Remains, IsProcessPlace, MayRun, KnowsState, Matches, LeavesCounts, Executes, Repeats, Begins, first_use, is_nothing, unset_after}
 use Rattle.tpw_occam_code.proofs.Leading.{does_less, does_nothing, step_is, leads_then, has_first, does_kept}
 use Rattle.tpw_occam_code.proofs.Keeping.{is_item-self, other_item, word_written}
 use Rattle.tpw_occam_code.proofs.Naming.{variable_differs, slice_same, constant_fits, new_name}

@@ -192,7 +192,7 @@ lines_same code addresses wptr placed (line ∷ lines) =
     ap (λ l. l ∷ map (line_at (places placed)) lines) here
     ∙ ap (λ ls. line_at (site_of code addresses wptr placed) line ∷ ls) (lines_same code addresses wptr placed lines)
 
-is_made_of : (w : Worker) (code : Lines) (placed : List Placed) (program : Program) (addresses : List ℕ) (wptr : ℕ) → IsBuilt w code placed program
+pub is_made_of : (w : Worker) (code : Lines) (placed : List Placed) (program : Program) (addresses : List ℕ) (wptr : ℕ) → IsBuilt w code placed program
     → IsMadeOf program (site_of code.lines addresses wptr placed)
 is_made_of w code placed program addresses wptr built = record {
   lines = built.lines ∙ lines_same code.lines addresses wptr placed code.lines;

@@ -1,6 +1,9 @@
 -- Code: what the steps of a worker are, one behind another.
 use Rattle.std.specs.Prelude.{ℕ, ◌+◌, List, [], ◌∷◌, ◌++◌, length}
+use Rattle.tp_decode.specs.declared.instr.Instr.TheVariants.{Lend}
+use Rattle.tpw_occam_code.specs.declared.items.Item.TheVariants.{Variable}
 use Rattle.tpw_occam_code.specs.declared.code.Step.{Step}
+use Rattle.tpw_occam_code.specs.declared.code.Step.TheVariants.{Plain, Pointer, JumpTo, CjTo, Distance}
 use Rattle.tpw_occam_code.specs.declared.code.CodeLine.{CodeLine}
 use Rattle.tpw_occam_code.specs.declared.code.Turns.{Turns}
 
@@ -32,3 +35,22 @@ with_loop code turns = record code { loops = code.loops ++ turns ∷ [] }
 
 abbrev pub line_of : ℕ → Step → CodeLine
 line_of source step = record { step = step; source = source }
+
+-- lines for where Areg is not 0, and for where it is
+abbrev pub chosen_lines : Lines → ℕ → (some none : Lines) → Lines
+chosen_lines old source some none =
+    joined (followed_by (joined (followed_by old (line_of source (CjTo (place_behind some + 1)) ∷ [])) some)
+    (line_of source (JumpTo (place_behind none)) ∷ [])) none
+
+-- the lines at the end of a turn
+abbrev pub loop_end : Lines → Turns → List CodeLine
+loop_end old turns =
+    line_of turns.source (Pointer (Variable turns.index) 0)
+    ∷ line_of turns.source (Distance turns.head (place_behind old + 3))
+    ∷ line_of turns.source (Plain Lend) ∷ []
+
+-- the code of a turn, the end of its loop, and the loop
+abbrev pub turned_lines : (old turn : Lines) → Turns → Lines
+turned_lines old turn turns =
+    with_loop (followed_by (joined old turn) (loop_end (joined old turn) turns))
+    (record turns { lend = place_behind (joined old turn) + 2 })

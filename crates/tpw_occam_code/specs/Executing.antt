@@ -3,7 +3,6 @@ use Rattle.std.specs.Prelude.{◌≡◌, ◌≢◌, ℕ, ◌+◌, ◌*◌, ◌^�
 use Rattle.std.specs.Prelude.{nat_le}
 use Rattle.std.specs.Prelude.{List, [], ◌∷◌, ◌++◌, length, map, replicate, slice_index, slice_get, Some, IsTrue, Box}
 use Rattle.std.specs.Global.{Global}
-use Rattle.tp_decode.specs.declared.instr.Instr.TheVariants.{Lend}
 use Rattle.std.specs.List.{list_all, list_any}
 use Rattle.tpw_occam_core.specs.declared.worker.Storage.{Storage}
 use Rattle.tpw_occam_core.specs.declared.scope.Entry.{Entry}
@@ -28,10 +27,9 @@ use Rattle.tpw_occam_code.specs.declared.analysis.First.{First}
 use Rattle.tpw_occam_code.specs.declared.analysis.First.TheVariants.{Nothing, Assigned, Read}
 use Rattle.tpw_occam_code.specs.declared.items.Item.{Item}
 use Rattle.tpw_occam_code.specs.declared.items.Item.TheVariants.{Variable, Zeros}
-use Rattle.tpw_occam_code.specs.declared.code.Step.TheVariants.{Plain, Pointer, JumpTo, CjTo, Distance}
+use Rattle.tpw_occam_code.specs.declared.code.Step.TheVariants.{Pointer}
 use Rattle.tpw_occam_code.specs.declared.code.CodeLine.{CodeLine}
-use Rattle.tpw_occam_code.specs.declared.code.Turns.{Turns}
-use Rattle.tpw_occam_code.specs.Code.{Lines, followed_by, joined, line_of, place_behind}
+use Rattle.tpw_occam_code.specs.Code.{Lines, place_behind}
 use Rattle.tpw_occam_code.specs.Blocks.{with_word}
 use Rattle.tpw_occam_code.specs.Symbolic.{Machine, number, push, pop, with_blocks, at_place}
 use Rattle.tpw_occam_code.specs.Leading.{Does, Makes, HasConstants, word_bytes}
@@ -207,12 +205,6 @@ abbrev pub Starts : First → (old new : Lines) → ℕ → Type 0
 Starts Read old new x = Makes old new HasConstants (with_item_word (Variable x) 0 0)
 Starts found old new x = new ≡ old
 
--- lines for where Areg is not 0, and for where it is
-abbrev pub chosen_lines : Lines → ℕ → (some none : Lines) → Lines
-chosen_lines old source some none =
-    joined (followed_by (joined (followed_by old (line_of source (CjTo (place_behind some + 1)) ∷ [])) some)
-    (line_of source (JumpTo (place_behind none)) ∷ [])) none
-
 -- the words of a loop's index and count
 abbrev pub Begins : (old new : Lines) → (x start count : ℕ) → Type 0
 Begins old new x start count =
@@ -220,13 +212,6 @@ Begins old new x start count =
     (λ m end.
     (end ≡ at_place (place_behind new) (with_item_word (Variable x) 1 count (with_item_word (Variable x) 0 start m)))
     × (8 ≤ m.sizes (Variable x)))
-
--- the lines at the end of a turn
-abbrev pub loop_end : Lines → Turns → List CodeLine
-loop_end old turns =
-    line_of turns.source (Pointer (Variable turns.index) 0)
-    ∷ line_of turns.source (Distance turns.head (place_behind old + 3))
-    ∷ line_of turns.source (Plain Lend) ∷ []
 
 -- the code of a process with a name of its own, ..
 abbrev pub DeclaresVariable : Knowledge → (old new : Lines) → ℕ → Process → Type 0

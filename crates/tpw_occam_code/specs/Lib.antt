@@ -5,6 +5,7 @@ pub mod Program
 pub mod Blocks
 pub mod Symbolic
 pub mod Leading
+pub mod Flowing
 pub mod Carried
 pub mod Ranges
 pub mod Values

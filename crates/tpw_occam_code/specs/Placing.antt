@@ -1,9 +1,13 @@
 -- Where items are placed, and what a program is made of.
 use Rattle.std.specs.Prelude.{◌≡◌, ℕ, ◌+◌, ◌*◌, ◌<◌, ◌≤◌, ◌^◌, if◌then◌else◌, List, [], ◌∷◌, map, slice_index, All}
-use Rattle.std.specs.Prelude.{None, IsTrue}
+use Rattle.std.specs.Prelude.{None, IsTrue, pos, ◌+ℤ◌, ◌-ℤ◌, ◌≤ℤ◌}
 use Rattle.std.specs.Int.{w32, to_le_bytes}
 use mir.Val.{SFits}
+use Rattle.tp_decode.specs.Words.{signed}
 use Rattle.tp_decode.specs.Table.{entry}
+use Rattle.tp_flow.specs.Limits.{most_turns, greatest_index}
+use Rattle.tpw_asm.specs.declared.program.Spot.TheVariants.{Place}
+use Rattle.tpw_asm.specs.declared.program.Loop.{Loop}
 use Rattle.tpw_asm.specs.declared.program.Line.{Line}
 use Rattle.tpw_asm.specs.declared.program.Line.TheVariants.{Spelled}
 use Rattle.tpw_asm.specs.declared.program.Program.{Program}
@@ -12,8 +16,9 @@ use Rattle.tpw_occam_core.specs.Sound.{are_declared, is_sound, globals, is_new_a
 use Rattle.tpw_occam_code.specs.declared.code.Step.{Step}
 use Rattle.tpw_occam_code.specs.declared.code.Step.TheVariants.{Plain, Load, Store, Pointer}
 use Rattle.tpw_occam_code.specs.declared.code.CodeLine.{CodeLine}
+use Rattle.tpw_occam_code.specs.declared.code.Turns.{Turns}
 use Rattle.tpw_occam_code.specs.declared.items.Item.{Item}
-use Rattle.tpw_occam_code.specs.declared.items.Item.TheVariants.{Zeros}
+use Rattle.tpw_occam_code.specs.declared.items.Item.TheVariants.{Variable, Zeros}
 use Rattle.tpw_occam_code.specs.declared.items.Placed.{Placed}
 use Rattle.tpw_occam_code.specs.Program.{place_bytes, message_bytes}
 use Rattle.tpw_occam_code.specs.Code.{Lines}
@@ -80,6 +85,29 @@ pub record IsPlaced (w : Worker) (placed : List Placed) (line : CodeLine) : Type
   pub operand : HasOperand (places placed) line.step
   pub served : IsServed w placed line.step
 
+-- ---- loops
+
+-- the loop of a program that turns become, where the local words begin with a word of the workspace
+abbrev pub loop_at : Site → (start : ℕ) → Turns → Loop
+loop_at site start turns = record {
+  head = Place turns.head;
+  lend = Place turns.lend;
+  control = start + site.locals (Variable turns.index);
+  count = turns.count;
+  start = signed turns.start;
+}
+
+-- turns are as many as a loop may have, and the last index is a word
+pub record AreTurns (turns : Turns) : Type 0 where
+  pub some : 1 ≤ turns.count
+  pub few : turns.count ≤ most_turns
+  pub ends : (signed turns.start +ℤ pos turns.count -ℤ pos 1) ≤ℤ pos greatest_index
+
+-- .. and the index has a word, and the count behind it
+pub record IsRow (placed : List Placed) (row : Turns) : Type 0 where
+  pub turns : AreTurns row
+  pub room : 2 ≤ words_at placed (Variable row.index)
+
 -- ---- words
 
 -- the words of an item, behind so many words of the workspace, are what the item is at first
@@ -94,6 +122,8 @@ HoldsFirst w start words one =
 pub record IsBuilt (w : Worker) (code : Lines) (placed : List Placed) (program : Program) : Type 0 where
   pub lines : program.lines.items ≡ map (line_at (places placed)) code.lines
   pub steps : All (IsPlaced w placed) code.lines
+  pub loops : program.loops.items ≡ map (loop_at (places placed) program.start) code.loops
+  pub rows : All (IsRow placed) code.loops
   pub words : All (HoldsFirst w program.start program.initial.items) placed
   pub most : ℕ
   pub between : AreBetween 0 most placed

@@ -1,6 +1,8 @@
 -- What is said of a program that is made.
 use Rattle.std.specs.Prelude.{◌≡◌, ℕ, ◌*◌, ◌<◌, List, length, All, Option, Some, None}
-use Rattle.tp_image.specs.Image.{ImageValue}
+use Rattle.tp_image.specs.Image.{ImageValue, InRange}
+use Rattle.tp_decode.specs.Cutting.{Cut, IsCutting}
+use Rattle.tp_flow.specs.NestKept.{KeepsNest}
 use Rattle.tp_step.specs.Runs.{Run, RunsAlone}
 use Rattle.tpw_asm.specs.declared.program.Program.{Program}
 use Rattle.tpw_asm.specs.Assembly.{IsAssembly, AreItsAddresses}
@@ -44,3 +46,15 @@ pub record Means (w : Worker) (program : Program) : Type 0 where
   pub result : 4 * program.result ≡ message_bytes w.arrays.items w.send
   pub runs : (image : ImageValue) (bytes : List ℕ) (run : Run) → IsAssembly program image → IsPacket image bytes
       → RunsAlone image bytes run → GivesMeaning run (meaning w bytes)
+
+-- An image breaks no rule on its fields, on its code as instructions, and on its loops and jumps: the verifier can
+-- refuse it for its states and its budget alone.
+pub record KeepsRules (image : ImageValue) : Type 0 where
+  pub in_range : InRange image
+  pub cuts : List Cut
+  pub cutting : IsCutting image.code cuts
+  pub nest : KeepsNest image.loops image.workspace cuts
+
+-- so does each image that a program is assembled to
+abbrev pub GivesRuled : Program → Type 0
+GivesRuled program = (image : ImageValue) → IsAssembly program image → KeepsRules image

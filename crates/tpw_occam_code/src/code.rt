@@ -1,13 +1,15 @@
 //! Code: steps that are appended one by one. Nothing that stands is changed.
 
-ghost use Rattle.std.specs.Prelude.{◌≡◌, ◌+◌, ◌≤◌, [], ◌∷◌, IfOk, OnOk};
+ghost use Rattle.std.specs.Prelude.{◌≡◌, ◌+◌, ◌≤◌, [], ◌∷◌, ◌++◌, if◌then◌else◌, is_ok, IfOk, OnOk, IsTrue};
 ghost use Rattle.tp_decode.specs.declared.instr.Instr.{Instr};
-ghost use Rattle.tpw_occam_code.specs.declared.code.Step.TheVariants.{Plain};
+ghost use Rattle.tpw_occam_code.specs.declared.code.Step.TheVariants.{Plain, CjTo};
 ghost use Rattle.tpw_occam_code.specs.Code.{none_at, place_behind, followed_by, joined, with_loop, line_of};
+ghost use Rattle.tpw_occam_code.specs.Code.{chosen_lines, turned_lines};
+ghost use Rattle.tpw_occam_code.specs.Flowing.{is_straight, is_straight_instr, FlowsOn};
 
 use crate::fault::CodeFault;
 use crate::items::Item;
-use std::alloc::Global;
+use std::alloc::{AllocError, Global};
 use std::marker::Model;
 use tp_decode::Instr;
 
@@ -48,7 +50,8 @@ pub(crate) struct Turns {
     pub(crate) source: u32,
 }
 
-/// Lines that stand from a place on, and the loops in them, each behind those that lie within it.
+/// Lines that stand from a place on, and the loops in them, each behind those that lie within it. Jumps go forward, and
+/// loops are a nest to which they keep.
 #[derive(Drop)]
 pub(crate) struct Code {
     base: usize,
@@ -59,12 +62,33 @@ pub(crate) struct Code {
 impl Model for Code {
     ghost use Rattle.std.specs.Prelude.{◌+◌, ◌≤◌, length};
     ghost use Rattle.tpw_occam_code.specs.Code.{Lines};
+    ghost use Rattle.tpw_occam_code.specs.Flowing.{FlowsOn};
 
     ghost Value = { Lines };
 
     ghost view = { λ c. record { base = c.base; lines = c.lines.items; loops = c.loops.items } };
 
-    ghost invariant = { λ c. c.base + length c.lines.items ≤ 8192 };
+    ghost invariant = { λ c. (c.base + length c.lines.items ≤ 8192)
+        × FlowsOn (record { base = c.base; lines = c.lines.items; loops = c.loops.items }) };
+}
+
+/// Appends lines and loops, or leaves both as they are.
+fn extend(
+    lines: &mut Vec<CodeLine>,
+    loops: &mut Vec<Turns>,
+    more: &[CodeLine],
+    within: &[Turns],
+) -> Result<(), AllocError>
+    ensures lines { lines.new.items ≡ (if is_ok result then lines.old.items ++ more.now else lines.old.items) }
+    ensures loops { loops.new.items ≡ (if is_ok result then loops.old.items ++ within.now else loops.old.items) }
+{
+    let count = lines.len();
+    lines.extend_from_slice(more)?;
+    let extended = loops.extend_from_slice(within);
+    if extended.is_err() {
+        lines.truncate(count);
+    }
+    extended
 }
 
 impl Code {
@@ -74,6 +98,17 @@ impl Code {
     {
         Code {
             base: 0,
+            lines: Vec::new(alloc),
+            loops: Vec::new(alloc),
+        }
+    }
+
+    /// No lines, at the place behind the last line.
+    pub(crate) fn behind(&self, alloc: Global) -> Code
+        ensures { result ≡ none_at (place_behind self.now) }
+    {
+        Code {
+            base: self.here(),
             lines: Vec::new(alloc),
             loops: Vec::new(alloc),
         }
@@ -115,8 +150,17 @@ impl Code {
         &self.loops
     }
 
-    /// Appends a step that comes from a line of the text.
+    /// Control flows in code. It does nothing: its contract says what the type says.
+    pub(crate) fn law_flows(&self)
+        ensures { FlowsOn self.now }
+    {
+        // Naming a field gives the type's invariant.
+        let _ = &self.lines;
+    }
+
+    /// Appends a step that comes from a line of the text and is neither a jump nor the end of a turn.
     pub(crate) fn emit(&mut self, source: u32, step: Step) -> Result<(), CodeFault>
+        requires { IsTrue (is_straight step) }
         ensures { OnOk result (self.new ≡ followed_by self.old (line_of source step ∷ [])) }
     {
         if self.here() >= MAX_LINES {
@@ -126,30 +170,98 @@ impl Code {
         Ok(())
     }
 
-    /// Appends an instruction.
+    /// Appends an instruction that is neither a jump nor the end of a turn.
     pub(crate) fn instr(&mut self, source: u32, instr: Instr) -> Result<(), CodeFault>
+        requires { IsTrue (is_straight_instr instr) }
         ensures { OnOk result (self.new ≡ followed_by self.old (line_of source (Plain instr) ∷ [])) }
     {
         self.emit(source, Step::Plain(instr))
     }
 
-    /// Appends code.
-    pub(crate) fn append(&mut self, source: u32, code: &Code) -> Result<(), CodeFault>
-        ensures { OnOk result (self.new ≡ joined self.old code.now) }
+    /// Appends code that is passed over, by a `cj` before it, where Areg is 0. It must have been made for its place.
+    pub(crate) fn branch(
+        &mut self,
+        alloc: Global,
+        source: u32,
+        more: &Code,
+    ) -> Result<(), CodeFault>
+        ensures { OnOk result (self.new
+            ≡ joined (followed_by self.old (line_of source (CjTo (place_behind more.now)) ∷ [])) more.now) }
     {
-        if code.lines.len() > MAX_LINES - self.here() {
-            return Err(CodeFault::Code { line: source });
+        if more.base != self.here() + 1 {
+            return Err(CodeFault::Misplaced);
         }
-        self.lines.extend_from_slice(&code.lines)?;
-        self.loops.extend_from_slice(&code.loops)?;
+        let mut lines = Vec::new(alloc);
+        let step = Step::CjTo(more.here());
+        lines.push(CodeLine { step, source })?;
+        lines.extend_from_slice(&more.lines)?;
+        extend(&mut self.lines, &mut self.loops, &lines, &more.loops)?;
         Ok(())
     }
 
-    /// Adds a loop.
-    pub(crate) fn add_loop(&mut self, turns: Turns) -> Result<(), CodeFault>
-        ensures { OnOk result (self.new ≡ with_loop self.old turns) }
+    /// Appends code for where Areg is not 0, and for where it is. Both must have been made for their places.
+    pub(crate) fn choose(
+        &mut self,
+        alloc: Global,
+        source: u32,
+        some: &Code,
+        none: &Code,
+    ) -> Result<(), CodeFault>
+        ensures { OnOk result (self.new ≡ chosen_lines self.old source some.now none.now) }
     {
-        self.loops.push(turns)?;
+        if some.base != self.here() + 1 || none.base != some.here() + 1 {
+            return Err(CodeFault::Misplaced);
+        }
+        let mut lines = Vec::new(alloc);
+        let step = Step::CjTo(some.here() + 1);
+        lines.push(CodeLine { step, source })?;
+        lines.extend_from_slice(&some.lines)?;
+        let step = Step::JumpTo(none.here());
+        lines.push(CodeLine { step, source })?;
+        lines.extend_from_slice(&none.lines)?;
+        let mut loops = Vec::new(alloc);
+        loops.extend_from_slice(&some.loops)?;
+        loops.extend_from_slice(&none.loops)?;
+        extend(&mut self.lines, &mut self.loops, &lines, &loops)?;
+        Ok(())
+    }
+
+    /// Appends the code of a turn and the end of its loop, and adds the loop. The turn must have been made for its
+    /// place, behind some code.
+    pub(crate) fn end_loop(
+        &mut self,
+        alloc: Global,
+        turn: &Code,
+        turns: Turns,
+    ) -> Result<(), CodeFault>
+        ensures { OnOk result (self.new ≡ turned_lines self.old turn.now turns) }
+    {
+        let source = turns.source;
+        let behind = turn.here();
+        if self.lines.is_empty() || turn.base != self.here() || turns.head != turn.base {
+            return Err(CodeFault::Misplaced);
+        }
+        if behind + 3 > MAX_LINES {
+            return Err(CodeFault::Code { line: source });
+        }
+        let mut lines = Vec::new(alloc);
+        lines.extend_from_slice(&turn.lines)?;
+        let step = Step::Pointer(Item::Variable(turns.index), 0);
+        lines.push(CodeLine { step, source })?;
+        let step = Step::Distance {
+            from: turns.head,
+            to: behind + 3,
+        };
+        lines.push(CodeLine { step, source })?;
+        let step = Step::Plain(Instr::Lend);
+        lines.push(CodeLine { step, source })?;
+        let mut loops = Vec::new(alloc);
+        loops.extend_from_slice(&turn.loops)?;
+        loops.push(Turns {
+            lend: behind + 2,
+            ..turns
+        })?;
+        extend(&mut self.lines, &mut self.loops, &lines, &loops)?;
         Ok(())
     }
 }

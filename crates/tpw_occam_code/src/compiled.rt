@@ -2,7 +2,8 @@
 
 ghost use Rattle.std.specs.Prelude.{◌≡◌, ℕ, ◌*◌, ◌<◌, All, IfOk, IsTrue, OnOk, slice_index};
 ghost use Rattle.tpw_occam_core.specs.Sound.{is_sound};
-ghost use Rattle.tpw_occam_code.specs.Program.{HasLayout, Means, place_bytes, message_bytes};
+ghost use Rattle.tpw_occam_code.specs.Program.{HasLayout, Means, GivesRuled, place_bytes, message_bytes};
+ghost use Rattle.tpw_occam_code.specs.Flowing.{Ends};
 ghost use Rattle.tpw_occam_code.specs.Placing.{AreBetween, IsBuilt};
 ghost use Rattle.tpw_occam_code.specs.Starting.{AreBytes, Works};
 
@@ -60,7 +61,8 @@ fn law_arrays(worker: &Worker)
 
 /// The code of a worker.
 fn code_of(alloc: Global, worker: &Worker) -> Result<Code, CodeFault>
-    ensures { IfOk result (λ code. IsTrue (is_sound worker.now) → Works worker.now code) }
+    ensures works { IfOk result (λ code. IsTrue (is_sound worker.now) → Works worker.now code) }
+    ensures ends { IfOk result (λ code. Ends code) }
 {
     law_arrays(worker);
     let mut emitter = Emitter::new(alloc, worker)?;
@@ -143,11 +145,11 @@ fn program_of(
 }
 
 /// The program of a worker, or why there is none. The program has a layout, within the code bytes of an image, and
-/// means
-/// what the worker does.
+/// means what the worker does. Its image breaks no rule on instructions, loops and jumps.
 pub fn compile(alloc: Global, worker: &Worker) -> Result<Compiled, CodeFault>
     ensures layout { IfOk result (λ compiled. HasLayout compiled.program) }
     ensures means { IfOk result (λ compiled. IsTrue (is_sound worker.now) → Means worker.now compiled.program) }
+    ensures rules { IfOk result (λ compiled. IsTrue (is_sound worker.now) → GivesRuled compiled.program) }
 {
     let code = code_of(alloc, worker)?;
     check_loops(code.loops())?;

@@ -1,6 +1,7 @@
 //! What is known while code is made.
 
-ghost use Rattle.std.specs.Prelude.{◌≡◌, ◌<◌, ◌^◌, ◌+◌, ◌-◌, ◌*◌, ℕ, List, Some, OnOk, IfOk, IfSome, map, slice_index};
+ghost use Rattle.std.specs.Prelude.{◌≡◌, ◌<◌, ◌^◌, ◌+◌, ◌-◌, ◌*◌, ℕ, List, Some, OnOk, IfOk, IfSome, IsTrue, map};
+ghost use Rattle.std.specs.Prelude.{slice_index};
 ghost use Rattle.tpw_occam_core.specs.Meaning.{kind_of};
 ghost use Rattle.tpw_occam_code.specs.Agreement.{fact_of_kind, valued_fact, constant_fact, counted_fact, fact_at};
 ghost use Rattle.tpw_occam_code.specs.Agreement.{with_fact};
@@ -9,6 +10,7 @@ ghost use Rattle.tpw_occam_code.specs.Computing.{is_short as short};
 ghost use Rattle.tpw_occam_code.specs.declared.items.Item.TheVariants.{Temporary};
 ghost use Rattle.tpw_occam_code.specs.Symbolic.{Machine, push, number, performed};
 ghost use Rattle.tpw_occam_code.specs.Leading.{Makes, HasConstants, Serves, word_bytes};
+ghost use Rattle.tpw_occam_code.specs.Flowing.{is_straight};
 ghost use Rattle.tpw_occam_code.specs.Starting.{knowledge_of};
 
 use crate::code::{Code, Step};
@@ -257,8 +259,9 @@ pub(crate) fn is_short(c: u32) -> bool
 
 /// The step that pushes a constant: `ldc` where that is short, else an initial word.
 pub(crate) fn push_constant(c: u32) -> Step
-    ensures { (w : List ℕ) (m : Machine) → HasConstants m → Serves w m.sizes result
+    ensures pushes { (w : List ℕ) (m : Machine) → HasConstants m → Serves w m.sizes result
         → performed result m ≡ Some (push (number c) m) }
+    ensures straight { IsTrue (is_straight result) }
 {
     if is_short(c) {
         Step::Plain(Instr::Ldc(c.cast_signed()))

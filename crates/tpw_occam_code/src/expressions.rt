@@ -3,12 +3,10 @@
 //! The code of an expression pushes its value. It uses so many registers at most, that of the value among them: what
 //! the others hold stays. One register is enough only where the expression needs no more.
 
-ghost use Rattle.std.specs.Prelude.{◌≡◌, ◌≤◌, ℕ, ◌+◌, [], ◌∷◌, IfOk, OnOk, IfSome};
+ghost use Rattle.std.specs.Prelude.{◌≡◌, ◌≤◌, ℕ, ◌+◌, IfOk, OnOk, IfSome};
 ghost use Rattle.tpw_occam_core.specs.declared.expression.Expression.TheVariants as expression;
 ghost use Rattle.tpw_occam_code.specs.declared.emitter.Fact.{Fact};
 ghost use Rattle.tp_decode.specs.Words.{complement};
-ghost use Rattle.tpw_occam_code.specs.declared.code.Step.TheVariants.{CjTo};
-ghost use Rattle.tpw_occam_code.specs.Code.{joined, followed_by, line_of, place_behind};
 ghost use Rattle.tpw_occam_code.specs.Agreement.{with_fact};
 ghost use Rattle.tpw_occam_code.specs.Values.{Holds};
 ghost use Rattle.tpw_occam_code.specs.Computing.{Binds, ComputesBinding, Computes, ComputesTo, IsKnown, IsKnownOf};
@@ -113,14 +111,14 @@ impl Emitter<'_> {
                 self.expression(code, left, room)?;
                 let mut more = code.behind_one(self.alloc, line)?;
                 let value = self.expression(&mut more, right, room)?;
-                branch(code, line, &more)?;
+                code.branch(self.alloc, line, &more)?;
                 Ok(value.or(truth()))
             }
             Expression::Or(left, right) => {
                 self.inverted(code, left, room)?;
                 let mut more = code.behind_one(self.alloc, line)?;
                 self.inverted(&mut more, right, room)?;
-                branch(code, line, &more)?;
+                code.branch(self.alloc, line, &more)?;
                 // where the left operand is TRUE, `cj` has left the 0 of its inverse
                 code.instr(line, Instr::Eqc(0))?;
                 Ok(truth())
@@ -290,13 +288,4 @@ impl Emitter<'_> {
         self.operands(code, left, right, room, true)?;
         code.instr(room.line, Instr::Diff)
     }
-}
-
-/// Appends code that is passed over, by a `cj` before it, where Areg is 0.
-pub(crate) fn branch(code: &mut Code, line: u32, more: &Code) -> Result<(), CodeFault>
-    ensures { OnOk result (code.new
-        ≡ joined (followed_by code.old (line_of line (CjTo (place_behind more.now)) ∷ [])) more.now) }
-{
-    code.emit(line, Step::CjTo(more.here()))?;
-    code.append(line, more)
 }

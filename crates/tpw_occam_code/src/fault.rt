@@ -24,7 +24,8 @@ pub enum CodeFault {
     /// The program that was made has no image: a fault of the compiler.
     #[error("a fault of the compiler: {0}")]
     Assembly(AssemblyFault),
-    /// A word that a line uses, or that the workspace begins with, is not where it has to be: a fault of the compiler.
+    /// A word that a line uses, or that the workspace begins with, or code that was made apart, is not where it has to
+    /// be, or a loop's turns are none: a fault of the compiler.
     #[error("a fault of the compiler: a word is misplaced")]
     Misplaced,
     /// A growth was refused.

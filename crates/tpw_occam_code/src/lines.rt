@@ -1,9 +1,10 @@
 //! From steps to the lines of a program, once items are placed.
 
-ghost use Rattle.std.specs.Prelude.{◌≡◌, ◌+◌, ◌<◌, ◌≤◌, ◌^◌, pos, map, All, IfOk, OnOk};
+ghost use Rattle.std.specs.Prelude.{◌≡◌, ◌+◌, ◌<◌, ◌≤◌, ◌^◌, pos, true, map, All, IfOk, OnOk};
 ghost use Rattle.tpw_occam_code.specs.declared.code.Step.TheVariants.{Pointer};
 ghost use Rattle.tpw_occam_code.specs.Carried.{operation_of};
 ghost use Rattle.tpw_occam_code.specs.Placing.{words_at, local_at, places, line_at, HasOperand, IsServed, IsPlaced};
+ghost use Rattle.tpw_occam_code.specs.Placing.{loop_at, AreTurns, IsRow};
 
 use crate::code::{CodeLine, Step, Turns};
 use crate::fault::CodeFault;
@@ -17,6 +18,9 @@ use tpw_occam_core::Worker;
 
 /// No local word goes beyond this one.
 const MAX_LOCAL: u32 = 0x4000_0000;
+
+/// The most turns of a loop.
+const MAX_TURNS: u32 = 10_000;
 
 /// The local word of an item's word. The item is placed and has so many words, as `words_of` of `uses` has it.
 fn local_word(placed: &[Placed], item: Item, words: u32, word: u32) -> Result<i32, CodeFault>
@@ -113,17 +117,38 @@ pub(crate) fn loop_lines(alloc: Global, loops: &[Turns]) -> Result<Vec<u32>, All
     loops.iter().map(|turns| turns.source).collect(alloc)
 }
 
-/// The row of a loop. Its control word is a workspace word.
-fn row_of(placed: &[Placed], turns: Turns) -> Loop {
-    let place = place_of(placed, Item::Variable(turns.index));
-    let local = place.map_or(0, |place: Placed| place.local);
-    Loop {
+/// Whether turns are some, and not more than a loop may have, and the last index is a word.
+fn are_turns(turns: Turns) -> bool
+    ensures { result ≡ true → AreTurns turns }
+{
+    let last = i64::from(turns.start.cast_signed()) + i64::from(turns.count) - 1;
+    turns.count >= 1 && turns.count <= MAX_TURNS && last <= i64::from(i32::MAX)
+}
+
+/// The row of a loop. Its control word is a workspace word, and so is the next.
+fn row_of(placed: &[Placed], turns: Turns) -> Result<Loop, CodeFault>
+    ensures row { IfOk result (λ row. row ≡ loop_at (places placed.now) 5 turns) }
+    ensures good { OnOk result (IsRow placed.now turns) }
+{
+    let Some(place) = place_of(placed, Item::Variable(turns.index)) else {
+        return Err(CodeFault::Misplaced);
+    };
+    if place.words < 2 || place.local >= MAX_LOCAL || !are_turns(turns) {
+        return Err(CodeFault::Misplaced);
+    }
+    let Ok(control) = u16::try_from(START + place.local) else {
+        return Err(CodeFault::Misplaced);
+    };
+    let Ok(count) = u16::try_from(turns.count) else {
+        return Err(CodeFault::Misplaced);
+    };
+    Ok(Loop {
         head: Spot::Place(turns.head),
         lend: Spot::Place(turns.lend),
-        control: u16::try_from(local.saturating_add(START)).unwrap_or(u16::MAX),
-        count: u16::try_from(turns.count).unwrap_or(u16::MAX),
+        control,
+        count,
         start: turns.start.cast_signed(),
-    }
+    })
 }
 
 /// The rows of loops.
@@ -131,10 +156,14 @@ pub(crate) fn rows_of(
     alloc: Global,
     placed: &[Placed],
     loops: &[Turns],
-) -> Result<Vec<Loop>, AllocError> {
+) -> Result<Vec<Loop>, CodeFault>
+    ensures rows { IfOk result (λ rows. rows.items ≡ map (loop_at (places placed.now) 5) loops.now) }
+    ensures good { OnOk result (All (IsRow placed.now) loops.now) }
+{
     let mut rows = Vec::with_capacity(alloc, loops.len())?;
     for turns in loops {
-        rows.push(row_of(placed, *turns))?;
+        let row = row_of(placed, *turns)?;
+        rows.push(row)?;
     }
     Ok(rows)
 }

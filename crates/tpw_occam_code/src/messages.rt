@@ -3,6 +3,7 @@
 ghost use Rattle.std.specs.Prelude.{◌≡◌, IfOk, OnOk};
 ghost use Rattle.tpw_occam_code.specs.Executing.{Traces};
 ghost use Rattle.tpw_occam_code.specs.Sending.{HasRoom, KeepsValue, SendsBytes, SendsMessage, address_of};
+ghost use Rattle.tpw_occam_code.specs.Flowing.{Ends};
 ghost use Rattle.tpw_occam_code.specs.Starting.{Inputs, Receives, Sends};
 
 use crate::code::{Code, Step};
@@ -122,9 +123,11 @@ impl Emitter<'_> {
 
     /// Sends the result, and stops.
     pub(crate) fn send(&mut self, code: &mut Code, m: &Message, line: u32) -> Result<(), CodeFault>
-        ensures { OnOk result (Sends self.old code.old code.new m.now) }
+        ensures sends { OnOk result (Sends self.old code.old code.new m.now) }
+        ensures ends { OnOk result (Ends code.new) }
     {
         self.output(code, m, Channel::Result, line)?;
+        code.law_flows();
         code.instr(line, Instr::Stopp)
     }
 }

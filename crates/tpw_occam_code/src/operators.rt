@@ -8,6 +8,7 @@ ghost use Rattle.tpw_occam_code.specs.Leading.{Makes, HasConstants};
 ghost use Rattle.tpw_occam_code.specs.Computing.{IsNoShift, has_immediate, commutes};
 ghost use Rattle.tpw_occam_code.specs.Values.{Answers, WorksOn, Holds, HasOperands, HasCount, answered, working};
 ghost use Rattle.tpw_occam_code.specs.Values.{AreTwins};
+ghost use Rattle.tpw_occam_code.specs.Flowing.{is_straight_instr};
 
 use crate::code::Code;
 use crate::expressions::Value;
@@ -50,8 +51,9 @@ pub(crate) fn number(code: &mut Code, line: u32, c: u32) -> Result<Value, CodeFa
 
 /// The instruction that works out an operator on Breg and Areg.
 fn instr_of(operator: Operator, fits: bool) -> Instr
-    ensures { (b a : ℕ) → (IsTrue fits → AreTwins operator b a) → HasCount operator a
+    ensures works { (b a : ℕ) → (IsTrue fits → AreTwins operator b a) → HasCount operator a
         → pair_answer result b a ≡ Some (applied (working operator) b a) }
+    ensures straight { IsTrue (is_straight_instr result) }
 {
     match operator {
         Operator::Add => Instr::Add,
@@ -123,6 +125,7 @@ pub(crate) fn apply(
 /// The instruction that works out an operator on Areg and a constant, if there is one.
 fn immediate_instr(operator: Operator, b: Value, c: u32) -> Option<Instr>
     ensures some { IfSome result (λ instr. (vb : ℕ) → Holds b vb → WorksOn instr vb (applied operator vb c)) }
+    ensures straight { IfSome result (λ instr. IsTrue (is_straight_instr instr)) }
     ensures none { IfNone result (has_immediate operator c ≡ false) }
 {
     let n = immediate(operator, c)?;

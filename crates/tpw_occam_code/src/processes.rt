@@ -1,15 +1,14 @@
 //! Code of processes. No register is in use between processes, and no word is kept.
 
-ghost use Rattle.std.specs.Prelude.{◌≡◌, ◌≤◌, ◌+◌, ◌*◌, ◌^◌, ◌<◌, ℕ, pos, ◌+ℤ◌, ◌-ℤ◌, ◌≤ℤ◌, [], ◌∷◌, OnOk};
+ghost use Rattle.std.specs.Prelude.{◌≡◌, ◌≤◌, ◌*◌, ◌^◌, ◌<◌, ℕ, pos, ◌+ℤ◌, ◌-ℤ◌, ◌≤ℤ◌, OnOk};
 ghost use Rattle.tp_decode.specs.Words.{signed};
 ghost use Rattle.tpw_occam_code.specs.Ranges.{Contains};
 ghost use Rattle.std.specs.Global.{Global};
 ghost use Rattle.tpw_occam_core.specs.declared.expression.Expression.TheVariants as expression;
 ghost use Rattle.tpw_occam_core.specs.declared.process.Process.TheVariants as process;
 ghost use Rattle.tpw_occam_code.specs.declared.items.Item.TheVariants.{Variable};
-ghost use Rattle.tpw_occam_code.specs.Code.{followed_by, with_loop, place_behind};
 ghost use Rattle.tpw_occam_code.specs.Leading.{Makes, HasConstants};
-ghost use Rattle.tpw_occam_code.specs.Executing.{is_skip, with_item_word, chosen_lines, Begins, Starts, loop_end};
+ghost use Rattle.tpw_occam_code.specs.Executing.{is_skip, with_item_word, Begins, Starts};
 ghost use Rattle.tpw_occam_code.specs.Executing.{Clears, Executes, Chooses, Repeats, first_use};
 ghost use Rattle.tpw_occam_code.specs.Executing.{DeclaresVariable, DeclaresValue, Remains, ChoosesKnown, RepeatsKnown};
 ghost use Rattle.tpw_occam_code.specs.Executing.{VariableKnown, ValueKnown};
@@ -18,7 +17,6 @@ ghost use Rattle.tpw_occam_code.specs.Moving.{ClearsWords, Moves};
 use crate::analysis::{First, first_use, law_values_are_words};
 use crate::code::{Code, Step, Turns};
 use crate::emitter::{Emitter, Room, constant, counted, fact_of};
-use crate::expressions::branch;
 use crate::fault::CodeFault;
 use crate::items::Item;
 use crate::range::Range;
@@ -98,16 +96,6 @@ fn clear_by_moves(code: &mut Code, line: u32, a: usize, words: u32) -> Result<()
     Ok(())
 }
 
-/// Appends code for where Areg is not 0, and where it is.
-fn choose(code: &mut Code, line: u32, yes: &Code, no: &Code) -> Result<(), CodeFault>
-    ensures { OnOk result (code.new ≡ chosen_lines code.old line yes.now no.now) }
-{
-    code.emit(line, Step::CjTo(yes.here() + 1))?;
-    code.append(line, yes)?;
-    code.emit(line, Step::JumpTo(no.here()))?;
-    code.append(line, no)
-}
-
 /// The numbers that the index of a loop may be.
 fn indices(start: u32, count: u32) -> Range
     ensures { (word : ℕ) → word < 2 ^ 32 → signed start ≤ℤ signed word
@@ -125,23 +113,6 @@ fn begin_loop(code: &mut Code, line: u32, x: usize, start: u32, count: u32) -> R
     code.emit(line, Step::Store(Item::Variable(x), 0))?;
     code.constant(line, count)?;
     code.emit(line, Step::Store(Item::Variable(x), 1))
-}
-
-/// Appends the end of a loop whose first line is at a place, and adds the loop.
-fn end_loop(code: &mut Code, turns: Turns) -> Result<(), CodeFault>
-    ensures { OnOk result (code.new ≡ with_loop (followed_by code.old (loop_end code.old turns))
-        (record turns { lend = place_behind code.old + 2 })) }
-{
-    let line = turns.source;
-    code.emit(line, Step::Pointer(Item::Variable(turns.index), 0))?;
-    let distance = Step::Distance {
-        from: turns.head,
-        to: code.here() + 2,
-    };
-    code.emit(line, distance)?;
-    let lend = code.here();
-    code.instr(line, Instr::Lend)?;
-    code.add_loop(Turns { lend, ..turns })
 }
 
 impl Emitter<'_> {
@@ -282,11 +253,11 @@ impl Emitter<'_> {
         let mut yes = code.behind_one(self.alloc, line)?;
         self.process(&mut yes, guarded, line)?;
         if is_skip(rest) {
-            return branch(code, line, &yes);
+            return code.branch(self.alloc, line, &yes);
         }
         let mut no = yes.behind_one(self.alloc, line)?;
         self.process(&mut no, rest, line)?;
-        choose(code, line, &yes, &no)
+        code.choose(self.alloc, line, &yes, &no)
     }
 
     /// So many turns. One turn is the body, with its index as a constant.
@@ -317,7 +288,8 @@ impl Emitter<'_> {
         self.set_fact(index, counted(indices(start, count)));
         begin_loop(code, line, index, start, count)?;
         let head = code.here();
-        self.process(code, body, line)?;
+        let mut turn = code.behind(self.alloc);
+        self.process(&mut turn, body, line)?;
         let turns = Turns {
             head,
             lend: head,
@@ -326,7 +298,7 @@ impl Emitter<'_> {
             count,
             source: line,
         };
-        end_loop(code, turns)?;
+        code.end_loop(self.alloc, &turn, turns)?;
         self.set_fact(index, before);
         Ok(())
     }

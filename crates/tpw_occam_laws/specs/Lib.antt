@@ -1,2 +1,3 @@
 -- What a reader must believe: the laws cite it.
 pub mod Meanings
+pub mod Refusing

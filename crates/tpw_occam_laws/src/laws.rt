@@ -1,6 +1,9 @@
 //! What follows for batches of compiled workers: each function's contract is the law.
 
-ghost use Rattle.std.specs.Prelude.{Bool, List};
+ghost use Rattle.std.specs.Prelude.{Bool, List, ℕ};
+ghost use Rattle.tp_image.specs.Image.{ImageValue};
+ghost use Rattle.tp_image.specs.Text.{IsTextOf};
+ghost use Rattle.tp_accept.specs.Verdict.{Answer, IsAnswer};
 ghost use Rattle.tp_outcome.specs.Devices.{Devices};
 ghost use Rattle.tp_collect.specs.declared.collected.Entry.{Entry};
 ghost use Rattle.tp_farm.specs.Jobs.{value_of_job};
@@ -8,8 +11,9 @@ ghost use Rattle.tp_farm.specs.Batches.{IsBatch};
 ghost use Rattle.tpw_asm.specs.declared.program.Program.{Program};
 ghost use Rattle.tpw_asm.specs.Assembly.{IsAssembly};
 ghost use Rattle.tpw_occam_core.specs.declared.worker.Worker.{Worker};
-ghost use Rattle.tpw_occam_code.specs.Program.{Means};
+ghost use Rattle.tpw_occam_code.specs.Program.{Means, GivesRuled};
 ghost use Rattle.tpw_occam_laws.specs.Meanings.{AreMeant};
+ghost use Rattle.tpw_occam_laws.specs.Refusing.{IsOfStatesOrBudget};
 
 use tp_farm::Job;
 
@@ -25,4 +29,15 @@ pub fn batches_give_meanings(job: &Job<'_>)
         Means worker program → IsAssembly program job.now.image.now.image →
         IsBatch (value_of_job job.now) open_for_good before after entries →
         AreMeant worker (value_of_job job.now) entries }
+{}
+
+/// The verifier refuses a compiled worker for its states or its budget alone: the image of its program is in the
+/// format, its code is cut into instructions, and its loops and jumps break no rule.
+///
+/// The premises: the image is the one that the program is assembled to, the program breaks no rule (`compile` answers
+/// that of every sound worker), and the answer is the verdict on the image's text (`accept` answers that).
+pub fn refused_for_states_or_budget_alone()
+    ensures { (program : Program) (image : ImageValue) (text : List ℕ) (answer : Answer) →
+        GivesRuled program → IsAssembly program image → IsTextOf text image → IsAnswer text answer →
+        IsOfStatesOrBudget answer }
 {}

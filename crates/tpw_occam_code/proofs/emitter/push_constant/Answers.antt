@@ -6,13 +6,13 @@ use Rattle.tpw_occam_code.specs.Symbolic.{push, number, performed, effect}
 use Rattle.tpw_occam_code.proofs.Words.{low_word-cast}
 use Rattle.tpw_occam_code.proofs.emitter.push_constant.Goals as goal
 
-pub returns-then-is_short : goal.returns-then-is_short
+pub returns-then-is_short-clause-pushes : goal.returns-then-is_short-clause-pushes
 unfolding performed effect
-returns-then-is_short c w m constants served =
+returns-then-is_short-clause-pushes c w m constants served =
     let same = ap (cast_unsigned w32) c.cast_signed.ensures ∙ of_z-to_z w32 c.args.c c.ranges.c.fits in
     ap (λ n. Some (push (number n) m)) (low_word-cast c.args.c (cast_unsigned w32 c.cast_signed.result) c.ranges.c.fits same)
 
-pub returns-else-is_short : goal.returns-else-is_short
+pub returns-else-is_short-clause-pushes : goal.returns-else-is_short-clause-pushes
 unfolding performed
-returns-else-is_short c w m constants served =
+returns-else-is_short-clause-pushes c w m constants served =
     rw (le-leb 4 _ served) (ap (λ n. Some (push (number n) m)) (constants c.args.c c.ranges.c.fits))

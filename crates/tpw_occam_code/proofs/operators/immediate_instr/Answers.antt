@@ -1,4 +1,4 @@
-use Rattle.std.proofs.Common.{◌<◌, ◌^◌, ◌∙◌, sym, subst, ℕ}
+use Rattle.std.proofs.Common.{refl, ◌<◌, ◌^◌, ◌∙◌, sym, subst, ℕ}
 use Rattle.tpw_occam_core.specs.declared.expression.Operator.{Operator}
 use Rattle.tpw_occam_core.specs.declared.expression.Operator.TheVariants.{Plus, Minus}
 use Rattle.tpw_occam_code.specs.declared.range.Range.{Range}
@@ -32,5 +32,6 @@ returns-in_default c = record {
       (operand_found c.args.operator c.args.c c.in_ok-n.n (sym c.immediate.ensures ∙ c.in_ok-n.was))
       (twin_of c.args.operator c.args.b c.exactly.result vb c.args.c holds c.ranges.c.fits c.exactly.ensures.contains
       (c.always_fits.ensures.twins c.if-always_fits.true));
+  straight = refl;
   none = tt;
 }

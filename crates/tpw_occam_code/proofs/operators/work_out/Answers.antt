@@ -12,5 +12,5 @@ returns-in_ok-instr-in-Equal c = on_ok_weaker c.instr-in-Equal.result (λ is b a
 pub returns-in_default : goal.returns-in_default
 returns-in_default c = on_ok_weaker c.instr-in_default.result (λ is b a hb ha twins count.
     makes_pair _ _ c.args.line c.instr_of.result b a (applied c.args.operator b a) is
-    (c.instr_of.ensures b a twins count ∙ ap (λ o. Some (applied o b a)) (working_same c.args.operator c.in_default.not-Equal)))
+    (c.instr_of.ensures.works b a twins count ∙ ap (λ o. Some (applied o b a)) (working_same c.args.operator c.in_default.not-Equal)))
     c.instr-in_default.ensures

@@ -8,5 +8,5 @@ use Rattle.tpw_occam_code.proofs.code.Code.constant.Goals as goal
 pub returns : goal.returns
 returns c = on_ok_weaker c.emit.result (λ emitted w.
     does_step w c.args.self.now c.emit.new.self c.args.source c.push_constant.result HasConstants (push (number c.args.c)) emitted
-    (λ m constants served. c.push_constant.ensures w (at_place (m.place + 1) m) constants served)
+    (λ m constants served. c.push_constant.ensures.pushes w (at_place (m.place + 1) m) constants served)
     (λ m. refl) (λ m. refl) (λ m. refl)) c.emit.ensures

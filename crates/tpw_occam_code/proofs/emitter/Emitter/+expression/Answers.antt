@@ -220,7 +220,7 @@ expression-returns-in_ok-value-in-LowByte-clause-known t c =
 -- src/expressions.rt:49:5
 pub expression-returns-in_ok-branch-in-And-clause-computes : goal.expression-returns-in_ok-branch-in-And-clause-computes
 expression-returns-in_ok-branch-in-And-clause-computes t c =
-    rw c.in-And.is (and_computes c.args.self.now c.expression-in-And.new.self c.args.code.now c.expression-in-And.new.code c.expression-in-And-2.new.code c.branch-code.new.code
+    rw c.in-And.is (and_computes c.args.self.now c.expression-in-And.new.self c.args.code.now c.expression-in-And.new.code c.expression-in-And-2.new.code c.branch-code.new.self
     c.args.room.line _ c.in-And.left.value _ c.in-And.right.value c.args.room.registers c.args.room.kept c.in_ok-expression-in-And.ensures.knowledge
     (subst (λ e. Computes c.args.self.now c.args.code.now c.expression-in-And.new.code e c.args.room.registers c.args.room.kept) c.deref-in-And.ensures c.in_ok-expression-in-And.ensures.computes)
     (subst (λ l. Computes c.expression-in-And.new.self l c.expression-in-And-2.new.code c.in-And.right.value c.args.room.registers c.args.room.kept) c.in_ok-more-in-And.ensures
@@ -239,7 +239,7 @@ expression-returns-in_ok-branch-in-And-clause-known t c =
 -- src/expressions.rt:49:5
 pub expression-returns-in_ok-instr-in-Or-clause-computes : goal.expression-returns-in_ok-instr-in-Or-clause-computes
 expression-returns-in_ok-instr-in-Or-clause-computes t c =
-    rw c.in-Or.is (or_computes c.args.self.now c.inverted-in-Or.new.self c.args.code.now c.inverted-in-Or.new.code c.inverted-in-Or-2.new.code c.branch-code-in-Or.new.code c.instr-in-Or.new.self
+    rw c.in-Or.is (or_computes c.args.self.now c.inverted-in-Or.new.self c.args.code.now c.inverted-in-Or.new.code c.inverted-in-Or-2.new.code c.branch-code-in-Or.new.self c.instr-in-Or.new.self
     c.args.room.line _ c.in-Or.left.value _ c.in-Or.right.value c.args.room.registers c.args.room.kept c.in_ok-inverted-in-Or.ensures.knowledge
     (subst (λ e. ComputesTo c.args.self.now c.args.code.now c.inverted-in-Or.new.code e (inverse_of e) c.args.room.registers c.args.room.kept) c.deref-in-Or.ensures c.in_ok-inverted-in-Or.ensures.computes)
     (subst (λ l. ComputesTo c.inverted-in-Or.new.self l c.inverted-in-Or-2.new.code c.in-Or.right.value (inverse_of c.in-Or.right.value) c.args.room.registers c.args.room.kept) c.in_ok-more-in-Or.ensures

@@ -3,13 +3,13 @@ use Rattle.std.proofs.lemmas.Result.{on_ok_weaker}
 use Rattle.tpw_occam_core.specs.Meaning.{kind_of}
 use Rattle.tpw_occam_code.specs.Agreement.{with_fact, fact_at, fact_of_kind}
 use Rattle.tpw_occam_code.specs.declared.code.Turns.{Turns}
-use Rattle.tpw_occam_code.specs.Code.{none_at, place_behind}
+use Rattle.tpw_occam_code.specs.Code.{none_at, place_behind, joined}
 use Rattle.tpw_occam_code.specs.Computing.{Decides, Binds, ComputesBinding}
 use Rattle.tpw_occam_code.specs.Executing.{DeclaresVariable, DeclaresValue, VariableKnown, ValueKnown, Executes, Chooses, Repeats, Remains, ChoosesKnown, RepeatsKnown, HaveWords, Assigns}
 use Rattle.tpw_occam_code.proofs.Standing.{place_of}
 use Rattle.tpw_occam_code.proofs.Naming.{restored}
 use Rattle.tpw_occam_code.proofs.Executing.{skip_executes, stop_executes, sequence_executes, value_executes, variable_executes, array_executes}
-use Rattle.tpw_occam_code.proofs.Choosing.{never_executes, always_executes, choose_executes, branch_executes}
+use Rattle.tpw_occam_code.proofs.Choosing.{never_executes, always_executes, choose_executes, branch_executes, executes_joined}
 use Rattle.tpw_occam_code.proofs.Looping.{repeat_none, repeat_once, repeat_many, turns_contained, counted}
 use Rattle.tpw_occam_code.proofs.Remaining.{assign_remains, copy_remains, sequence_remains, variable_remains, value_remains, array_remains, choose_remains, never_remains, always_remains, skipped_remains, once_remains, repeat_remains}
 use Rattle.tpw_occam_code.proofs.emitter.Emitter.+process.Goals as goal
@@ -43,7 +43,7 @@ choice-returns-in-Some-clause-remains t c =
 pub choice-returns-then-is_skip-clause-executes : goal.choice-returns-then-is_skip-clause-executes
 choice-returns-then-is_skip-clause-executes t c =
     on_ok_weaker c.branch-code.result (λ is.
-    branch_executes c.args.self.now c.args.code.now c.condition.new.code c.process-2.new.code c.branch-code.new.code c.args.line
+    branch_executes c.args.self.now c.args.code.now c.condition.new.code c.process-2.new.code c.branch-code.new.self c.args.line
     c.args.guard.now c.args.guarded.now c.args.rest.now (sym c.is_skip.ensures ∙ c.if-is_skip.true)
     (subst (λ r. Decides c.args.self.now c.args.code.now c.condition.new.code c.args.guard.now r.registers r.kept) c.from_word.ensures c.in_ok-condition.ensures.decides)
     (subst (λ k. Executes k (none_at (place_behind c.condition.new.code + 1)) c.process-2.new.code c.args.guarded.now) c.in_ok-condition.ensures.knowledge
@@ -60,7 +60,7 @@ choice-returns-then-is_skip-clause-remains t c =
 pub choice-returns-clause-executes : goal.choice-returns-clause-executes
 choice-returns-clause-executes t c =
     on_ok_weaker c.choose.result (λ is.
-    choose_executes c.args.self.now c.args.code.now c.condition.new.code c.process-2.new.code c.process-3.new.code c.choose.new.code c.args.line
+    choose_executes c.args.self.now c.args.code.now c.condition.new.code c.process-2.new.code c.process-3.new.code c.choose.new.self c.args.line
     c.args.guard.now c.args.guarded.now c.args.rest.now
     (subst (λ r. Decides c.args.self.now c.args.code.now c.condition.new.code c.args.guard.now r.registers r.kept) c.from_word.ensures c.in_ok-condition.ensures.decides)
     (subst (λ k. Executes k (none_at (place_behind c.condition.new.code + 1)) c.process-2.new.code c.args.guarded.now) c.in_ok-condition.ensures.knowledge
@@ -302,12 +302,16 @@ repeat-returns-clause-executes t c =
       count = c.args.count;
       source = c.args.line;
     } in
-    repeat_many k c.args.code.now c.begin_loop.new.code c.process-2.new.code c.end_loop.new.code c.args.line x c.args.start c.args.count c.indices.result c.args.body.now
+    let begun = c.begin_loop.new.code in
+    let turn = c.process-2.new.code in
+    repeat_many k c.args.code.now begun (joined begun turn) c.end_loop.new.self c.args.line x c.args.start c.args.count c.indices.result c.args.body.now
     ended _ c.in_ok-end_loop.ensures refl refl c.here-head.ensures.place c.if-count-eq0.false c.ranges.start.fits
     (λ turns n below. turns_contained c.args.start c.args.count _ _ c.indices.result c.ranges.start.fits turns refl refl c.indices.ensures n below)
     c.in_ok-begin_loop.ensures
     (subst (λ k. Remains k c.args.body.now) set c.in_ok-process-2.ensures.remains)
-    (subst (λ k. Executes k c.begin_loop.new.code c.process-2.new.code c.args.body.now) set c.in_ok-process-2.ensures.executes)
+    (executes_joined (counted k x c.indices.result) begun turn c.args.body.now
+    (subst (λ old. Executes (counted k x c.indices.result) old turn c.args.body.now) c.behind-turn.ensures
+    (subst (λ k. Executes k c.behind-turn.result turn c.args.body.now) set c.in_ok-process-2.ensures.executes)))
 
 pub repeat-returns-clause-remains : goal.repeat-returns-clause-remains
 repeat-returns-clause-remains t c =
