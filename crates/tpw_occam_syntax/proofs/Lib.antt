@@ -1,2 +1,8 @@
+pub mod Fronts
+pub mod NameLists
+pub mod Once
 pub mod OrderLemmas
 pub mod PlaceLemmas
+pub mod Printed
+pub mod Seams
+pub mod Taken

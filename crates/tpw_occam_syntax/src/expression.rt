@@ -1,5 +1,8 @@
 //! Expressions, as they are written.
 
+ghost use Rattle.std.specs.Prelude.{◌≡◌};
+ghost use Rattle.tpw_occam_syntax.specs.Operators.{is_chained};
+
 use crate::span::Span;
 
 /// The type of a value.
@@ -78,7 +81,9 @@ pub enum Dyadic {
 
 impl Dyadic {
     /// Whether a chain of it needs no brackets.
-    pub fn is_chained(self) -> bool {
+    pub fn is_chained(self) -> bool
+        ensures { result ≡ is_chained self }
+    {
         matches!(
             self,
             Dyadic::Add

@@ -1,88 +1,105 @@
 //! Tokens as trees, by their brackets.
 
+ghost use Rattle.std.specs.Prelude.{◌≡◌, ◌∷◌, ◌++◌, [], map, IfOk, OnOk, IsErr};
+ghost use Rattle.tpw_occam_syntax.specs.Tokens.{mark, mark_of, marks};
+ghost use Rattle.tpw_occam_syntax.specs.Tokens as lexeme;
+ghost use Rattle.tpw_occam_syntax.specs.Grouping.{taken};
+
 use crate::fault::{Fault, FaultKind};
 use crate::span::Span;
 use crate::stop::Stop;
 use crate::token::{Bracket, Item, Token, Tree};
 use std::alloc::{AllocError, Global};
+use std::mem;
 
 /// The most brackets within one another.
 const MAX_BRACKETS: usize = 60;
 
-/// What stands within a bracket that is still open.
+/// A bracket that is still open.
 #[derive(Drop)]
 struct Open<'a> {
     bracket: Bracket,
     span: Span,
+    /// What stands in front of it, behind the open bracket around it.
+    before: Vec<Tree<'a>>,
+}
+
+/// Trees under way: the brackets that are open, the outermost first, and what stands behind the last of them.
+#[derive(Drop)]
+struct Trees<'a> {
+    open: Vec<Open<'a>>,
     within: Vec<Tree<'a>>,
 }
 
-/// Trees under way: those within no bracket, and the brackets that are open.
-#[derive(Drop)]
-struct Trees<'a> {
-    outside: Vec<Tree<'a>>,
-    open: Vec<Open<'a>>,
-}
-
-fn fault<T>(kind: FaultKind, span: Span) -> Result<T, Stop> {
+fn fault<T>(kind: FaultKind, span: Span) -> Result<T, Stop>
+    ensures { IsErr result }
+{
     Err(Stop::Fault(Fault { span, kind }))
 }
 
 impl<'a> Trees<'a> {
-    /// Appends a tree to what is open.
-    fn put(&mut self, tree: Tree<'a>) -> Result<(), Stop> {
-        match self.open.last_mut() {
-            Some(open) => open.within.push(tree)?,
-            None => self.outside.push(tree)?,
-        }
+    /// Appends a token that is no bracket.
+    fn put(&mut self, item: Item<'a>) -> Result<(), Stop>
+        ensures { OnOk result (taken self.new ≡ taken self.old ++ mark_of item.entry ∷ []) }
+    {
+        self.within.push(Tree::Item(item))?;
         Ok(())
     }
 
-    fn open(&mut self, alloc: Global, bracket: Bracket, span: Span) -> Result<(), Stop> {
+    fn open(&mut self, alloc: Global, bracket: Bracket, span: Span) -> Result<(), Stop>
+        ensures { OnOk result (taken self.new ≡ taken self.old ++ mark (lexeme.Open bracket) span ∷ []) }
+    {
         if self.open.len() >= MAX_BRACKETS {
             return fault(FaultKind::TooDeep, span);
         }
+        let before = mem::replace(&mut self.within, Vec::new(alloc));
         self.open.push(Open {
             bracket,
             span,
-            within: Vec::new(alloc),
+            before,
         })?;
         Ok(())
     }
 
-    fn close(&mut self, bracket: Bracket, close: Span) -> Result<(), Stop> {
+    fn close(&mut self, bracket: Bracket, close: Span) -> Result<(), Stop>
+        ensures { OnOk result (taken self.new ≡ taken self.old ++ mark (lexeme.Close bracket) close ∷ []) }
+    {
         let Some(open) = self.open.pop() else {
             return fault(FaultKind::Unopened, close);
         };
         if open.bracket != bracket {
             return fault(FaultKind::Unopened, close);
         }
-        self.put(Tree::Group {
+        let within = mem::replace(&mut self.within, open.before);
+        self.within.push(Tree::Group {
             bracket,
-            within: open.within,
+            within,
             open: open.span,
             close,
-        })
+        })?;
+        Ok(())
     }
 }
 
-/// The trees of tokens.
-pub(crate) fn trees_of<'a>(alloc: Global, items: &[Item<'a>]) -> Result<Vec<Tree<'a>>, Stop> {
+/// The trees of tokens: they are made of these tokens.
+pub(crate) fn trees_of<'a>(alloc: Global, items: &[Item<'a>]) -> Result<Vec<Tree<'a>>, Stop>
+    ensures { IfOk result (λ trees. marks trees.items ≡ map mark_of items.now) }
+{
     let mut trees = Trees {
-        outside: Vec::new(alloc),
         open: Vec::new(alloc),
+        within: Vec::new(alloc),
     };
     for item in items {
         match item.token {
             Token::Open(bracket) => trees.open(alloc, bracket, item.span)?,
             Token::Close(bracket) => trees.close(bracket, item.span)?,
-            _ => trees.put(Tree::Item(*item))?,
+            _ => trees.put(*item)?,
         }
     }
     if let Some(open) = trees.open.last() {
         return fault(FaultKind::Unclosed, open.span);
     }
-    Ok(trees.outside)
+    Ok(trees.within)
 }
 
 /// Tokens, each a tree by itself, without brackets.

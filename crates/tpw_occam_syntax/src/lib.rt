@@ -10,6 +10,7 @@ mod fault;
 mod grouping;
 mod heads;
 mod keyword;
+pub mod laws;
 mod layout;
 mod lexing;
 mod line;

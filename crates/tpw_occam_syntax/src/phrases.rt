@@ -1,5 +1,9 @@
 //! Names and types, read from trees of tokens.
 
+ghost use Rattle.std.specs.Prelude.{◌≡◌, ◌∷◌, [], IfOk, IfSome};
+ghost use Rattle.tpw_occam_syntax.specs.Tokens.{marks, marks_of};
+ghost use Rattle.tpw_occam_syntax.specs.Names.{name_mark, AreNames};
+
 use crate::expression::Primitive;
 use crate::fault::Wanted;
 use crate::keyword::Keyword;
@@ -64,24 +68,29 @@ pub(crate) fn around<'t, 'a>(trees: &'t [Tree<'a>], at: usize) -> (&'t [Tree<'a>
 }
 
 /// The name that a tree is.
-pub(crate) fn name_of<'a>(tree: &Tree<'a>) -> Option<Name<'a>> {
-    match tree {
-        Tree::Item(
-            Item {
-                token: Token::Name(text),
-                span,
-            },
-        ) => Some(Name { text, span: *span }),
+pub(crate) fn name_of<'a>(tree: &Tree<'a>) -> Option<Name<'a>>
+    ensures { IfSome result (λ name. marks_of tree.now ≡ name_mark name ∷ []) }
+{
+    let Tree::Item(item) = tree else {
+        return None;
+    };
+    match item.token {
+        Token::Name(text) => Some(Name {
+            text,
+            span: item.span,
+        }),
         _ => None,
     }
 }
 
 /// The one name that trees are.
-pub(crate) fn name<'a>(trees: &[Tree<'a>], end: Span) -> Result<Name<'a>, Stop> {
-    let Some(first) = trees.first() else {
+pub(crate) fn name<'a>(trees: &[Tree<'a>], end: Span) -> Result<Name<'a>, Stop>
+    ensures { IfOk result (λ name. marks trees.now ≡ name_mark name ∷ []) }
+{
+    let Some((first, behind)) = trees.split_first() else {
         return wanted(Wanted::Name, end);
     };
-    if let Some(more) = trees.get(1) {
+    if let Some(more) = behind.first() {
         return wanted(Wanted::Nothing, span_of(more));
     }
     match name_of(first) {
@@ -91,23 +100,19 @@ pub(crate) fn name<'a>(trees: &[Tree<'a>], end: Span) -> Result<Name<'a>, Stop> 
 }
 
 /// Names with commas between, at least one.
-pub(crate) fn names<'a>(
-    alloc: Global,
-    trees: &[Tree<'a>],
-    end: Span,
-) -> Result<Vec<Name<'a>>, Stop> {
+pub(crate) fn names<'a>(alloc: Global, trees: &[Tree<'a>], end: Span) -> Result<Vec<Name<'a>>, Stop>
+    ensures { IfOk result (λ all. AreNames (marks trees.now) all.items) }
+{
     let mut all = Vec::new(alloc);
     let mut rest = trees;
-    for _ in 0..=trees.len() {
-        let count = up_to_comma(rest);
-        let (one, more) = rest.split_at(count.min(rest.len()));
+    loop {
+        let (one, more) = rest.split_at(up_to_comma(rest));
         all.push(name(one, place(more, end))?)?;
         if more.is_empty() {
             return Ok(all);
         }
         rest = trees_behind(more, 1);
     }
-    Ok(all)
 }
 
 /// The size of an array, in square brackets.
