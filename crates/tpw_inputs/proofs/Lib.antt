@@ -1,3 +1,4 @@
 mod Positions
 mod Reading
 mod Lines
+mod Compiled

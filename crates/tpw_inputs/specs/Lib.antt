@@ -3,4 +3,5 @@ pub mod Positions
 pub mod Texts
 pub mod Failures
 pub mod Programs
+pub mod Meanings
 pub mod Names

@@ -1,7 +1,9 @@
 //! Workers in occam: their texts compiled to images, which the verifier judges.
 
-ghost use Rattle.std.specs.Prelude.{◌≡◌, ◌≤◌, IfOk, true};
+ghost use Rattle.std.specs.Prelude.{◌≡◌, ◌≤◌, IfOk, OnOk, true};
 ghost use Rattle.tpw_occam_core.specs.Sound.{is_sound};
+ghost use Rattle.tpw_inputs.specs.Meanings.{AreAccepted, AreImageOfWorker};
+ghost use Rattle.tpw_inputs.specs.Programs.{AreImageOf};
 
 use crate::budget::over_budget;
 use crate::failure::Failure;
@@ -43,7 +45,9 @@ fn write_notes<E: Write>(errors: &mut E, input: &Input, notes: &[Message]) {
 }
 
 /// The bytes of the image of a program that was compiled.
-fn image_of(alloc: Global, program: &Program) -> Result<Vec<u8>, Failure> {
+fn image_of(alloc: Global, program: &Program) -> Result<Vec<u8>, Failure>
+    ensures { IfOk result (λ bytes. AreImageOf program.now bytes.items) }
+{
     match assemble(alloc, program) {
         Ok(image) => Ok(write_image(alloc, &image)?),
         Err(AssemblyFault::Memory) => Err(Failure::Memory),
@@ -58,7 +62,9 @@ fn check_accepted(
     text: &str,
     compiled: &CompiledText<'_>,
     bytes: &[u8],
-) -> Result<(), Failure> {
+) -> Result<(), Failure>
+    ensures { OnOk result (AreAccepted bytes.now) }
+{
     let copy = Vec::from_slice(alloc, bytes)?;
     let (code, place) = match accept(alloc, copy) {
         Ok(_) => return Ok(()),
@@ -77,13 +83,17 @@ fn check_accepted(
 }
 
 /// Reads a worker in occam. What may not be meant in it goes to `errors`.
+///
+/// What the text means is `compiled.worker`: its packets' meanings are what the farm computes of the bytes.
 pub fn read_occam<'a, E: Write>(
     alloc: Global,
     errors: &mut E,
     input: &Input,
     text: &'a [u8],
 ) -> Result<Occam<'a>, Failure>
-    ensures { IfOk result (λ occam. is_sound occam.compiled.worker ≡ true) }
+    ensures sound { IfOk result (λ occam. is_sound occam.compiled.worker ≡ true) }
+    ensures program { IfOk result (λ occam. AreImageOf occam.compiled.program occam.bytes.items) }
+    ensures worker { IfOk result (λ occam. AreImageOfWorker occam.compiled.worker occam.bytes.items) }
 {
     if text.trim_ascii().is_empty() {
         return Err(Failure::Input(InputFault::Empty));

@@ -1,7 +1,8 @@
 //! Workers: images, and what texts say of their code and mean.
 
-ghost use Rattle.std.specs.Prelude.{◌≤◌, IfOk};
+ghost use Rattle.std.specs.Prelude.{◌≡◌, ◌≤◌, IfOk, IfSome, None};
 ghost use Rattle.tp_image.specs.Text.{IsTextOf};
+ghost use Rattle.tpw_inputs.specs.Meanings.{AreImageOfWorker};
 
 use crate::failure::Failure;
 use crate::fault::InputFault;
@@ -50,7 +51,9 @@ fn read_assembly<'a, E: Write>(
     errors: &mut E,
     input: &Input,
     text: &'a str,
-) -> Result<Worker<'a>, Failure> {
+) -> Result<Worker<'a>, Failure>
+    ensures { IfOk result (λ worker. worker.meaning ≡ None) }
+{
     let source = read_source(alloc, text)?;
     note_source(alloc, errors, input, text, &source)?;
     let bytes = assembled_text(alloc, text, &source)?;
@@ -68,7 +71,9 @@ fn read_compiled<'a, E: Write>(
     errors: &mut E,
     input: &Input,
     text: &'a [u8],
-) -> Result<Worker<'a>, Failure> {
+) -> Result<Worker<'a>, Failure>
+    ensures { IfOk result (λ worker. IfSome worker.meaning (λ meant. AreImageOfWorker meant worker.bytes.items)) }
+{
     let Occam {
         text,
         compiled,
@@ -82,13 +87,15 @@ fn read_compiled<'a, E: Write>(
     })
 }
 
-/// The worker of an image in hexadecimal, or else of assembly text.
+/// The worker of an image in hexadecimal, or else of assembly text. It says nothing of what is meant.
 fn read_assembled<'a, E: Write>(
     alloc: Global,
     errors: &mut E,
     input: &Input,
     text: &'a [u8],
-) -> Result<Worker<'a>, Failure> {
+) -> Result<Worker<'a>, Failure>
+    ensures { IfOk result (λ worker. worker.meaning ≡ None) }
+{
     if text.trim_ascii().is_empty() {
         return Err(Failure::Input(InputFault::Empty));
     }
@@ -112,7 +119,9 @@ pub fn read_worker<'a, E: Write>(
     input: &Input,
     language: Language,
     text: &'a [u8],
-) -> Result<Worker<'a>, Failure> {
+) -> Result<Worker<'a>, Failure>
+    ensures { IfOk result (λ worker. IfSome worker.meaning (λ meant. AreImageOfWorker meant worker.bytes.items)) }
+{
     match language {
         Language::Assembly => read_assembled(alloc, errors, input, text),
         Language::Occam => read_compiled(alloc, errors, input, text),
