@@ -1,6 +1,6 @@
 //! `why`, as the command line has it.
 
-use crate::command_line::arguments::{file_argument, occam_argument};
+use crate::arguments::{described, with_worker};
 use clap::{Command, Error};
 use std::alloc::Global;
 
@@ -14,11 +14,12 @@ Status 0: the image is accepted. Status 1: it is refused, or what is read says n
 docs/VERIFIER.md lists every refusal.";
 
 /// `why`, as the command line has it.
-pub fn why_command<'a>(alloc: Global) -> Result<Command<'a>, Error> {
-    let command = Command::new(alloc, WHY)
-        .about("Judges an image as the verifier does, and explains why it is refused")
-        .after_help(WHY_LINES)
-        .arg(file_argument(alloc))?
-        .arg(occam_argument(alloc))?;
-    Ok(command)
+pub(crate) fn why_command<'a>(alloc: Global) -> Result<Command<'a>, Error> {
+    let command = described(
+        alloc,
+        WHY,
+        "Judges an image as the verifier does, and explains why it is refused",
+        WHY_LINES,
+    );
+    with_worker(alloc, command)
 }

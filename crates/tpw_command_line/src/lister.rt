@@ -1,6 +1,6 @@
 //! `list`, as the command line has it.
 
-use crate::command_line::arguments::{file_argument, occam_argument};
+use crate::arguments::{described, with_worker};
 use clap::{Command, Error};
 use std::alloc::Global;
 
@@ -15,11 +15,12 @@ that are executed from there to the end of the loop around it, or of the run, an
 Status 0: the image is accepted. Status 1: it is refused, or what is read says none.";
 
 /// `list`, as the command line has it.
-pub fn list_command<'a>(alloc: Global) -> Result<Command<'a>, Error> {
-    let command = Command::new(alloc, LIST)
-        .about("Lists a worker's instructions with what each costs")
-        .after_help(LIST_LINES)
-        .arg(file_argument(alloc))?
-        .arg(occam_argument(alloc))?;
-    Ok(command)
+pub(crate) fn list_command<'a>(alloc: Global) -> Result<Command<'a>, Error> {
+    let command = described(
+        alloc,
+        LIST,
+        "Lists a worker's instructions with what each costs",
+        LIST_LINES,
+    );
+    with_worker(alloc, command)
 }

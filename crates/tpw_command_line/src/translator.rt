@@ -1,6 +1,6 @@
 //! `occam`, as the command line has it.
 
-use crate::command_line::arguments::file_argument;
+use crate::arguments::{described, file_argument};
 use clap::{Command, Error};
 use std::alloc::Global;
 
@@ -15,10 +15,12 @@ Status 1: the text says no worker; standard error names each place, FILE:LINE:CO
 docs/OCCAM.md has the language.";
 
 /// `occam`, as the command line has it.
-pub fn occam_command<'a>(alloc: Global) -> Result<Command<'a>, Error> {
-    let command = Command::new(alloc, OCCAM)
-        .about("Makes an assembly text of one in occam")
-        .after_help(OCCAM_LINES)
-        .arg(file_argument(alloc))?;
-    Ok(command)
+pub(crate) fn occam_command<'a>(alloc: Global) -> Result<Command<'a>, Error> {
+    let command = described(
+        alloc,
+        OCCAM,
+        "Makes an assembly text of one in occam",
+        OCCAM_LINES,
+    );
+    Ok(command.arg(file_argument(alloc))?)
 }

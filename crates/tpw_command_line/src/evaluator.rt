@@ -1,6 +1,6 @@
 //! `eval`, as the command line has it.
 
-use crate::command_line::arguments::{file_argument, with_expect, with_packets, with_style};
+use crate::arguments::{described, file_argument, with_expect, with_packets, with_style};
 use clap::{Command, Error};
 use std::alloc::Global;
 
@@ -15,11 +15,14 @@ Status 0: each packet has a result, the one expected. Status 1: not so, or the t
 docs/OCCAM.md has the language.";
 
 /// `eval`, as the command line has it.
-pub fn eval_command<'a>(alloc: Global) -> Result<Command<'a>, Error> {
-    let command = Command::new(alloc, EVAL)
-        .about("Works out what a text in occam means by packets")
-        .after_help(EVAL_LINES)
-        .arg(file_argument(alloc))?;
+pub(crate) fn eval_command<'a>(alloc: Global) -> Result<Command<'a>, Error> {
+    let command = described(
+        alloc,
+        EVAL,
+        "Works out what a text in occam means by packets",
+        EVAL_LINES,
+    );
+    let command = command.arg(file_argument(alloc))?;
     let command = with_packets(alloc, command)?;
     let command = with_expect(alloc, command)?;
     with_style(alloc, command)

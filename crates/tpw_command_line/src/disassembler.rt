@@ -1,6 +1,6 @@
 //! `dis`, as the command line has it.
 
-use crate::command_line::arguments::file_argument;
+use crate::arguments::{described, file_argument};
 use clap::{Command, Error};
 use std::alloc::Global;
 
@@ -13,10 +13,7 @@ Reads an image as hexadecimal, and writes a text that asm reads as the same imag
 Status 1: it is no image.";
 
 /// `dis`, as the command line has it.
-pub fn dis_command<'a>(alloc: Global) -> Result<Command<'a>, Error> {
-    let command = Command::new(alloc, DIS)
-        .about("Makes a text of an image")
-        .after_help(DIS_LINES)
-        .arg(file_argument(alloc))?;
-    Ok(command)
+pub(crate) fn dis_command<'a>(alloc: Global) -> Result<Command<'a>, Error> {
+    let command = described(alloc, DIS, "Makes a text of an image", DIS_LINES);
+    Ok(command.arg(file_argument(alloc))?)
 }

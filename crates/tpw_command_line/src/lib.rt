@@ -1,0 +1,67 @@
+//! The command line of `tpw`: its commands, their options, and what help says of them.
+//!
+//! clap reads it. What is given for an argument is found by its name in [`options`].
+#![tactic(auto)]
+
+mod arguments;
+mod assembler;
+mod disassembler;
+mod evaluator;
+mod explainer;
+mod lister;
+pub mod options;
+mod profiler;
+mod runner;
+mod stepper;
+mod translator;
+
+use crate::assembler::asm_command;
+use crate::disassembler::dis_command;
+use crate::evaluator::eval_command;
+use crate::explainer::why_command;
+use crate::lister::list_command;
+use crate::profiler::profile_command;
+use crate::runner::run_command;
+use crate::stepper::step_command;
+use crate::translator::occam_command;
+pub use assembler::ASM;
+use clap::{ArgMatches, Command, Error};
+pub use disassembler::DIS;
+pub use evaluator::EVAL;
+pub use explainer::WHY;
+pub use lister::LIST;
+pub use profiler::PROFILE;
+pub use runner::RUN;
+use std::alloc::Global;
+use std::convert::AsStr;
+pub use stepper::STEP;
+pub use translator::OCCAM;
+
+/// What `--version` says behind the name: the version, the commit where a package is built, and the kit that the proofs
+/// are made with.
+const VERSION: &str = "0.1 (unreleased, rattle-kit-13f)";
+
+/// The command line that the program knows.
+fn command<'a>(alloc: Global) -> Result<Command<'a>, Error> {
+    let command = Command::new(alloc, "tpw")
+        .bin_name("tpw")?
+        .version(VERSION)
+        .about("Tools for those who write workers")
+        .subcommand_required(true)
+        .subcommand(asm_command(alloc)?)?
+        .subcommand(dis_command(alloc)?)?
+        .subcommand(eval_command(alloc)?)?
+        .subcommand(list_command(alloc)?)?
+        .subcommand(occam_command(alloc)?)?
+        .subcommand(profile_command(alloc)?)?
+        .subcommand(run_command(alloc)?)?
+        .subcommand(step_command(alloc)?)?
+        .subcommand(why_command(alloc)?)?;
+    Ok(command)
+}
+
+/// What words give, the first of which names the program. Fails with a text that is asked for, with words that are not
+/// taken, or out of memory.
+pub fn matches_of<'a, S: AsStr>(alloc: Global, words: &'a [S]) -> Result<ArgMatches<'a>, Error> {
+    command(alloc)?.try_get_matches_from(words)
+}
