@@ -41,23 +41,30 @@ pub use translator::OCCAM;
 /// are made with.
 const VERSION: &str = "0.1 (unreleased, rattle-kit-13f)";
 
+/// A command with one more below it.
+fn with_command<'a>(
+    command: Command<'a>,
+    below: Result<Command<'a>, Error>,
+) -> Result<Command<'a>, Error> {
+    Ok(command.subcommand(below?)?)
+}
+
 /// The command line that the program knows.
 fn command<'a>(alloc: Global) -> Result<Command<'a>, Error> {
     let command = Command::new(alloc, "tpw")
         .bin_name("tpw")?
         .version(VERSION)
         .about("Tools for those who write workers")
-        .subcommand_required(true)
-        .subcommand(asm_command(alloc)?)?
-        .subcommand(dis_command(alloc)?)?
-        .subcommand(eval_command(alloc)?)?
-        .subcommand(list_command(alloc)?)?
-        .subcommand(occam_command(alloc)?)?
-        .subcommand(profile_command(alloc)?)?
-        .subcommand(run_command(alloc)?)?
-        .subcommand(step_command(alloc)?)?
-        .subcommand(why_command(alloc)?)?;
-    Ok(command)
+        .subcommand_required(true);
+    let command = with_command(command, asm_command(alloc))?;
+    let command = with_command(command, dis_command(alloc))?;
+    let command = with_command(command, eval_command(alloc))?;
+    let command = with_command(command, list_command(alloc))?;
+    let command = with_command(command, occam_command(alloc))?;
+    let command = with_command(command, profile_command(alloc))?;
+    let command = with_command(command, run_command(alloc))?;
+    let command = with_command(command, step_command(alloc))?;
+    with_command(command, why_command(alloc))
 }
 
 /// What words give, the first of which names the program. Fails with a text that is asked for, with words that are not
