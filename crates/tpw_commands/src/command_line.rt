@@ -102,24 +102,29 @@ fn check_language(task: &Task, language: Language) -> Result<(), Refusal> {
     }
 }
 
+/// What a command by its name is to do, with what is given for it.
+fn task_of(alloc: Global, name: &str, matches: &ArgMatches<'_>) -> Result<Task, Ending> {
+    Ok(match name {
+        PROFILE => Task::Work(Work::Profile(profiling(alloc, matches)?)),
+        RUN => Task::Work(Work::Run(running(alloc, matches)?)),
+        STEP => Task::Work(Work::Step(stepping(alloc, matches)?)),
+        LIST => Task::Work(Work::Judge(Report::List)),
+        WHY => Task::Work(Work::Judge(Report::Why)),
+        ASM => Task::Assemble(line_name(alloc, matches)?),
+        OCCAM => Task::Translate,
+        EVAL => Task::Evaluate(showing(alloc, matches)?),
+        DIS => Task::Disassemble,
+        _ => return Err(Ending::Refused(Refusal::NoCommand)),
+    })
+}
+
 /// What words ask for, the first of which names the program.
 pub fn asked_by<S: AsStr>(alloc: Global, words: &[S]) -> Result<Asked, Ending> {
     let matches = matches_of(alloc, words)?;
     let Some((name, found)) = matches.subcommand() else {
         return Err(Ending::Refused(Refusal::NoCommand));
     };
-    let task = match name {
-        PROFILE => Task::Work(Work::Profile(profiling(alloc, found)?)),
-        RUN => Task::Work(Work::Run(running(alloc, found)?)),
-        STEP => Task::Work(Work::Step(stepping(alloc, found)?)),
-        LIST => Task::Work(Work::Judge(Report::List)),
-        WHY => Task::Work(Work::Judge(Report::Why)),
-        ASM => Task::Assemble(line_name(alloc, found)?),
-        OCCAM => Task::Translate,
-        EVAL => Task::Evaluate(showing(alloc, found)?),
-        DIS => Task::Disassemble,
-        _ => return Err(Ending::Refused(Refusal::NoCommand)),
-    };
+    let task = task_of(alloc, name, found)?;
     let input = input_of(alloc, found)?;
     let language = language_of(found, &task, &input);
     check_standard(&task, &input)?;
