@@ -5,7 +5,8 @@ use std::alloc::{AllocError, Global};
 use std::process::Abort;
 use tpw_occam_core::{Given, Worker, evaluate};
 use tpw_occam_elaboration::{Elaborated, ElaborationError, Fault, elaborate};
-use tpw_occam_syntax::{Source, parse};
+use tpw_occam_syntax::parse;
+use tpw_occam_tree::Source;
 
 /// The tree of a text, which stays allocated: the kit's borrow checker shortens no lifetime within a tree.
 fn tree<'t>(rt: &impl Abort, alloc: Global, text: &'t str) -> &'t Source<'t> {

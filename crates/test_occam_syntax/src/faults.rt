@@ -3,7 +3,8 @@
 use crate::asserts::unwrap;
 use std::alloc::Global;
 use std::process::Abort;
-use tpw_occam_syntax::{FaultKind, Unsupported, Wanted, parse};
+use tpw_occam_syntax::parse;
+use tpw_occam_tree::{FaultKind, Unsupported, Wanted};
 
 /// A text, and the line, the column and the kind of each of its faults.
 type Case = (&'static str, &'static [(usize, usize, FaultKind)]);

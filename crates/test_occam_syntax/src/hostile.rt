@@ -3,7 +3,8 @@
 use crate::asserts::unwrap;
 use std::alloc::Global;
 use std::process::Abort;
-use tpw_occam_syntax::{Fault, FaultKind, MAX_FAULTS, Wanted, parse};
+use tpw_occam_syntax::parse;
+use tpw_occam_tree::{Fault, FaultKind, MAX_FAULTS, Wanted};
 
 /// A worker with each construct.
 const SAMPLE: &str = "-- a sample

@@ -1,7 +1,7 @@
 //! What is said of what occam has and workers have not.
 
 use crate::asserts::unwrap;
-use tpw_occam_syntax::{FaultKind, Unsupported};
+use tpw_occam_tree::{FaultKind, Unsupported};
 
 /// What is to be written instead, as a part of what is said.
 const INSTEAD: [(Unsupported, &str); 14] = [

@@ -2,7 +2,7 @@
 
 use crate::asserts::{assert_same, unwrap};
 use crate::trees::assert_value;
-use tpw_occam_syntax::text_bytes;
+use tpw_occam_tree::text_bytes;
 
 const LITERALS: [(&str, &str); 20] = [
     ("0", "0"),

@@ -1,7 +1,7 @@
 //! A syntax tree as a short text, without places.
 
 use std::alloc::AllocError;
-use tpw_occam_syntax::{
+use tpw_occam_tree::{
     Declaration, Dyadic, Expression, Monadic, Name, Parameters, Passing, Primitive, Process, Size,
     Type,
 };

@@ -4,7 +4,8 @@ use crate::asserts::unwrap;
 use crate::shown::{MAX_LEVELS, put_declaration, put_expression};
 use std::alloc::Global;
 use std::process::Abort;
-use tpw_occam_syntax::{Declaration, parse};
+use tpw_occam_syntax::parse;
+use tpw_occam_tree::Declaration;
 
 /// Asserts that a text has no fault, and what its declarations are.
 pub(crate) fn assert_read(rt: &impl Abort, alloc: Global, text: &str, shown: &str) {

@@ -3,7 +3,7 @@
 use Rattle.std.specs.Prelude.{◌≡◌, ◌≤◌, ℕ, true, List, Result, Ok, Err, All, length, ⊤}
 use Rattle.tpw_occam_core.specs.Sound.{is_sound}
 use Rattle.tpw_occam_code.specs.Program.{HasLayout, Means, GivesRuled}
-use Rattle.tpw_occam_syntax.specs.Places.{LiesIn}
+use Rattle.tpw_occam_tree.specs.Places.{LiesIn}
 use Rattle.tpw_occam.specs.declared.message.Message.{Message}
 use Rattle.tpw_occam.specs.declared.compiling.CompiledText.{CompiledText}
 use Rattle.tpw_occam.specs.declared.fault.OccamFault.{OccamFault}

@@ -3,7 +3,7 @@
 ghost use Rattle.std.specs.Prelude.{◌≡◌, ◌≤◌, All, IfErr, IfOk, length, true};
 ghost use Rattle.tpw_occam.specs.Compilation.{IsCompilation, IsRefusal};
 ghost use Rattle.tpw_occam_core.specs.Sound.{is_sound};
-ghost use Rattle.tpw_occam_syntax.specs.Places.{LiesIn};
+ghost use Rattle.tpw_occam_tree.specs.Places.{LiesIn};
 
 use crate::fault::{Defect, OccamFault};
 use crate::message::{Message, message_at, messages_of, notes_of};
@@ -13,7 +13,8 @@ use tpw_asm::Program;
 use tpw_occam_code::{CodeFault, Compiled, compile};
 use tpw_occam_core::Worker;
 use tpw_occam_elaboration::{Elaborated, ElaborationError, Fault, FaultKind, elaborate};
-use tpw_occam_syntax::{Source, parse};
+use tpw_occam_syntax::parse;
+use tpw_occam_tree::Source;
 
 /// A text, compiled.
 #[derive(Debug, Drop)]

@@ -1,11 +1,11 @@
 //! What is said of a text.
 
 ghost use Rattle.std.specs.Prelude.{◌≤◌, All, IfOk, length};
-ghost use Rattle.tpw_occam_syntax.specs.Places.{LiesIn};
+ghost use Rattle.tpw_occam_tree.specs.Places.{LiesIn};
 
 use std::alloc::{AllocError, Global};
 use tpw_occam_elaboration::{Fault, Note};
-use tpw_occam_syntax::{Span, placed};
+use tpw_occam_tree::{Span, placed};
 
 /// The most messages that a text is refused with.
 const MAX_MESSAGES: usize = 20;

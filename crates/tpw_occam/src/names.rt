@@ -3,7 +3,7 @@
 use std::alloc::{AllocError, Global};
 use tpw_occam_code::{Item, Placed, START};
 use tpw_occam_elaboration::Named;
-use tpw_occam_syntax::Span;
+use tpw_occam_tree::Span;
 
 /// A name of a variable or of an array, and its words of the workspace.
 #[derive(Clone, Copy, Debug, PartialEq, Eq)]

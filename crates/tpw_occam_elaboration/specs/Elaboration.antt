@@ -1,7 +1,7 @@
 -- What elaboration gives: a worker that is sound, with names and notes, or faults.
 use Rattle.std.specs.Prelude.{◌≡◌, ◌≤◌, ℕ, true, List, Result, Ok, Err, All, length, vec_len}
 use Rattle.tpw_occam_core.specs.Sound.{is_sound}
-use Rattle.tpw_occam_syntax.specs.Places.{LiesIn}
+use Rattle.tpw_occam_tree.specs.Places.{LiesIn}
 use Rattle.tpw_occam_elaboration.specs.Order.{AreFaultsInOrder, AreNotesInOrder}
 use Rattle.tpw_occam_elaboration.specs.declared.fault.Fault.{Fault}
 use Rattle.tpw_occam_elaboration.specs.declared.whole.Elaborated.{Elaborated}

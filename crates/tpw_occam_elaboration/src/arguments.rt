@@ -11,7 +11,7 @@ use crate::sort::Role;
 use crate::syntax::{element_type, name, span_of};
 use crate::typed::{Typed, Worth};
 use tpw_occam_core::Expression;
-use tpw_occam_syntax::{Expression as Tree, Name, Primitive, Span};
+use tpw_occam_tree::{Expression as Tree, Name, Primitive, Span};
 
 /// What a parameter stands for, and what is bound to it around the body.
 #[derive(Drop)]

@@ -8,7 +8,7 @@ use crate::syntax::{bytes_of, element_kind, element_type, name, span_of};
 use crate::typed::Typed;
 use std::alloc::AllocError;
 use tpw_occam_core::Kind;
-use tpw_occam_syntax::{Expression as Tree, Name, Primitive, Size, Span, Type, text_bytes};
+use tpw_occam_tree::{Expression as Tree, Name, Primitive, Size, Span, Type, text_bytes};
 
 /// The elements of an array, and how many; none where there may be any number.
 #[derive(Clone, Copy, Debug, PartialEq, Eq)]

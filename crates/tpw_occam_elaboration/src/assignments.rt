@@ -7,7 +7,7 @@ use crate::fault::{FaultKind, Stop};
 use crate::sort::Role;
 use crate::syntax::{element_type, name, span_of};
 use tpw_occam_core::{Assignment, Process, Target};
-use tpw_occam_syntax::{Expression as Tree, Name, Primitive};
+use tpw_occam_tree::{Expression as Tree, Name, Primitive};
 
 impl<'a> Elaborator<'a> {
     /// A name that is assigned to, and its type.

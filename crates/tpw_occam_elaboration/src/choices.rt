@@ -10,7 +10,7 @@ use crate::syntax::span_of;
 use crate::typed::{Typed, Worth, computed, constant};
 use std::alloc::{AllocError, Global};
 use tpw_occam_core::{Expression, Process};
-use tpw_occam_syntax::{Dyadic, Expression as Tree, Primitive, Span};
+use tpw_occam_tree::{Dyadic, Expression as Tree, Primitive, Span};
 
 /// A process behind a guard.
 #[derive(Drop)]

@@ -5,7 +5,7 @@ use crate::fault::{FaultKind, Stop};
 use crate::limits::MAX_DEPTH;
 use crate::syntax::span_of;
 use crate::typed::{Typed, Worth};
-use tpw_occam_syntax::{Expression, Primitive, Span};
+use tpw_occam_tree::{Expression, Primitive, Span};
 
 impl<'a> Elaborator<'a> {
     /// The constant that an expression at a place is.

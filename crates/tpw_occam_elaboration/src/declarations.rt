@@ -10,7 +10,7 @@ use crate::signatures::Callee;
 use crate::syntax::{bytes_of, element_type, span_of};
 use crate::typed::{Typed, Worth};
 use tpw_occam_core::Kind;
-use tpw_occam_syntax::{
+use tpw_occam_tree::{
     Declaration, Expression as Tree, Name, Parameters, Primitive, Process, Size, Type,
 };
 

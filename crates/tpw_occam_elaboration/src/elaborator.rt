@@ -7,7 +7,7 @@ use crate::note::{Note, NoteKind};
 use crate::signatures::Parameter;
 use std::alloc::{AllocError, Global};
 use tpw_occam_core::{Kind, Storage};
-use tpw_occam_syntax::{MAX_FAULTS, Name, Primitive, Span};
+use tpw_occam_tree::{MAX_FAULTS, Name, Primitive, Span};
 
 /// The names in scope, and how many calls may still lie within one another.
 #[derive(Clone, Copy)]

@@ -16,7 +16,7 @@ use crate::typed::{Typed, Worth, constant};
 use crate::words::{MOST_NEGATIVE, MOST_POSITIVE};
 use std::alloc::AllocError;
 use tpw_occam_core::{Expression, Kind, Operator, Storage};
-use tpw_occam_syntax::{Dyadic, Expression as Tree, Monadic, Name, Primitive, Span};
+use tpw_occam_tree::{Dyadic, Expression as Tree, Monadic, Name, Primitive, Span};
 
 /// The byte of a table, or 0 behind its last.
 fn byte(table: &[u8], at: usize) -> u8 {

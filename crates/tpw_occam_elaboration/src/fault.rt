@@ -3,7 +3,7 @@
 use crate::sort::{Role, Sort, keyword, with_article};
 use std::alloc::{AllocError, AllocFailed};
 use std::fmt;
-use tpw_occam_syntax::{Primitive, Span};
+use tpw_occam_tree::{Primitive, Span};
 
 /// What a text goes beyond.
 #[derive(Clone, Copy, Debug, PartialEq, Eq)]
@@ -22,7 +22,7 @@ pub enum Limit {
 #[derive(Clone, Copy, Debug, PartialEq, Eq)]
 pub enum FaultKind<'a> {
     /// The text is not read as a tree.
-    Syntax(tpw_occam_syntax::FaultKind),
+    Syntax(tpw_occam_tree::FaultKind),
     /// No such name is in scope: one may be near to it.
     Unknown {
         name: &'a str,

@@ -7,7 +7,7 @@ use crate::sort::Role;
 use crate::syntax::{element_type, name, span_of};
 use crate::typed::{Typed, computed, constant};
 use tpw_occam_core::Expression;
-use tpw_occam_syntax::{Expression as Tree, Name, Primitive};
+use tpw_occam_tree::{Expression as Tree, Name, Primitive};
 
 impl<'a> Elaborator<'a> {
     /// What a name in scope stands for.

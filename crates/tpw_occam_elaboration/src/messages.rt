@@ -5,7 +5,7 @@ use crate::elaborator::{Elaborator, Frame};
 use crate::environment::{Channel, Protocol};
 use crate::fault::{FaultKind, Stop};
 use tpw_occam_core::{Message, Process};
-use tpw_occam_syntax::{Expression as Tree, Name, Primitive};
+use tpw_occam_tree::{Expression as Tree, Name, Primitive};
 
 impl<'a> Elaborator<'a> {
     /// What a channel sends.

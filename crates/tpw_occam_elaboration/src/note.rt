@@ -1,7 +1,7 @@
 //! What a text may not mean.
 
 use std::fmt;
-use tpw_occam_syntax::Span;
+use tpw_occam_tree::Span;
 
 /// What may not be meant.
 #[derive(Clone, Copy, Debug, PartialEq, Eq)]

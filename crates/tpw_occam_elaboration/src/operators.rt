@@ -5,7 +5,7 @@ use crate::typed::{Typed, Worth, constant};
 use crate::words::{MOST_NEGATIVE, MOST_POSITIVE, SHIFTS};
 use std::alloc::{AllocError, Global};
 use tpw_occam_core::{Expression, Operator, applied};
-use tpw_occam_syntax::{Dyadic, Monadic, Primitive, Span};
+use tpw_occam_tree::{Dyadic, Monadic, Primitive, Span};
 
 /// The type of the operands of an operator; none where they are of one type, whichever that is.
 pub(crate) fn operands_of(operator: Dyadic) -> Option<Primitive> {

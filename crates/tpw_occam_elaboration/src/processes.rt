@@ -16,9 +16,7 @@ use crate::syntax::{place_of, span_of};
 use crate::typed::Worth;
 use crate::words::MOST_POSITIVE;
 use tpw_occam_core::{Expression, Process};
-use tpw_occam_syntax::{
-    Declaration, Expression as Tree, Name, Primitive, Process as Written, Span,
-};
+use tpw_occam_tree::{Declaration, Expression as Tree, Name, Primitive, Process as Written, Span};
 
 /// The turns of a replicated SEQ.
 #[derive(Clone, Copy)]

@@ -3,7 +3,7 @@
 use crate::syntax::line_of;
 use std::alloc::{AllocError, Global};
 use tpw_occam_core::Process;
-use tpw_occam_syntax::Span;
+use tpw_occam_tree::Span;
 
 /// How often a list can be halved.
 const MAX_HALVES: u32 = 64;

@@ -4,7 +4,7 @@ use crate::arrays::Shape;
 use crate::elaborator::{Elaborator, Frame, or_else};
 use crate::environment::{Access, Protocol};
 use crate::fault::{FaultKind, Stop};
-use tpw_occam_syntax::{Name, Parameters, Passing, Primitive, Size, Span, Type};
+use tpw_occam_tree::{Name, Parameters, Passing, Primitive, Size, Span, Type};
 
 /// What an argument has to be.
 #[derive(Clone, Copy, Debug, PartialEq, Eq)]

@@ -1,7 +1,7 @@
 //! What is read off syntax trees.
 
 use tpw_occam_core::Kind;
-use tpw_occam_syntax::{Declaration, Expression, Name, Primitive, Process, Span};
+use tpw_occam_tree::{Declaration, Expression, Name, Primitive, Process, Span};
 
 /// The place of an expression: of its operator where it has one.
 pub(crate) fn span_of(e: &Expression<'_>) -> Span {

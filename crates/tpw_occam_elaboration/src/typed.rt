@@ -1,7 +1,7 @@
 //! Expressions of the core with their types.
 
 use tpw_occam_core::Expression;
-use tpw_occam_syntax::{Primitive, Span};
+use tpw_occam_tree::{Primitive, Span};
 
 /// What is known of a value in the text.
 #[derive(Clone, Copy, Debug, PartialEq, Eq)]

@@ -21,7 +21,7 @@ use std::mem;
 use tpw_occam_core::{
     Assignment, Expression, Message, Place, Process, Target, Worker, evaluate, is_sound,
 };
-use tpw_occam_syntax::{
+use tpw_occam_tree::{
     Declaration, Expression as Tree, Name, Parameters, Primitive, Process as Written, Source, Span,
 };
 

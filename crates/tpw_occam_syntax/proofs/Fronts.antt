@@ -6,7 +6,7 @@ use Rattle.std.proofs.lemmas.Bool.Decides.{nat_tests}
 use Rattle.std.specs.declared.vec.Vec.{Vec}
 use Rattle.std.specs.declared.alloc.Global.{Global}
 use Rattle.std.specs.Borrow.{Bor}
-use Rattle.tpw_occam_syntax.specs.declared.span.Span.{Span}
+use Rattle.tpw_occam_tree.specs.declared.span.Span.{Span}
 use Rattle.tpw_occam_syntax.specs.declared.symbol.Symbol.{Symbol}
 use Rattle.tpw_occam_syntax.specs.declared.symbol.Symbol.TheVariants as symbol
 use Rattle.tpw_occam_syntax.specs.declared.token.Item.{Item}
@@ -16,10 +16,10 @@ use Rattle.tpw_occam_syntax.specs.declared.token.Bracket.{Bracket}
 use Rattle.tpw_occam_syntax.specs.declared.token.Bracket.TheVariants.{Round, Square}
 use Rattle.tpw_occam_syntax.specs.declared.token.Tree as tree
 use Rattle.tpw_occam_syntax.specs.declared.token.Tree.{Tree}
-use Rattle.tpw_occam_syntax.specs.declared.expression.Monadic.{Monadic}
-use Rattle.tpw_occam_syntax.specs.declared.expression.Dyadic.{Dyadic}
-use Rattle.tpw_occam_syntax.specs.declared.expression.Expression as expression
-use Rattle.tpw_occam_syntax.specs.declared.expression.Expression.{Expression}
+use Rattle.tpw_occam_tree.specs.declared.expression.Monadic.{Monadic}
+use Rattle.tpw_occam_tree.specs.declared.expression.Dyadic.{Dyadic}
+use Rattle.tpw_occam_tree.specs.declared.expression.Expression as expression
+use Rattle.tpw_occam_tree.specs.declared.expression.Expression.{Expression}
 use Rattle.tpw_occam_syntax.specs.declared.reading.ListKind.{ListKind}
 use Rattle.tpw_occam_syntax.specs.declared.reading.ListKind.TheVariants.{Arguments, Expressions}
 use Rattle.tpw_occam_syntax.specs.Tokens.{Lexeme, Mark, mark, marks, marks_of, enclosed, lexeme_of}

@@ -1,8 +1,6 @@
 pub mod Fronts
 pub mod NameLists
 pub mod Once
-pub mod OrderLemmas
-pub mod PlaceLemmas
 pub mod Printed
 pub mod Seams
 pub mod Taken

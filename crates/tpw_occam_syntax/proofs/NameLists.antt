@@ -3,7 +3,7 @@ use Rattle.std.proofs.Common.{◌≡◌, List, [], ◌∷◌, ◌++◌, drop, ap
 use Rattle.std.proofs.lemmas.List.{append-nil}
 use Rattle.tpw_occam_syntax.specs.declared.symbol.Symbol.TheVariants as symbol
 use Rattle.tpw_occam_syntax.specs.declared.token.Tree.{Tree}
-use Rattle.tpw_occam_syntax.specs.declared.tree.Name.{Name}
+use Rattle.tpw_occam_tree.specs.declared.tree.Name.{Name}
 use Rattle.tpw_occam_syntax.specs.Tokens.{Mark, mark, marks, Sign}
 use Rattle.tpw_occam_syntax.specs.Names.{name_mark, AreNames}
 use Rattle.tpw_occam_syntax.specs.Names as names

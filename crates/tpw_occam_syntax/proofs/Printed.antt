@@ -1,12 +1,12 @@
 -- What a printer writes is spelled by the grammar
 use Rattle.std.proofs.Common.{◌≡◌, Bool, true, false, List, [], ◌∷◌, ◌++◌, Option, Some, None, refl, subst, sym, inl, inr}
 use Rattle.std.proofs.lemmas.List.{append-nil}
-use Rattle.tpw_occam_syntax.specs.declared.span.Span.{Span}
-use Rattle.tpw_occam_syntax.specs.declared.expression.Primitive.TheVariants as primitive
-use Rattle.tpw_occam_syntax.specs.declared.expression.Monadic.{Monadic}
-use Rattle.tpw_occam_syntax.specs.declared.expression.Monadic.TheVariants as monadic
-use Rattle.tpw_occam_syntax.specs.declared.expression.Dyadic.{Dyadic}
-use Rattle.tpw_occam_syntax.specs.declared.expression.Dyadic.TheVariants as dyadic
+use Rattle.tpw_occam_tree.specs.declared.span.Span.{Span}
+use Rattle.tpw_occam_tree.specs.declared.expression.Primitive.TheVariants as primitive
+use Rattle.tpw_occam_tree.specs.declared.expression.Monadic.{Monadic}
+use Rattle.tpw_occam_tree.specs.declared.expression.Monadic.TheVariants as monadic
+use Rattle.tpw_occam_tree.specs.declared.expression.Dyadic.{Dyadic}
+use Rattle.tpw_occam_tree.specs.declared.expression.Dyadic.TheVariants as dyadic
 use Rattle.tpw_occam_syntax.specs.declared.reading.ListKind.{ListKind}
 use Rattle.tpw_occam_syntax.specs.declared.reading.ListKind.TheVariants.{Arguments, Expressions}
 use Rattle.tpw_occam_syntax.specs.Tokens.{Lexeme, Mark, mark}

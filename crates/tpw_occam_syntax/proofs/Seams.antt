@@ -6,7 +6,7 @@ use Rattle.tpw_occam_syntax.specs.declared.keyword.Keyword.{Keyword}
 use Rattle.tpw_occam_syntax.specs.declared.keyword.Keyword.TheVariants as keyword
 use Rattle.tpw_occam_syntax.specs.declared.symbol.Symbol.{Symbol}
 use Rattle.tpw_occam_syntax.specs.declared.symbol.Symbol.TheVariants as symbol
-use Rattle.tpw_occam_syntax.specs.declared.span.Span.{Span}
+use Rattle.tpw_occam_tree.specs.declared.span.Span.{Span}
 use Rattle.tpw_occam_syntax.specs.declared.token.Item.{Item}
 use Rattle.tpw_occam_syntax.specs.declared.token.Token.{Token}
 use Rattle.tpw_occam_syntax.specs.declared.token.Token.TheVariants as token
@@ -14,10 +14,10 @@ use Rattle.tpw_occam_syntax.specs.declared.token.Bracket.{Bracket}
 use Rattle.tpw_occam_syntax.specs.declared.token.Tree as tree
 use Rattle.tpw_occam_syntax.specs.declared.token.Tree.{Tree, Row_of-Tree, end_of-Tree, more_of-Tree, items-the_row-Tree, items_hidden-the_row-Tree-0}
 use Rattle.tpw_occam_syntax.specs.declared.token.Tree.TheBlock.{hidden-the_row-Tree-0}
-use Rattle.tpw_occam_syntax.specs.declared.expression.Dyadic.{Dyadic}
-use Rattle.tpw_occam_syntax.specs.declared.expression.Expression as expression
-use Rattle.tpw_occam_syntax.specs.declared.expression.Expression.{Expression, Row_of-Expression, end_of-Expression, more_of-Expression, items-the_row-Expression, items_hidden-the_row-Expression-0}
-use Rattle.tpw_occam_syntax.specs.declared.expression.Expression.TheBlock.{hidden-the_row-Expression-0}
+use Rattle.tpw_occam_tree.specs.declared.expression.Dyadic.{Dyadic}
+use Rattle.tpw_occam_tree.specs.declared.expression.Expression as expression
+use Rattle.tpw_occam_tree.specs.declared.expression.Expression.{Expression, Row_of-Expression, end_of-Expression, more_of-Expression, items-the_row-Expression, items_hidden-the_row-Expression-0}
+use Rattle.tpw_occam_tree.specs.declared.expression.Expression.TheBlock.{hidden-the_row-Expression-0}
 use Rattle.tpw_occam_syntax.specs.declared.reading.ListKind.{ListKind}
 use Rattle.tpw_occam_syntax.specs.declared.reading.ListKind.TheVariants.{Arguments}
 use Rattle.tpw_occam_syntax.specs.Tokens.{Lexeme, Mark, mark, marks, marks_of, row_marks, enclosed, lexeme_of}

@@ -4,7 +4,7 @@ use Rattle.std.proofs.lemmas.List.{append-nil}
 use Rattle.std.proofs.lemmas.List.Concat.{flat_map-append}
 use Rattle.std.specs.declared.vec.Vec.{Vec}
 use Rattle.std.specs.declared.alloc.Global.{Global}
-use Rattle.tpw_occam_syntax.specs.declared.span.Span.{Span}
+use Rattle.tpw_occam_tree.specs.declared.span.Span.{Span}
 use Rattle.tpw_occam_syntax.specs.declared.token.Bracket.{Bracket}
 use Rattle.tpw_occam_syntax.specs.declared.token.Tree as tree
 use Rattle.tpw_occam_syntax.specs.declared.token.Tree.{Tree}

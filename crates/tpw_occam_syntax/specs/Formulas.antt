@@ -1,11 +1,11 @@
 -- Expressions without where they lie in memory
 use Rattle.std.specs.Prelude.{ℕ, Bool, List, [], ◌∷◌}
-use Rattle.tpw_occam_syntax.specs.declared.span.Span.{Span}
-use Rattle.tpw_occam_syntax.specs.declared.expression.Monadic as monadic
-use Rattle.tpw_occam_syntax.specs.declared.expression.Dyadic as dyadic
-use Rattle.tpw_occam_syntax.specs.declared.expression.Expression as expression
-use Rattle.tpw_occam_syntax.specs.declared.expression.Expression.{Expression, Row_of-Expression}
-use Rattle.tpw_occam_syntax.specs.declared.expression.Expression.{end_of-Expression, more_of-Expression}
+use Rattle.tpw_occam_tree.specs.declared.span.Span.{Span}
+use Rattle.tpw_occam_tree.specs.declared.expression.Monadic as monadic
+use Rattle.tpw_occam_tree.specs.declared.expression.Dyadic as dyadic
+use Rattle.tpw_occam_tree.specs.declared.expression.Expression as expression
+use Rattle.tpw_occam_tree.specs.declared.expression.Expression.{Expression, Row_of-Expression}
+use Rattle.tpw_occam_tree.specs.declared.expression.Expression.{end_of-Expression, more_of-Expression}
 
 -- an expression, as `Expression` says it
 mutual

@@ -5,16 +5,17 @@ use Rattle.std.specs.Prelude.{◌≡◌, ℕ, true, false, Some, List, [], ◌�
 use Rattle.tpw_occam_syntax.specs.declared.keyword.Keyword.TheVariants as keyword
 use Rattle.tpw_occam_syntax.specs.declared.symbol.Symbol.{Symbol}
 use Rattle.tpw_occam_syntax.specs.declared.symbol.Symbol.TheVariants as symbol
-use Rattle.tpw_occam_syntax.specs.declared.span.Span.{Span}
+use Rattle.tpw_occam_tree.specs.declared.span.Span.{Span}
 use Rattle.tpw_occam_syntax.specs.declared.token.Bracket.TheVariants.{Round, Square}
-use Rattle.tpw_occam_syntax.specs.declared.expression.Monadic.{Monadic}
-use Rattle.tpw_occam_syntax.specs.declared.expression.Dyadic.{Dyadic}
+use Rattle.tpw_occam_tree.specs.declared.expression.Monadic.{Monadic}
+use Rattle.tpw_occam_tree.specs.declared.expression.Dyadic.{Dyadic}
 use Rattle.tpw_occam_syntax.specs.declared.reading.ListKind.{ListKind}
 use Rattle.tpw_occam_syntax.specs.declared.reading.ListKind.TheVariants.{Expressions, Arguments}
 use Rattle.tpw_occam_syntax.specs.Tokens.{Lexeme, Mark, mark, enclosed, Name, Word, Number, Character, Text, Sign}
 use Rattle.tpw_occam_syntax.specs.Formulas.{Formula, Formulas, End, Then}
 use Rattle.tpw_occam_syntax.specs.Formulas as formula
-use Rattle.tpw_occam_syntax.specs.Operators.{monadic_of, dyadic_of, is_chained}
+use Rattle.tpw_occam_tree.specs.Operators.{is_chained}
+use Rattle.tpw_occam_syntax.specs.Operators.{monadic_of, dyadic_of}
 
 -- `?` or `!`
 pub data IsDirection : Lexeme → Type 0 where

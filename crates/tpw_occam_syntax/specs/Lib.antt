@@ -3,7 +3,6 @@ pub mod Grammar
 pub mod Grouping
 pub mod Names
 pub mod Operators
-pub mod Places
 pub mod Printing
 pub mod Reading
 pub mod Tokens

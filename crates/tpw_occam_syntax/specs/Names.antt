@@ -1,8 +1,8 @@
 -- Names with commas between
 use Rattle.std.specs.Prelude.{List, [], ◌∷◌}
 use Rattle.tpw_occam_syntax.specs.declared.symbol.Symbol.TheVariants as symbol
-use Rattle.tpw_occam_syntax.specs.declared.span.Span.{Span}
-use Rattle.tpw_occam_syntax.specs.declared.tree.Name.{Name}
+use Rattle.tpw_occam_tree.specs.declared.span.Span.{Span}
+use Rattle.tpw_occam_tree.specs.declared.tree.Name.{Name}
 use Rattle.tpw_occam_syntax.specs.Tokens.{Mark, mark, Sign}
 use Rattle.tpw_occam_syntax.specs.Tokens as lexeme
 

@@ -4,12 +4,12 @@ use Rattle.tpw_occam_syntax.specs.declared.keyword.Keyword.{Keyword}
 use Rattle.tpw_occam_syntax.specs.declared.keyword.Keyword.TheVariants as keyword
 use Rattle.tpw_occam_syntax.specs.declared.symbol.Symbol.{Symbol}
 use Rattle.tpw_occam_syntax.specs.declared.symbol.Symbol.TheVariants as symbol
-use Rattle.tpw_occam_syntax.specs.declared.expression.Primitive.{Primitive}
-use Rattle.tpw_occam_syntax.specs.declared.expression.Primitive.TheVariants as primitive
-use Rattle.tpw_occam_syntax.specs.declared.expression.Monadic.{Monadic}
-use Rattle.tpw_occam_syntax.specs.declared.expression.Monadic.TheVariants as monadic
-use Rattle.tpw_occam_syntax.specs.declared.expression.Dyadic.{Dyadic}
-use Rattle.tpw_occam_syntax.specs.declared.expression.Dyadic.TheVariants as dyadic
+use Rattle.tpw_occam_tree.specs.declared.expression.Primitive.{Primitive}
+use Rattle.tpw_occam_tree.specs.declared.expression.Primitive.TheVariants as primitive
+use Rattle.tpw_occam_tree.specs.declared.expression.Monadic.{Monadic}
+use Rattle.tpw_occam_tree.specs.declared.expression.Monadic.TheVariants as monadic
+use Rattle.tpw_occam_tree.specs.declared.expression.Dyadic.{Dyadic}
+use Rattle.tpw_occam_tree.specs.declared.expression.Dyadic.TheVariants as dyadic
 use Rattle.tpw_occam_syntax.specs.Tokens.{Lexeme, Word, Sign}
 
 -- the type that a keyword names
@@ -73,16 +73,3 @@ abbrev pub dyadic_of : Lexeme → Option Dyadic
 dyadic_of (Word keyword) = dyadic_word keyword
 dyadic_of (Sign symbol) = dyadic_sign symbol
 dyadic_of other = None
-
--- an operator of which a chain needs no brackets
-abbrev pub is_chained : Dyadic → Bool
-is_chained dyadic.Add = true
-is_chained dyadic.Multiply = true
-is_chained dyadic.Plus = true
-is_chained dyadic.Times = true
-is_chained dyadic.BitAnd = true
-is_chained dyadic.BitOr = true
-is_chained dyadic.BitXor = true
-is_chained dyadic.And = true
-is_chained dyadic.Or = true
-is_chained other = false

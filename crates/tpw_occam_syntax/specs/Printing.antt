@@ -3,14 +3,14 @@ use Rattle.std.specs.Prelude.{ℕ, Bool, true, false, List, [], ◌∷◌, ◌++
 use Rattle.tpw_occam_syntax.specs.declared.keyword.Keyword.{Keyword}
 use Rattle.tpw_occam_syntax.specs.declared.keyword.Keyword.TheVariants as keyword
 use Rattle.tpw_occam_syntax.specs.declared.symbol.Symbol.TheVariants as symbol
-use Rattle.tpw_occam_syntax.specs.declared.span.Span.{Span}
+use Rattle.tpw_occam_tree.specs.declared.span.Span.{Span}
 use Rattle.tpw_occam_syntax.specs.declared.token.Bracket.TheVariants.{Round, Square}
-use Rattle.tpw_occam_syntax.specs.declared.expression.Primitive.{Primitive}
-use Rattle.tpw_occam_syntax.specs.declared.expression.Primitive.TheVariants as primitive
-use Rattle.tpw_occam_syntax.specs.declared.expression.Monadic.{Monadic}
-use Rattle.tpw_occam_syntax.specs.declared.expression.Monadic.TheVariants as monadic
-use Rattle.tpw_occam_syntax.specs.declared.expression.Dyadic.{Dyadic}
-use Rattle.tpw_occam_syntax.specs.declared.expression.Dyadic.TheVariants as dyadic
+use Rattle.tpw_occam_tree.specs.declared.expression.Primitive.{Primitive}
+use Rattle.tpw_occam_tree.specs.declared.expression.Primitive.TheVariants as primitive
+use Rattle.tpw_occam_tree.specs.declared.expression.Monadic.{Monadic}
+use Rattle.tpw_occam_tree.specs.declared.expression.Monadic.TheVariants as monadic
+use Rattle.tpw_occam_tree.specs.declared.expression.Dyadic.{Dyadic}
+use Rattle.tpw_occam_tree.specs.declared.expression.Dyadic.TheVariants as dyadic
 use Rattle.tpw_occam_syntax.specs.Tokens.{Lexeme, Mark, mark, enclosed, Name, Word, Number, Character, Text, Sign}
 use Rattle.tpw_occam_syntax.specs.Formulas.{Formula, Formulas, End, Then}
 use Rattle.tpw_occam_syntax.specs.Formulas as formula

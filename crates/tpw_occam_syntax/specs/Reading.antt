@@ -1,6 +1,6 @@
 -- What trees of tokens show of themselves
 use Rattle.std.specs.Prelude.{◌≡◌, ℕ, Bool, true, false, Option, Some, None, List, [], ◌∷◌}
-use Rattle.tpw_occam_syntax.specs.declared.span.Span.{Span}
+use Rattle.tpw_occam_tree.specs.declared.span.Span.{Span}
 use Rattle.tpw_occam_syntax.specs.declared.keyword.Keyword.TheVariants as keyword
 use Rattle.tpw_occam_syntax.specs.declared.symbol.Symbol.{Symbol}
 use Rattle.tpw_occam_syntax.specs.declared.symbol.Symbol.TheVariants as symbol
@@ -8,9 +8,10 @@ use Rattle.tpw_occam_syntax.specs.declared.token.Token.{Token}
 use Rattle.tpw_occam_syntax.specs.declared.token.Token.TheVariants as token
 use Rattle.tpw_occam_syntax.specs.declared.token.Tree as tree
 use Rattle.tpw_occam_syntax.specs.declared.token.Tree.{Tree}
-use Rattle.tpw_occam_syntax.specs.declared.expression.Dyadic.{Dyadic}
+use Rattle.tpw_occam_tree.specs.declared.expression.Dyadic.{Dyadic}
 use Rattle.tpw_occam_syntax.specs.Tokens.{Lexeme, Word, lexeme_of}
-use Rattle.tpw_occam_syntax.specs.Operators.{dyadic_of, is_chained}
+use Rattle.tpw_occam_tree.specs.Operators.{is_chained}
+use Rattle.tpw_occam_syntax.specs.Operators.{dyadic_of}
 
 -- where a tree begins
 abbrev pub place_of : Tree → Span

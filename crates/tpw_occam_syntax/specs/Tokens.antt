@@ -2,7 +2,7 @@
 use Rattle.std.specs.Prelude.{ℕ, List, [], ◌∷◌, ◌++◌, flat_map}
 use Rattle.tpw_occam_syntax.specs.declared.keyword.Keyword.{Keyword}
 use Rattle.tpw_occam_syntax.specs.declared.symbol.Symbol.{Symbol}
-use Rattle.tpw_occam_syntax.specs.declared.span.Span.{Span}
+use Rattle.tpw_occam_tree.specs.declared.span.Span.{Span}
 use Rattle.tpw_occam_syntax.specs.declared.token.Bracket.{Bracket}
 use Rattle.tpw_occam_syntax.specs.declared.token.Token.{Token}
 use Rattle.tpw_occam_syntax.specs.declared.token.Token.TheVariants as token

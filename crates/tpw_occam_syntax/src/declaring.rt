@@ -1,19 +1,19 @@
 //! Declarations, read from lines.
 
-use crate::expression::{Expression, Primitive};
-use crate::fault::{Fault, FaultKind, Wanted};
-use crate::keyword::{Keyword, Unsupported};
+use crate::keyword::Keyword;
 use crate::phrases::{
     around, front_type, keyword_of, name, name_of, names, parameters, position_of,
     position_of_keyword, symbol_of,
 };
 use crate::reading::{MAX_DEPTH, expression, place, primitive, span_of, trees_behind, wanted};
-use crate::span::Span;
 use crate::stop::Stop;
 use crate::symbol::Symbol;
 use crate::token::{Bracket, Tree};
-use crate::tree::{Declaration, Name, Parameters, Size, Type};
 use std::alloc::{AllocError, Global};
+use tpw_occam_tree::{
+    Declaration, Expression, Fault, FaultKind, Name, Parameters, Primitive, Size, Span, Type,
+    Unsupported, Wanted,
+};
 
 /// The expression that trees spell.
 pub(crate) fn value<'a>(

@@ -5,12 +5,11 @@ ghost use Rattle.tpw_occam_syntax.specs.Tokens.{mark, mark_of, marks};
 ghost use Rattle.tpw_occam_syntax.specs.Tokens as lexeme;
 ghost use Rattle.tpw_occam_syntax.specs.Grouping.{taken};
 
-use crate::fault::{Fault, FaultKind};
-use crate::span::Span;
 use crate::stop::Stop;
 use crate::token::{Bracket, Item, Token, Tree};
 use std::alloc::{AllocError, Global};
 use std::mem;
+use tpw_occam_tree::{Fault, FaultKind, Span};
 
 /// The most brackets within one another.
 const MAX_BRACKETS: usize = 60;

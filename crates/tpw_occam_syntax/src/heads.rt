@@ -1,20 +1,20 @@
 //! What a line says by itself, whatever stands below it.
 
 use crate::declaring::{declaration, declared_names, procedure_head, seems_declaration, value};
-use crate::expression::{Dyadic, Expression};
-use crate::fault::{Fault, FaultKind, Wanted};
-use crate::keyword::{Keyword, Unsupported};
+use crate::keyword::Keyword;
 use crate::layout::Block;
 use crate::phrases::{
     around, keyword_of, name, name_of, position_of, position_of_keyword, symbol_of,
 };
 use crate::reading::{ListKind, MAX_DEPTH, listed, place, span_of, trees_behind, wanted};
-use crate::span::Span;
 use crate::stop::Stop;
 use crate::symbol::Symbol;
 use crate::token::Tree;
-use crate::tree::{Declaration, Name, Parameters, Process};
 use std::alloc::{AllocError, Global};
+use tpw_occam_tree::{
+    Declaration, Dyadic, Expression, Fault, FaultKind, Name, Parameters, Process, Span,
+    Unsupported, Wanted,
+};
 
 /// What a line says with what stands below it.
 #[derive(Drop)]

@@ -1,7 +1,7 @@
 //! Laws of the grammar of expressions: each function's contract is the law.
 
 ghost use Rattle.std.specs.Prelude.{◌≡◌, List};
-ghost use Rattle.tpw_occam_syntax.specs.declared.span.Span.{Span};
+ghost use Rattle.tpw_occam_tree.specs.declared.span.Span.{Span};
 ghost use Rattle.tpw_occam_syntax.specs.Tokens.{Mark};
 ghost use Rattle.tpw_occam_syntax.specs.Formulas.{Formula};
 ghost use Rattle.tpw_occam_syntax.specs.Grammar.{IsExpression};

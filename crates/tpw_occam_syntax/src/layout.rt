@@ -1,13 +1,13 @@
 //! Lines, nested by their indentation.
 
-use crate::fault::{Fault, FaultKind, Faults};
+use crate::faults::Faults;
 use crate::grouping::{flat_trees, trees_of};
 use crate::lexing::is_rest;
 use crate::line::Line;
-use crate::span::Span;
 use crate::stop::Stop;
 use crate::token::Tree;
 use std::alloc::{AllocError, Global};
+use tpw_occam_tree::{Fault, FaultKind, Span};
 
 /// The most lines that stand below one another, below the first.
 const MAX_LEVELS: usize = 60;

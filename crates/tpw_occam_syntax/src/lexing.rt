@@ -1,10 +1,9 @@
 //! Tokens.
 
-use crate::fault::FaultKind;
 use crate::keyword::Keyword;
 use crate::symbol::Symbol;
 use crate::token::{Bracket, Token};
-use std::alloc::{AllocError, Global};
+use tpw_occam_tree::{FaultKind, is_hexadecimal, quoted};
 
 /// What is wrong at the front of a text: which bytes are shown, and how many are passed over.
 #[derive(Clone, Copy)]
@@ -49,7 +48,7 @@ impl Class {
         match self {
             Class::Word => byte.is_ascii_alphanumeric() || byte == b'.',
             Class::Digit => byte.is_ascii_digit(),
-            Class::Hexadecimal => byte.is_ascii_digit() || matches!(byte, b'A'..=b'F'),
+            Class::Hexadecimal => is_hexadecimal(byte),
             Class::Foreign => !(byte.is_ascii_alphanumeric() || is_mark(byte)),
             Class::Wide => !byte.is_ascii(),
             Class::Tab => byte == b'\t',
@@ -130,36 +129,6 @@ fn hexadecimal(rest: &str) -> Read<'_> {
     match u32::from_str_radix(front(behind(rest, 1), digits), 16) {
         Ok(number) if digits <= 8 => Ok((Token::Number(number), digits.saturating_add(1))),
         _ => Err(Bad::whole(FaultKind::BadHexadecimal, digits.saturating_add(1))),
-    }
-}
-
-/// The byte that `*` and what stands behind it means, and how many bytes stand behind it.
-fn escape(rest: &str) -> Option<(u8, usize)> {
-    match rest.as_bytes().first()? {
-        b'c' | b'C' => Some((b'\r', 1)),
-        b'n' | b'N' => Some((b'\n', 1)),
-        b't' | b'T' => Some((b'\t', 1)),
-        b's' | b'S' => Some((b' ', 1)),
-        b'\'' => Some((b'\'', 1)),
-        b'"' => Some((b'"', 1)),
-        b'*' => Some((b'*', 1)),
-        b'#' if run(behind(rest, 1), Class::Hexadecimal) >= 2 => {
-            let digits = front(behind(rest, 1), 2);
-            Some((u8::from_str_radix(digits, 16).ok()?, 3))
-        }
-        _ => None,
-    }
-}
-
-/// The byte at the front of what stands within quotes, and how many bytes spell it; none where they spell nothing.
-fn quoted(rest: &str) -> Option<(u8, usize)> {
-    match rest.as_bytes().first()? {
-        b'*' => {
-            let (byte, more) = escape(behind(rest, 1))?;
-            Some((byte, more.saturating_add(1)))
-        }
-        byte if byte.is_ascii() => Some((*byte, 1)),
-        _ => None,
     }
 }
 
@@ -301,24 +270,4 @@ pub(crate) fn is_rest(rest: &str) -> bool {
         Ok((Token::Keyword(keyword), _)) => keyword.is_between(),
         _ => false,
     }
-}
-
-/// The bytes that a text means, as it is spelled between its quotes: of each character its byte, and of `*n`, `*#41`
-/// and their like the one that they stand for. Of a text that is no [`Expression::Text`](crate::Expression::Text), those
-/// in front of what spells nothing.
-///
-/// ```
-/// assert_eq!(text_bytes(alloc, "a*n")?.as_slice(), b"a\n");
-/// ```
-pub fn text_bytes(alloc: Global, spelled: &str) -> Result<Vec<u8>, AllocError> {
-    let mut bytes = Vec::new(alloc);
-    let mut at = 0usize;
-    for _ in 0..spelled.len() {
-        let Some((byte, width)) = quoted(behind(spelled, at)) else {
-            return Ok(bytes);
-        };
-        bytes.push(byte)?;
-        at = at.saturating_add(width);
-    }
-    Ok(bytes)
 }

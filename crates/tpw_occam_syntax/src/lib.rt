@@ -5,8 +5,7 @@
 #![tactic(auto)]
 
 mod declaring;
-mod expression;
-mod fault;
+mod faults;
 mod grouping;
 mod heads;
 mod keyword;
@@ -16,19 +15,9 @@ mod lexing;
 mod line;
 mod parsing;
 mod phrases;
-mod places;
 mod reading;
-mod span;
 mod stop;
 mod symbol;
 mod token;
-mod tree;
 
-pub use expression::{Dyadic, Expression, Monadic, Primitive};
-pub use fault::{Fault, FaultKind, MAX_FAULTS, Wanted};
-pub use keyword::Unsupported;
-pub use lexing::text_bytes;
-pub use parsing::{Source, parse};
-pub use places::placed;
-pub use span::Span;
-pub use tree::{Declaration, Name, Parameters, Passing, Process, Size, Type};
+pub use parsing::parse;

@@ -1,20 +1,20 @@
 //! Declarations and processes, read from nested lines.
 
 ghost use Rattle.std.specs.Prelude.{◌≤◌, All, IfOk, vec_len};
-ghost use Rattle.tpw_occam_syntax.specs.Places.{LiesIn, AreInOrder};
+ghost use Rattle.tpw_occam_tree.specs.Places.{LiesIn, AreInOrder};
 
-use crate::expression::Expression;
-use crate::fault::{Fault, FaultKind, Faults, Wanted};
+use crate::faults::Faults;
 use crate::heads::{
     Below, Entry, Head, constants, guard, head_of, is_end, wanted_fault, wrong_head,
 };
 use crate::layout::{Block, Lines, lines_of};
-use crate::places::placed_faults;
-use crate::span::Span;
 use crate::stop::Stop;
-use crate::tree::{Declaration, Name, Parameters, Process};
 use std::alloc::{AllocError, Global};
 use std::mem;
+use tpw_occam_tree::{
+    Declaration, Expression, Fault, FaultKind, Name, Parameters, Process, Source, Span, Wanted,
+    placed_faults,
+};
 
 /// More than the levels of lines.
 const MAX_DEPTH: usize = 64;
@@ -447,17 +447,6 @@ fn procedure<'a>(
         parameters,
         body: Box::new(alloc, body)?,
     }))
-}
-
-/// What a text declares, its worker last, and what is wrong with it. Only where there are no faults is it all that the
-/// text says, and nothing in it `Wrong`.
-#[derive(Debug, Drop)]
-pub struct Source<'a> {
-    pub declarations: Vec<Declaration<'a>>,
-    /// In the order of their places, at most [`MAX_FAULTS`](crate::MAX_FAULTS).
-    pub faults: Vec<Fault>,
-    /// Whether each line's indentation is right. Else it is not known what stands below what.
-    pub is_laid_out: bool,
 }
 
 /// Reads a text. What has a fault is left out or [`Wrong`](Process::Wrong), and all else is read; a fault that another

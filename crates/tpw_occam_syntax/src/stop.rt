@@ -1,7 +1,7 @@
 //! Why nothing was read.
 
-use crate::fault::Fault;
 use std::alloc::{AllocError, AllocFailed};
+use tpw_occam_tree::Fault;
 
 /// Why nothing was read.
 #[derive(Clone, Copy)]

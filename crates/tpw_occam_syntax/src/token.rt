@@ -1,8 +1,8 @@
 //! Tokens, and the trees that brackets make of them.
 
 use crate::keyword::Keyword;
-use crate::span::Span;
 use crate::symbol::Symbol;
+use tpw_occam_tree::Span;
 
 /// A pair of brackets.
 #[derive(Clone, Copy, PartialEq)]

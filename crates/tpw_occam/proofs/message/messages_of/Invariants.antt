@@ -1,5 +1,5 @@
 use Rattle.std.proofs.Common.{◌≤◌, All, length}
-use Rattle.tpw_occam_syntax.specs.Places.{LiesIn}
+use Rattle.tpw_occam_tree.specs.Places.{LiesIn}
 use Rattle.tpw_occam.proofs.message.messages_of.Given as goal
 
 abbrev pub invariant-loop-fault : goal.invariant-loop-fault

@@ -2,7 +2,7 @@ use Rattle.std.proofs.Common.{◌≡◌, ◌∷◌, ◌∙◌, ap, sym, subst, L
 use Rattle.std.proofs.lemmas.Result.{IfOk-weaker}
 use Rattle.tpw_occam_syntax.specs.declared.token.Tree as tree
 use Rattle.tpw_occam_syntax.specs.declared.token.Tree.{Tree}
-use Rattle.tpw_occam_syntax.specs.declared.expression.Expression.{Expression}
+use Rattle.tpw_occam_tree.specs.declared.expression.Expression.{Expression}
 use Rattle.tpw_occam_syntax.specs.declared.reading.ListKind.TheVariants.{Arguments, Expressions}
 use Rattle.tpw_occam_syntax.specs.Tokens.{mark, marks, marks_of, lexeme_of, Name}
 use Rattle.tpw_occam_syntax.specs.Formulas.{formula_of, formulas, Formula}

@@ -1,6 +1,6 @@
 use Rattle.std.proofs.Common.{ℕ, ◌+◌, ◌≤◌}
-use Rattle.tpw_occam_syntax.proofs.places.reach.Given as goal
-use Rattle.tpw_occam_syntax.specs.Places.{IsReached, IsInOrder}
+use Rattle.tpw_occam_tree.proofs.places.reach.Given as goal
+use Rattle.tpw_occam_tree.specs.Places.{IsReached, IsInOrder}
 
 abbrev pub invariant-loop-at : goal.invariant-loop-at
 invariant-loop-at l = record {

@@ -1,6 +1,6 @@
 use Rattle.std.proofs.Common.{◌+◌, ◌-◌, ◌≤◌}
-use Rattle.tpw_occam_syntax.proofs.places.width_at.Given as goal
-use Rattle.tpw_occam_syntax.specs.Places.{IsReached}
+use Rattle.tpw_occam_tree.proofs.places.width_at.Given as goal
+use Rattle.tpw_occam_tree.specs.Places.{IsReached}
 
 abbrev pub invariant-loop-at : goal.invariant-loop-at
 invariant-loop-at l = record {

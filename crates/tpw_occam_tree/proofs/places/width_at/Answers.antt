@@ -1,8 +1,8 @@
 use Rattle.std.proofs.Common.{◌+◌, ◌-◌, ⊎_elim, arith, refl}
 use Rattle.std.proofs.lemmas.Bool.{cases_eq}
-use Rattle.tpw_occam_syntax.proofs.PlaceLemmas.{no_feed}
-use Rattle.tpw_occam_syntax.proofs.places.width_at.Goals as goal
-use Rattle.tpw_occam_syntax.proofs.places.width_at.Goals.{then-width-most-via-then-width-most, then-width-most-via-else-width-most+then-text-at-eq10}
+use Rattle.tpw_occam_tree.proofs.PlaceLemmas.{no_feed}
+use Rattle.tpw_occam_tree.proofs.places.width_at.Goals as goal
+use Rattle.tpw_occam_tree.proofs.places.width_at.Goals.{then-width-most-via-then-width-most, then-width-most-via-else-width-most+then-text-at-eq10}
 
 pub returns-then-width-most-clause-kept : goal.returns-then-width-most-clause-kept
 returns-then-width-most-clause-kept c r = let le = c.loop-at.invariant.kept r in elim c.then-width-most.branch [

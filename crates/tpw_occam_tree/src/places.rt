@@ -1,7 +1,7 @@
 //! Places that lie in a text.
 
 ghost use Rattle.std.specs.Prelude.{◌≡◌, ℕ, ◌+◌, ◌<◌, ◌≤◌, ◌^◌, length, All, IfOk, vec_len};
-ghost use Rattle.tpw_occam_syntax.specs.Places.{
+ghost use Rattle.tpw_occam_tree.specs.Places.{
   line_behind,
   column_behind,
   IsReached,
@@ -126,11 +126,7 @@ pub fn placed(text: &str, span: Span) -> Span
 }
 
 /// Faults that are in the order of their places, at most [`MAX_FAULTS`], at these places in a text.
-pub(crate) fn placed_faults(
-    alloc: Global,
-    text: &str,
-    faults: &[Fault],
-) -> Result<Vec<Fault>, AllocError>
+pub fn placed_faults(alloc: Global, text: &str, faults: &[Fault]) -> Result<Vec<Fault>, AllocError>
     ensures few { IfOk result (λ v. vec_len v ≤ 20) }
     ensures placed { IfOk result (λ v. All (λ f. LiesIn text.now f.span) v.items) }
     ensures ordered { IfOk result (λ v. AreInOrder v.items) }

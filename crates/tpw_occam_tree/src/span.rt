@@ -10,7 +10,7 @@ pub struct Span {
 
 impl Span {
     /// The place behind it, which has no width.
-    pub(crate) fn end(self) -> Span {
+    pub fn end(self) -> Span {
         Span {
             line: self.line,
             column: self.column.saturating_add(self.width),
@@ -19,7 +19,7 @@ impl Span {
     }
 
     /// Whether it begins in front of another.
-    pub(crate) fn is_before(self, other: Span) -> bool {
+    pub fn is_before(self, other: Span) -> bool {
         self.line < other.line || (self.line == other.line && self.column < other.column)
     }
 }

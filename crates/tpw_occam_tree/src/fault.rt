@@ -1,8 +1,7 @@
 //! What is wrong with a text.
 
-use crate::keyword::Unsupported;
 use crate::span::Span;
-use std::alloc::{AllocError, Global};
+use crate::unsupported::Unsupported;
 use std::fmt;
 
 /// What is wanted at a place, where something else stands or nothing.
@@ -61,7 +60,7 @@ pub enum Wanted {
 
 impl Wanted {
     /// Whether it is wanted for what stands above or below a line, and not for the line itself.
-    pub(crate) fn is_of_nesting(self) -> bool {
+    pub fn is_of_nesting(self) -> bool {
         matches!(
             self,
             Wanted::Process
@@ -213,36 +212,4 @@ pub const MAX_FAULTS: usize = 20;
 pub struct Fault {
     pub span: Span,
     pub kind: FaultKind,
-}
-
-/// The first faults of a text by their places, at most [`MAX_FAULTS`].
-#[derive(Drop)]
-pub(crate) struct Faults {
-    first: Vec<Fault>,
-}
-
-impl Faults {
-    pub(crate) fn new(alloc: Global) -> Self {
-        Faults {
-            first: Vec::new(alloc),
-        }
-    }
-
-    /// Puts one more at its place.
-    pub(crate) fn put(&mut self, fault: Fault) -> Result<(), AllocError> {
-        let behind = self
-            .first
-            .iter()
-            .position(|other| fault.span.is_before(other.span));
-        match behind {
-            Some(at) => self.first.insert(at, fault)?,
-            None => self.first.push(fault)?,
-        }
-        self.first.truncate(MAX_FAULTS);
-        Ok(())
-    }
-
-    pub(crate) fn into_vec(self) -> Vec<Fault> {
-        self.first
-    }
 }

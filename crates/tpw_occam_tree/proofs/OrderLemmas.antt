@@ -1,8 +1,8 @@
 use Rattle.std.proofs.Common.{◌≡◌, ℕ, List, [], ◌∷◌, ◌++◌, get_or, All, arith}
 use Rattle.std.proofs.lemmas.List.Elements.{All-push}
 use Rattle.std.proofs.lemmas.List.Quantifiers.{all_pairs_push}
-use Rattle.tpw_occam_syntax.specs.declared.fault.Fault.{Fault}
-use Rattle.tpw_occam_syntax.specs.Places.{IsInOrder, AreInOrder}
+use Rattle.tpw_occam_tree.specs.declared.fault.Fault.{Fault}
+use Rattle.tpw_occam_tree.specs.Places.{IsInOrder, AreInOrder}
 
 -- each fault begins at a place or in front of it
 abbrev pub StandBefore : List Fault → ℕ → ℕ → Type 0

@@ -1,7 +1,7 @@
 use Rattle.std.proofs.Common.{◌≤◌, length, All}
-use Rattle.tpw_occam_syntax.proofs.OrderLemmas.{StandBefore}
-use Rattle.tpw_occam_syntax.proofs.places.placed_faults.Given as goal
-use Rattle.tpw_occam_syntax.specs.Places.{IsReached, LiesIn, AreInOrder}
+use Rattle.tpw_occam_tree.proofs.OrderLemmas.{StandBefore}
+use Rattle.tpw_occam_tree.proofs.places.placed_faults.Given as goal
+use Rattle.tpw_occam_tree.specs.Places.{IsReached, LiesIn, AreInOrder}
 
 abbrev pub invariant-loop-fault : goal.invariant-loop-fault
 invariant-loop-fault l = record {

@@ -1,8 +1,8 @@
 -- where a stretch of a line lies in a text
 use Rattle.std.specs.Prelude.{◌≡◌, ℕ, ◌+◌, ◌≤◌, ◌==◌, List, length, take, if◌then◌else◌}
 use Rattle.std.specs.List.{fold, AllPairs}
-use Rattle.tpw_occam_syntax.specs.declared.fault.Fault.{Fault}
-use Rattle.tpw_occam_syntax.specs.declared.span.Span.{Span}
+use Rattle.tpw_occam_tree.specs.declared.fault.Fault.{Fault}
+use Rattle.tpw_occam_tree.specs.declared.span.Span.{Span}
 
 -- the line and the column behind a byte: a line feed ends a line
 abbrev pub line_behind : ℕ → ℕ → ℕ

@@ -1,7 +1,7 @@
 use Rattle.std.proofs.Common.{◌≡◌, ◌≢◌, ℕ, zero, suc, ◌+◌, ◌-◌, ◌<◌, ◌≤◌, List, length, take, get_or, ap, ◌∙◌, sym, subst, ⊎_elim, arith, refl}
 use Rattle.std.proofs.lemmas.Bool.{cases_eq}
 use Rattle.std.proofs.lemmas.List.Sums.{fold_more}
-use Rattle.tpw_occam_syntax.specs.Places.{line_after, column_after, line_behind, column_behind, IsReached}
+use Rattle.tpw_occam_tree.specs.Places.{line_after, column_after, line_behind, column_behind, IsReached}
 
 -- one byte further
 pub reached_more : (text : List ℕ) (i line column : ℕ) → i < length text → IsReached text i line column

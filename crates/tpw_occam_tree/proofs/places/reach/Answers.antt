@@ -1,8 +1,8 @@
 use Rattle.std.proofs.Common.{⊎_elim, arith}
 use Rattle.std.proofs.lemmas.Bool.{cases_eq}
-use Rattle.tpw_occam_syntax.proofs.PlaceLemmas.{is_before, no_feed}
-use Rattle.tpw_occam_syntax.proofs.places.reach.Goals as goal
-use Rattle.tpw_occam_syntax.proofs.places.reach.Goals.{then-column-span, else-column-span, then-line-span-via-then-line-span, then-line-span-via-else-line-span+then-not-is_in_line, then-line-span-2, else-line-span-2}
+use Rattle.tpw_occam_tree.proofs.PlaceLemmas.{is_before, no_feed}
+use Rattle.tpw_occam_tree.proofs.places.reach.Goals as goal
+use Rattle.tpw_occam_tree.proofs.places.reach.Goals.{then-column-span, else-column-span, then-line-span-via-then-line-span, then-line-span-via-else-line-span+then-not-is_in_line, then-line-span-2, else-line-span-2}
 
 pub returns-then-line-span-clause-kept : goal.returns-then-line-span-clause-kept
 returns-then-line-span-clause-kept c bytes low r = ⊎_elim

@@ -1,7 +1,7 @@
 //! Expressions, as they are written.
 
 ghost use Rattle.std.specs.Prelude.{◌≡◌};
-ghost use Rattle.tpw_occam_syntax.specs.Operators.{is_chained};
+ghost use Rattle.tpw_occam_tree.specs.Operators.{is_chained};
 
 use crate::span::Span;
 
