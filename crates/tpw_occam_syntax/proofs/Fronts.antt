@@ -1,5 +1,5 @@
 -- What stands at the front of trees, by what it is
-use Rattle.std.proofs.Common.{◌≡◌, ℕ, List, [], ◌∷◌, ◌++◌, ◌+◌, Option, Some, None, drop, ap, ◌∙◌, sym, refl, subst, append_assoc, Bool, true, false, ◌==◌, length, arith, inl, inr, ◌⊎◌, add-one, suc}
+use Rattle.std.proofs.Common.{◌≡◌, ℕ, List, [], ◌∷◌, ◌++◌, Option, Some, None, drop, ap, ◌∙◌, sym, refl, subst, append_assoc, Bool, true, false, ◌==◌, length, arith, inl, inr}
 use Rattle.std.proofs.lemmas.List.{append-nil}
 use Rattle.std.proofs.lemmas.List.Concat.{flat_map-append}
 use Rattle.std.proofs.lemmas.Bool.Decides.{nat_tests}
@@ -29,7 +29,7 @@ use Rattle.tpw_occam_syntax.specs.Formulas as formula
 use Rattle.tpw_occam_syntax.specs.Operators.{dyadic_of, monadic_of}
 use Rattle.tpw_occam_syntax.specs.Grammar.{IsOperand, IsChain, IsListed, IsItem, IsExpression, IsNoneOrListed, BeginsWith}
 use Rattle.tpw_occam_syntax.specs.Grammar as grammar
-use Rattle.tpw_occam_syntax.specs.Reading.{dyadic_at, place_of, is_comma_at, is_comma_token, is_comma_sign, BeginsWithComma, MayFollow}
+use Rattle.tpw_occam_syntax.specs.Reading.{dyadic_at, place_of, is_comma_token, is_comma_sign, BeginsWithComma, MayFollow}
 use Rattle.tpw_occam_syntax.proofs.Seams.{group_marks, formulas_hidden, no_more, SoFar, in_front, Completes}
 
 -- ---- groups

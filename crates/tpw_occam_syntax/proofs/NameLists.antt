@@ -1,6 +1,5 @@
 -- What a loop over names with commas between keeps
-use Rattle.std.proofs.Common.{◌≡◌, List, [], ◌∷◌, ◌++◌, drop, ap, ◌∙◌, sym, subst, append_assoc, true, length}
-use Rattle.std.proofs.lemmas.List.{append-nil}
+use Rattle.std.proofs.Common.{◌≡◌, List, [], ◌∷◌, ◌++◌, drop, ap, ◌∙◌, sym, subst, append_assoc, length}
 use Rattle.tpw_occam_syntax.specs.declared.symbol.Symbol.TheVariants as symbol
 use Rattle.tpw_occam_syntax.specs.declared.token.Tree.{Tree}
 use Rattle.tpw_occam_tree.specs.declared.tree.Name.{Name}

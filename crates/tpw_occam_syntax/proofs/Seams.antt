@@ -1,5 +1,5 @@
 -- The tokens of trees, part by part, and what a loop over them keeps
-use Rattle.std.proofs.Common.{◌≡◌, ℕ, List, [], ◌∷◌, ◌++◌, Option, Some, None, drop, ap, ◌∙◌, sym, refl, subst, append_assoc, true, false, length, arith}
+use Rattle.std.proofs.Common.{◌≡◌, ℕ, List, [], ◌∷◌, ◌++◌, Option, Some, None, drop, ap, ◌∙◌, sym, refl, subst, true, false, length, arith}
 use Rattle.std.specs.declared.vec.Vec.{Vec}
 use Rattle.std.specs.declared.alloc.Global.{Global}
 use Rattle.tpw_occam_syntax.specs.declared.keyword.Keyword.{Keyword}
@@ -15,7 +15,6 @@ use Rattle.tpw_occam_syntax.specs.declared.token.Tree as tree
 use Rattle.tpw_occam_syntax.specs.declared.token.Tree.{Tree, Row_of-Tree, end_of-Tree, more_of-Tree, items-the_row-Tree, items_hidden-the_row-Tree-0}
 use Rattle.tpw_occam_syntax.specs.declared.token.Tree.TheBlock.{hidden-the_row-Tree-0}
 use Rattle.tpw_occam_tree.specs.declared.expression.Dyadic.{Dyadic}
-use Rattle.tpw_occam_tree.specs.declared.expression.Expression as expression
 use Rattle.tpw_occam_tree.specs.declared.expression.Expression.{Expression, Row_of-Expression, end_of-Expression, more_of-Expression, items-the_row-Expression, items_hidden-the_row-Expression-0}
 use Rattle.tpw_occam_tree.specs.declared.expression.Expression.TheBlock.{hidden-the_row-Expression-0}
 use Rattle.tpw_occam_syntax.specs.declared.reading.ListKind.{ListKind}

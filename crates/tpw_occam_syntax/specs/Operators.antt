@@ -1,5 +1,5 @@
 -- Which tokens are operators
-use Rattle.std.specs.Prelude.{Bool, true, false, Option, Some, None, option_map}
+use Rattle.std.specs.Prelude.{Option, Some, None, option_map}
 use Rattle.tpw_occam_syntax.specs.declared.keyword.Keyword.{Keyword}
 use Rattle.tpw_occam_syntax.specs.declared.keyword.Keyword.TheVariants as keyword
 use Rattle.tpw_occam_syntax.specs.declared.symbol.Symbol.{Symbol}

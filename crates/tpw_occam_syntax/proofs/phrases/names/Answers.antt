@@ -1,4 +1,4 @@
-use Rattle.std.proofs.Common.{◌≡◌, sym, subst, List}
+use Rattle.std.proofs.Common.{sym, subst, List}
 use Rattle.tpw_occam_tree.specs.declared.tree.Name.{Name}
 use Rattle.tpw_occam_syntax.specs.Tokens.{marks}
 use Rattle.tpw_occam_syntax.specs.Names.{AreNames}
