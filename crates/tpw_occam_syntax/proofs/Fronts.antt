@@ -24,8 +24,8 @@ use Rattle.tpw_occam_syntax.specs.declared.reading.ListKind.{ListKind}
 use Rattle.tpw_occam_syntax.specs.declared.reading.ListKind.TheVariants.{Arguments, Expressions}
 use Rattle.tpw_occam_syntax.specs.Tokens.{Lexeme, Mark, mark, marks, marks_of, enclosed, lexeme_of}
 use Rattle.tpw_occam_syntax.specs.Tokens as lexeme
-use Rattle.tpw_occam_syntax.specs.Formulas.{Formula, Formulas, Then, End, formula_of, formulas}
-use Rattle.tpw_occam_syntax.specs.Formulas as formula
+use Rattle.tpw_occam_tree.specs.Formulas.{Formula, Formulas, Then, End, formula_of, formulas}
+use Rattle.tpw_occam_tree.specs.Formulas as formula
 use Rattle.tpw_occam_syntax.specs.Operators.{dyadic_of, monadic_of}
 use Rattle.tpw_occam_syntax.specs.Grammar.{IsOperand, IsChain, IsListed, IsItem, IsExpression, IsNoneOrListed, BeginsWith}
 use Rattle.tpw_occam_syntax.specs.Grammar as grammar

@@ -13,8 +13,8 @@ use Rattle.tpw_occam_tree.specs.declared.expression.Dyadic.{Dyadic}
 use Rattle.tpw_occam_syntax.specs.declared.reading.ListKind.{ListKind}
 use Rattle.tpw_occam_syntax.specs.declared.reading.ListKind.TheVariants.{Arguments, Expressions}
 use Rattle.tpw_occam_syntax.specs.Tokens.{Lexeme, Mark, mark, Name, Word, Number, Character, Text, Sign, Open, Close}
-use Rattle.tpw_occam_syntax.specs.Formulas.{Formula, Formulas, Then, End}
-use Rattle.tpw_occam_syntax.specs.Formulas as formula
+use Rattle.tpw_occam_tree.specs.Formulas.{Formula, Formulas, Then, End}
+use Rattle.tpw_occam_tree.specs.Formulas as formula
 use Rattle.tpw_occam_syntax.specs.Operators.{dyadic_of, monadic_of, dyadic_sign, monadic_word}
 use Rattle.tpw_occam_syntax.specs.Grammar.{IsOperand, IsChain, IsListed, IsItem, IsExpression, IsNoneOrListed, IsDirection}
 use Rattle.tpw_occam_syntax.specs.Grammar as grammar

@@ -10,8 +10,8 @@ use Rattle.tpw_occam_tree.specs.declared.expression.Dyadic.TheVariants as dyadic
 use Rattle.tpw_occam_syntax.specs.declared.reading.ListKind.{ListKind}
 use Rattle.tpw_occam_syntax.specs.declared.reading.ListKind.TheVariants.{Arguments, Expressions}
 use Rattle.tpw_occam_syntax.specs.Tokens.{Lexeme, Mark, mark}
-use Rattle.tpw_occam_syntax.specs.Formulas.{Formula, Formulas, End, Then}
-use Rattle.tpw_occam_syntax.specs.Formulas as formula
+use Rattle.tpw_occam_tree.specs.Formulas.{Formula, Formulas, End, Then}
+use Rattle.tpw_occam_tree.specs.Formulas as formula
 use Rattle.tpw_occam_syntax.specs.Operators.{monadic_of, dyadic_of}
 use Rattle.tpw_occam_syntax.specs.Grammar.{IsOperand, IsExpression, IsItem, IsListed}
 use Rattle.tpw_occam_syntax.specs.Grammar as grammar

@@ -21,8 +21,8 @@ use Rattle.tpw_occam_syntax.specs.declared.reading.ListKind.{ListKind}
 use Rattle.tpw_occam_syntax.specs.declared.reading.ListKind.TheVariants.{Arguments}
 use Rattle.tpw_occam_syntax.specs.Tokens.{Lexeme, Mark, mark, marks, marks_of, row_marks, enclosed, lexeme_of}
 use Rattle.tpw_occam_syntax.specs.Tokens as lexeme
-use Rattle.tpw_occam_syntax.specs.Formulas.{Formula, Formulas, Then, End, formula_of, formulas, row_formulas}
-use Rattle.tpw_occam_syntax.specs.Formulas as formula
+use Rattle.tpw_occam_tree.specs.Formulas.{Formula, Formulas, Then, End, formula_of, formulas, row_formulas}
+use Rattle.tpw_occam_tree.specs.Formulas as formula
 use Rattle.tpw_occam_syntax.specs.Grammar.{IsOperand, IsChain, IsListed, IsItem, IsDirection, receives, sends, channel, BeginsWith, true_word, false_word, greatest, least}
 use Rattle.tpw_occam_syntax.specs.Reading.{IsInt, BeginsWithInt, is_direction_sign, is_direction_token, is_direction_at}
 

@@ -11,8 +11,8 @@ use Rattle.tpw_occam_tree.specs.declared.expression.Dyadic.{Dyadic}
 use Rattle.tpw_occam_syntax.specs.declared.reading.ListKind.{ListKind}
 use Rattle.tpw_occam_syntax.specs.declared.reading.ListKind.TheVariants.{Expressions, Arguments}
 use Rattle.tpw_occam_syntax.specs.Tokens.{Lexeme, Mark, mark, enclosed, Name, Word, Number, Character, Text, Sign}
-use Rattle.tpw_occam_syntax.specs.Formulas.{Formula, Formulas, End, Then}
-use Rattle.tpw_occam_syntax.specs.Formulas as formula
+use Rattle.tpw_occam_tree.specs.Formulas.{Formula, Formulas, End, Then}
+use Rattle.tpw_occam_tree.specs.Formulas as formula
 use Rattle.tpw_occam_tree.specs.Operators.{is_chained}
 use Rattle.tpw_occam_syntax.specs.Operators.{monadic_of, dyadic_of}
 

@@ -1,4 +1,3 @@
-pub mod Formulas
 pub mod Grammar
 pub mod Grouping
 pub mod Names

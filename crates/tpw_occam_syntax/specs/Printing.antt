@@ -12,8 +12,8 @@ use Rattle.tpw_occam_tree.specs.declared.expression.Monadic.TheVariants as monad
 use Rattle.tpw_occam_tree.specs.declared.expression.Dyadic.{Dyadic}
 use Rattle.tpw_occam_tree.specs.declared.expression.Dyadic.TheVariants as dyadic
 use Rattle.tpw_occam_syntax.specs.Tokens.{Lexeme, Mark, mark, enclosed, Name, Word, Number, Character, Text, Sign}
-use Rattle.tpw_occam_syntax.specs.Formulas.{Formula, Formulas, End, Then}
-use Rattle.tpw_occam_syntax.specs.Formulas as formula
+use Rattle.tpw_occam_tree.specs.Formulas.{Formula, Formulas, End, Then}
+use Rattle.tpw_occam_tree.specs.Formulas as formula
 
 abbrev pub type_word : Primitive → Keyword
 type_word primitive.Int = keyword.Int

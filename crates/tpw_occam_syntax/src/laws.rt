@@ -3,7 +3,7 @@
 ghost use Rattle.std.specs.Prelude.{◌≡◌, List};
 ghost use Rattle.tpw_occam_tree.specs.declared.span.Span.{Span};
 ghost use Rattle.tpw_occam_syntax.specs.Tokens.{Mark};
-ghost use Rattle.tpw_occam_syntax.specs.Formulas.{Formula};
+ghost use Rattle.tpw_occam_tree.specs.Formulas.{Formula};
 ghost use Rattle.tpw_occam_syntax.specs.Grammar.{IsExpression};
 ghost use Rattle.tpw_occam_syntax.specs.Printing.{IsWhole, written};
 

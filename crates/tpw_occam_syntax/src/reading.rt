@@ -2,8 +2,8 @@
 
 ghost use Rattle.std.specs.Prelude.{◌≡◌, ◌∷◌, [], IfOk, IfSome, IsTrue, IsErr, ◌↔◌, drop, length, ◌≤◌};
 ghost use Rattle.tpw_occam_syntax.specs.Tokens.{mark, marks, marks_of, lexeme_of, Name, Word};
-ghost use Rattle.tpw_occam_syntax.specs.Formulas.{formula_of, formulas, Formula};
-ghost use Rattle.tpw_occam_syntax.specs.Formulas as formula;
+ghost use Rattle.tpw_occam_tree.specs.Formulas.{formula_of, formulas, Formula};
+ghost use Rattle.tpw_occam_tree.specs.Formulas as formula;
 ghost use Rattle.tpw_occam_syntax.specs.Operators.{primitive_of, monadic_of, dyadic_word, dyadic_sign};
 ghost use Rattle.tpw_occam_syntax.specs.Grammar.{IsExpression, IsOperand, IsItem, IsNoneOrListed, BeginsWith};
 ghost use Rattle.tpw_occam_syntax.specs.Reading.{place_of, dyadic_at, is_comma_at, is_direction_at, MayFollow};

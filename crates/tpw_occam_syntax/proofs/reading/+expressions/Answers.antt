@@ -5,8 +5,8 @@ use Rattle.tpw_occam_syntax.specs.declared.token.Tree.{Tree}
 use Rattle.tpw_occam_tree.specs.declared.expression.Expression.{Expression}
 use Rattle.tpw_occam_syntax.specs.declared.reading.ListKind.TheVariants.{Arguments, Expressions}
 use Rattle.tpw_occam_syntax.specs.Tokens.{mark, marks, marks_of, lexeme_of, Name}
-use Rattle.tpw_occam_syntax.specs.Formulas.{formula_of, formulas, Formula}
-use Rattle.tpw_occam_syntax.specs.Formulas as formula
+use Rattle.tpw_occam_tree.specs.Formulas.{formula_of, formulas, Formula}
+use Rattle.tpw_occam_tree.specs.Formulas as formula
 use Rattle.tpw_occam_syntax.specs.Grammar.{IsExpression, IsOperand, IsItem, IsNoneOrListed, BeginsWith}
 use Rattle.tpw_occam_syntax.specs.Grammar as grammar
 use Rattle.tpw_occam_syntax.specs.Reading.{BeginsWithComma}

@@ -1,6 +1,6 @@
 use Rattle.std.proofs.Common.{◌≡◌, ◌+◌, ◌*◌, ◌++◌, List, length}
 use Rattle.tpw_occam_syntax.specs.Tokens.{Mark, marks}
-use Rattle.tpw_occam_syntax.specs.Formulas.{formula_of}
+use Rattle.tpw_occam_tree.specs.Formulas.{formula_of}
 use Rattle.tpw_occam_syntax.proofs.Seams.{SoFar, Completes}
 use Rattle.tpw_occam_syntax.proofs.reading.+expressions.Given as goal
 
