@@ -100,7 +100,7 @@ impl Dyadic {
 }
 
 /// An expression.
-#[derive(Debug, Drop)]
+#[derive(Drop)]
 pub enum Expression<'a> {
     /// A number, as its 32 bits.
     Number {

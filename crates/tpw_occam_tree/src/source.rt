@@ -5,7 +5,7 @@ use crate::tree::Declaration;
 
 /// What a text declares, its worker last, and what is wrong with it. Only where there are no faults is it all that the
 /// text says, and nothing in it `Wrong`.
-#[derive(Debug, Drop)]
+#[derive(Drop)]
 pub struct Source<'a> {
     pub declarations: Vec<Declaration<'a>>,
     /// In the order of their places, at most [`MAX_FAULTS`](crate::MAX_FAULTS).

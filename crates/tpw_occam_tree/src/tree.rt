@@ -11,7 +11,7 @@ pub struct Name<'a> {
 }
 
 /// How many elements there are.
-#[derive(Debug, Drop)]
+#[derive(Drop)]
 pub enum Size<'a> {
     /// One value, no array.
     One,
@@ -22,7 +22,7 @@ pub enum Size<'a> {
 }
 
 /// The type of values, of arrays, or of what a channel carries.
-#[derive(Debug, Drop)]
+#[derive(Drop)]
 pub struct Type<'a> {
     pub size: Size<'a>,
     pub of: Primitive,
@@ -40,7 +40,7 @@ pub enum Passing {
 }
 
 /// Parameters of one type.
-#[derive(Debug, Drop)]
+#[derive(Drop)]
 pub struct Parameters<'a> {
     pub passing: Passing,
     pub of: Type<'a>,
@@ -49,7 +49,7 @@ pub struct Parameters<'a> {
 
 /// A declaration.
 #[cycle(trees)]
-#[derive(Debug, Drop)]
+#[derive(Drop)]
 pub enum Declaration<'a> {
     /// `VAL n IS e:`, with a type or without one.
     Value {
@@ -89,7 +89,7 @@ pub enum Declaration<'a> {
 
 /// A process. `span` is its line.
 #[cycle(trees)]
-#[derive(Debug, Drop)]
+#[derive(Drop)]
 pub enum Process<'a> {
     Skip {
         span: Span,
