@@ -1,1 +1,2 @@
+mod OperatorLemmas
 mod OrderLemmas

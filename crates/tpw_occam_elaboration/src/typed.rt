@@ -1,5 +1,10 @@
 //! Expressions of the core with their types.
 
+ghost use Rattle.std.specs.Prelude.{◌≡◌, ℕ};
+ghost use Rattle.tpw_occam_core.specs.Arithmetic.{plain};
+ghost use Rattle.tpw_occam_core.specs.Meaning.{Store, value_of};
+ghost use Rattle.tpw_occam_elaboration.specs.Operators.{IsOf, IsKnown, known_of_two};
+
 use tpw_occam_core::Expression;
 use tpw_occam_tree::{Primitive, Span};
 
@@ -23,7 +28,12 @@ pub(crate) struct Typed {
 }
 
 /// A constant of a type.
-pub(crate) fn constant(of: Primitive, word: u32) -> Typed {
+pub(crate) fn constant(of: Primitive, word: u32) -> Typed
+    ensures of { result.of ≡ of }
+    ensures worth { result.worth ≡ Worth.Constant word }
+    ensures means { (s : Store) → value_of result.value s ≡ plain word }
+    ensures known { (s : Store) → IsOf of word → IsKnown result s }
+{
     Typed {
         of,
         value: Expression::Constant(word),
@@ -32,7 +42,12 @@ pub(crate) fn constant(of: Primitive, word: u32) -> Typed {
 }
 
 /// A value of a type, worked out when the worker runs.
-pub(crate) fn computed(of: Primitive, value: Expression) -> Typed {
+pub(crate) fn computed(of: Primitive, value: Expression) -> Typed
+    ensures of { result.of ≡ of }
+    ensures value { result.value ≡ value }
+    ensures worth { result.worth ≡ Worth.Computed }
+    ensures known { (s : Store) → IsOf of (value_of value s).word → IsKnown result s }
+{
     Typed {
         of,
         value,
@@ -42,7 +57,9 @@ pub(crate) fn computed(of: Primitive, value: Expression) -> Typed {
 
 impl Worth {
     /// What is known of a value that is made of two.
-    pub(crate) fn with(self, other: Worth) -> Worth {
+    pub(crate) fn with(self, other: Worth) -> Worth
+        ensures { result ≡ known_of_two (λ b a. Worth.Constant a) self other }
+    {
         match (self, other) {
             (Worth::Computed, _) => Worth::Computed,
             (_, Worth::Computed) => Worth::Computed,
