@@ -11,7 +11,7 @@ use tpw_occam_core::Kind;
 use tpw_occam_tree::{Expression as Tree, Name, Primitive, Size, Span, Type, text_bytes};
 
 /// The elements of an array, and how many; none where there may be any number.
-#[derive(Clone, Copy, Debug, PartialEq, Eq)]
+#[derive(Clone, Copy)]
 pub(crate) struct Shape {
     pub(crate) kind: Kind,
     pub(crate) elements: Option<u32>,

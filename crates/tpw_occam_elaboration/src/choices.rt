@@ -43,7 +43,7 @@ pub(crate) fn chain(
 }
 
 /// What a CASE chooses by: a value that costs nothing to read.
-#[derive(Clone, Copy, Debug, PartialEq, Eq)]
+#[derive(Clone, Copy)]
 pub(crate) struct Selector {
     pub(crate) of: Primitive,
     pub(crate) value: Atom,

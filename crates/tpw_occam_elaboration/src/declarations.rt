@@ -15,7 +15,7 @@ use tpw_occam_tree::{
 };
 
 /// Where declarations stand.
-#[derive(Clone, Copy, Debug, PartialEq, Eq)]
+#[derive(Clone, Copy, PartialEq)]
 pub(crate) enum Level {
     /// Outside of PROCs.
     Text,

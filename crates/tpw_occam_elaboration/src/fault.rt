@@ -155,7 +155,7 @@ pub struct Fault<'a> {
 }
 
 /// Why nothing was made.
-#[derive(Clone, Copy, Debug, PartialEq, Eq)]
+#[derive(Clone, Copy)]
 pub(crate) enum Stop {
     /// A growth was refused.
     Memory,

@@ -7,7 +7,7 @@ use crate::fault::{FaultKind, Stop};
 use tpw_occam_tree::{Name, Parameters, Passing, Primitive, Size, Span, Type};
 
 /// What an argument has to be.
-#[derive(Clone, Copy, Debug, PartialEq, Eq)]
+#[derive(Clone, Copy)]
 pub(crate) enum Form {
     /// `VAL INT v`
     Value(Primitive),
@@ -22,21 +22,21 @@ pub(crate) enum Form {
 }
 
 /// A parameter.
-#[derive(Clone, Copy, Debug, PartialEq, Eq)]
+#[derive(Clone, Copy)]
 pub(crate) struct Parameter<'a> {
     pub(crate) name: Name<'a>,
     pub(crate) form: Form,
 }
 
 /// Whose parameters they are.
-#[derive(Clone, Copy, Debug, PartialEq, Eq)]
+#[derive(Clone, Copy, PartialEq)]
 pub(crate) enum Callee {
     Procedure,
     Function,
 }
 
 /// Where the parameters of a PROC or a FUNCTION stand in the list of all: the first, and how many.
-#[derive(Clone, Copy, Debug, PartialEq, Eq)]
+#[derive(Clone, Copy)]
 pub(crate) struct Signature {
     pub(crate) first: usize,
     pub(crate) count: usize,

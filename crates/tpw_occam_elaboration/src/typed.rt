@@ -9,7 +9,7 @@ use tpw_occam_core::Expression;
 use tpw_occam_tree::{Primitive, Span};
 
 /// What is known of a value in the text.
-#[derive(Clone, Copy, Debug, PartialEq, Eq)]
+#[derive(Clone, Copy)]
 pub(crate) enum Worth {
     /// It is this constant.
     Constant(u32),

@@ -26,7 +26,7 @@ use tpw_occam_tree::{
 };
 
 /// A worker, the names that its variables and arrays have in the text, by their numbers, and what may not be meant.
-#[derive(Debug, Drop)]
+#[derive(Drop)]
 pub struct Elaborated<'a> {
     pub worker: Worker,
     pub variables: Vec<Named<'a>>,
