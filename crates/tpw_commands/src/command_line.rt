@@ -2,39 +2,27 @@
 
 mod arguments;
 mod assembler;
-mod disassembler;
-mod evaluator;
-mod explainer;
-mod lister;
 mod profiler;
 mod runner;
 mod stepper;
-mod translator;
 
-use crate::command_line::arguments::{FILE, IN_OCCAM, showing};
-use crate::command_line::assembler::{ASM, asm_command, line_name};
-use crate::command_line::disassembler::{DIS, dis_command};
-use crate::command_line::evaluator::{EVAL, eval_command};
-use crate::command_line::explainer::{WHY, why_command};
-use crate::command_line::lister::{LIST, list_command};
-use crate::command_line::profiler::{PROFILE, profile_command, profiling};
-use crate::command_line::runner::{RUN, run_command, running};
-use crate::command_line::stepper::{STEP, step_command, stepping};
-use crate::command_line::translator::{OCCAM, occam_command};
+use crate::command_line::arguments::showing;
+use crate::command_line::assembler::line_name;
+use crate::command_line::profiler::profiling;
+use crate::command_line::runner::running;
+use crate::command_line::stepper::stepping;
 use crate::ending::{Ending, Refusal};
 use crate::profiling::Profiling;
 use crate::refusing::Report;
 use crate::running::Running;
 use crate::showing::Showing;
 use crate::stepping::Stepping;
-use clap::{ArgMatches, Command, Error};
+use clap::ArgMatches;
 use std::alloc::Global;
 use std::convert::AsStr;
+use tpw_command_line::options::{FILE, IN_OCCAM};
+use tpw_command_line::{ASM, DIS, EVAL, LIST, OCCAM, PROFILE, RUN, STEP, WHY, matches_of};
 use tpw_inputs::{Input, Language};
-
-/// What `--version` says behind the name: the version, the commit where a package is built, and the kit that the proofs
-/// are made with.
-const VERSION: &str = "0.1 (unreleased, rattle-kit-13f)";
 
 /// What a command line asks for: a task, where its text is read, and what that is written in.
 #[derive(Drop)]
@@ -65,25 +53,6 @@ pub enum Work {
     Step(Stepping),
     /// The verdict on an image.
     Judge(Report),
-}
-
-/// The command line that the program knows.
-fn command<'a>(alloc: Global) -> Result<Command<'a>, Error> {
-    let command = Command::new(alloc, "tpw")
-        .bin_name("tpw")?
-        .version(VERSION)
-        .about("Tools for those who write workers")
-        .subcommand_required(true)
-        .subcommand(asm_command(alloc)?)?
-        .subcommand(dis_command(alloc)?)?
-        .subcommand(eval_command(alloc)?)?
-        .subcommand(list_command(alloc)?)?
-        .subcommand(occam_command(alloc)?)?
-        .subcommand(profile_command(alloc)?)?
-        .subcommand(run_command(alloc)?)?
-        .subcommand(step_command(alloc)?)?
-        .subcommand(why_command(alloc)?)?;
-    Ok(command)
 }
 
 /// Where a command reads.
@@ -133,24 +102,29 @@ fn check_language(task: &Task, language: Language) -> Result<(), Refusal> {
     }
 }
 
+/// What a command by its name is to do, with what is given for it.
+fn task_of(alloc: Global, name: &str, matches: &ArgMatches<'_>) -> Result<Task, Ending> {
+    Ok(match name {
+        PROFILE => Task::Work(Work::Profile(profiling(alloc, matches)?)),
+        RUN => Task::Work(Work::Run(running(alloc, matches)?)),
+        STEP => Task::Work(Work::Step(stepping(alloc, matches)?)),
+        LIST => Task::Work(Work::Judge(Report::List)),
+        WHY => Task::Work(Work::Judge(Report::Why)),
+        ASM => Task::Assemble(line_name(alloc, matches)?),
+        OCCAM => Task::Translate,
+        EVAL => Task::Evaluate(showing(alloc, matches)?),
+        DIS => Task::Disassemble,
+        _ => return Err(Ending::Refused(Refusal::NoCommand)),
+    })
+}
+
 /// What words ask for, the first of which names the program.
 pub fn asked_by<S: AsStr>(alloc: Global, words: &[S]) -> Result<Asked, Ending> {
-    let matches = command(alloc)?.try_get_matches_from(words)?;
+    let matches = matches_of(alloc, words)?;
     let Some((name, found)) = matches.subcommand() else {
         return Err(Ending::Refused(Refusal::NoCommand));
     };
-    let task = match name {
-        PROFILE => Task::Work(Work::Profile(profiling(alloc, found)?)),
-        RUN => Task::Work(Work::Run(running(alloc, found)?)),
-        STEP => Task::Work(Work::Step(stepping(alloc, found)?)),
-        LIST => Task::Work(Work::Judge(Report::List)),
-        WHY => Task::Work(Work::Judge(Report::Why)),
-        ASM => Task::Assemble(line_name(alloc, found)?),
-        OCCAM => Task::Translate,
-        EVAL => Task::Evaluate(showing(alloc, found)?),
-        DIS => Task::Disassemble,
-        _ => return Err(Ending::Refused(Refusal::NoCommand)),
-    };
+    let task = task_of(alloc, name, found)?;
     let input = input_of(alloc, found)?;
     let language = language_of(found, &task, &input);
     check_standard(&task, &input)?;

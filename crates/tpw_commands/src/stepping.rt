@@ -12,17 +12,10 @@ use std::rt::Files;
 use thiserror::Error;
 use tp_image::Image;
 use tp_image::layout::WORD_BYTES;
+use tpw_command_line::options::{FROM, UNTIL};
 use tpw_inputs::{Failure, Inputs, Worker};
 use tpw_source::{Named, SourceText};
 use tpw_step::{Place, Shown, Span, show_run};
-
-/// The names of the options that take a place.
-pub const FROM: &str = "from";
-
-pub const UNTIL: &str = "until";
-
-/// The name of the option that takes words.
-pub const WATCH: &str = "watch";
 
 /// A packet of those that are asked for, by its number.
 #[derive(Drop)]

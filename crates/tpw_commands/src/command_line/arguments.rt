@@ -1,163 +1,17 @@
-//! The arguments that several commands take.
+//! What is given for the arguments that several commands take.
 
 use crate::asking::{Asking, Expecting, PacketFile};
 use crate::ending::{Ending, Refusal};
 use crate::showing::Showing;
-use clap::{Arg, ArgAction, ArgMatches, Command, Error, value_parser};
+use clap::ArgMatches;
 use std::alloc::Global;
+use tpw_command_line::options::{
+    EXPECT, HEX, HEX_EXPECT, HEX_PACKETS, MEMBERS, PACKETS, RAW, TRACE, WORDS,
+};
 use tpw_runs::{Notation, Style};
-
-/// The name of the argument of each command that is read in place of standard input.
-pub const FILE: &str = "file";
-
-/// The name of the option that says that a worker is in occam.
-pub const IN_OCCAM: &str = "occam";
-
-/// The names of the options that say packets, and that these are in hexadecimal.
-const WORDS: &str = "words";
-
-const PACKETS: &str = "packets";
-
-const HEX_PACKETS: &str = "hex-packets";
-
-/// The names of those that say which results are expected, and that these are in hexadecimal.
-pub const EXPECT: &str = "expect";
-
-const HEX_EXPECT: &str = "hex-expect";
-
-/// The names of those that say how results are written.
-const TRACE: &str = "trace";
-
-pub const HEX: &str = "hex";
-
-pub const RAW: &str = "raw";
-
-/// The name of the one that says how many members run packets.
-const MEMBERS: &str = "members";
 
 /// How many members run packets where nothing is said.
 const DEFAULT_MEMBERS: usize = 4;
-
-/// What a command reads in place of standard input.
-pub fn file_argument<'a>(alloc: Global) -> Arg<'a> {
-    Arg::new(alloc, FILE)
-        .value_name("FILE")
-        .action(ArgAction::Set)
-        .help("Read in place of standard input")
-}
-
-/// An option that is given or not.
-pub fn flag_argument<'a>(alloc: Global, name: &'static str, help: &'static str) -> Arg<'a> {
-    Arg::new(alloc, name)
-        .long(name)
-        .action(ArgAction::SetTrue)
-        .value_parser(value_parser!(bool))
-        .help(help)
-}
-
-/// An option that takes a text.
-fn text_argument<'a>(
-    alloc: Global,
-    name: &'static str,
-    value: &'static str,
-    help: &'static str,
-) -> Arg<'a> {
-    Arg::new(alloc, name)
-        .long(name)
-        .value_name(value)
-        .action(ArgAction::Set)
-        .help(help)
-}
-
-/// The option that says that a worker is in occam.
-pub fn occam_argument<'a>(alloc: Global) -> Arg<'a> {
-    flag_argument(
-        alloc,
-        IN_OCCAM,
-        "The worker is in occam, as that of a FILE named .occ is",
-    )
-}
-
-/// The option that says a packet.
-fn words_argument<'a>(alloc: Global) -> Arg<'a> {
-    Arg::new(alloc, WORDS)
-        .long(WORDS)
-        .value_name("WORDS")
-        .action(ArgAction::Append)
-        .allow_hyphen_values(true)
-        .help("A packet, as a line of FILE has it; may be given again")
-}
-
-/// The option that says a file of packets.
-fn packets_argument<'a>(alloc: Global) -> Arg<'a> {
-    text_argument(alloc, PACKETS, "FILE", "Packets, one a line")
-}
-
-/// The option that says that packets are in hexadecimal.
-fn hex_packets_argument<'a>(alloc: Global) -> Arg<'a> {
-    flag_argument(
-        alloc,
-        HEX_PACKETS,
-        "Packets are in hexadecimal, as they are sent, else words as numbers",
-    )
-}
-
-/// A command with the options that say packets.
-pub fn with_packets<'a>(alloc: Global, command: Command<'a>) -> Result<Command<'a>, Error> {
-    Ok(
-        command
-            .arg(words_argument(alloc))?
-            .arg(packets_argument(alloc))?
-            .arg(hex_packets_argument(alloc))?,
-    )
-}
-
-/// The option that says how many members run packets.
-pub fn members_argument<'a>(alloc: Global) -> Arg<'a> {
-    Arg::new(alloc, MEMBERS)
-        .long(MEMBERS)
-        .value_name("N")
-        .action(ArgAction::Set)
-        .value_parser(value_parser!(usize).range(1..=64))
-        .help("How many members run packets, 1 to 64; 4 where nothing is said")
-}
-
-/// A command with the options that say which results are expected, and how they are written.
-pub fn with_expect<'a>(alloc: Global, command: Command<'a>) -> Result<Command<'a>, Error> {
-    let expect = text_argument(
-        alloc,
-        EXPECT,
-        "FILE",
-        "Results that are expected, one a line: what differs alone is written",
-    );
-    let hex_expect = flag_argument(
-        alloc,
-        HEX_EXPECT,
-        "Expected results are in hexadecimal, as they are sent, else words as numbers",
-    );
-    let hex_expect = hex_expect.requires_arg(EXPECT)?;
-    Ok(command.arg(expect)?.arg(hex_expect)?)
-}
-
-/// A command with the options that say how results are written.
-pub fn with_style<'a>(alloc: Global, command: Command<'a>) -> Result<Command<'a>, Error> {
-    let trace = flag_argument(alloc, TRACE, "Follow each result with its trace");
-    let hex = flag_argument(
-        alloc,
-        HEX,
-        "Write results in hexadecimal, as they are sent, else as signed numbers",
-    );
-    let raw = flag_argument(
-        alloc,
-        RAW,
-        "Write the bytes of results alone, one behind another",
-    );
-    let raw = raw
-        .conflicts_with(EXPECT)?
-        .conflicts_with(HEX)?
-        .conflicts_with(TRACE)?;
-    Ok(command.arg(trace)?.arg(hex)?.arg(raw)?)
-}
 
 /// The text that an option gives, if it is given.
 pub fn text_given(

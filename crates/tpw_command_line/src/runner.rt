@@ -1,0 +1,47 @@
+//! `run`, as the command line has it.
+
+use crate::argument::{Argument, Kind};
+use crate::options::{CHECK, EXPECT, RAW};
+use crate::shared::{
+    EXPECT_ARGUMENT, FILE_ARGUMENT, HEX_ARGUMENT, HEX_EXPECT_ARGUMENT, HEX_PACKETS_ARGUMENT,
+    MEMBERS_ARGUMENT, OCCAM_ARGUMENT, PACKETS_ARGUMENT, RAW_ARGUMENT, TRACE_ARGUMENT,
+    WORDS_ARGUMENT,
+};
+use crate::subcommand::Subcommand;
+
+/// The name of the command.
+pub const RUN: &str = "run";
+
+/// Whether runs are compared with what a text means.
+const CHECK_ARGUMENT: Argument = Argument {
+    name: CHECK,
+    kind: Kind::FlagConflicting(&[EXPECT, RAW]),
+    help: "Compare results, flags and traces with what the text in occam means: what differs alone is written",
+};
+
+/// `run`, as the command line has it.
+pub(crate) const RUN_COMMAND: Subcommand = Subcommand {
+    name: RUN,
+    about: "Runs packets on a worker, and writes each result",
+    lines: "\
+Reads a worker in occam or as assembly text, or an image as hexadecimal. Packets and expected results are a line each, their
+words as numbers, or with --hex-packets and --hex-expect two digits for each byte, as they are sent; `flag 1` before an
+expected result says that the error flag is set. For each packet it writes its number, the error flag, the steps of the
+budget, and its words; or that it was lost, and why. The last line counts them. A FILE of - is standard input.
+Status 0: each packet has a result, the one expected; with --check, each is what the text means, lost ones too. Status 1: not
+so, or the worker is refused, as `why` explains it.",
+    arguments: &[
+        FILE_ARGUMENT,
+        OCCAM_ARGUMENT,
+        WORDS_ARGUMENT,
+        PACKETS_ARGUMENT,
+        HEX_PACKETS_ARGUMENT,
+        EXPECT_ARGUMENT,
+        HEX_EXPECT_ARGUMENT,
+        MEMBERS_ARGUMENT,
+        CHECK_ARGUMENT,
+        TRACE_ARGUMENT,
+        HEX_ARGUMENT,
+        RAW_ARGUMENT,
+    ],
+};
