@@ -4,6 +4,8 @@
 #[cfg(test)]
 mod asserts;
 #[cfg(test)]
+mod command_lines;
+#[cfg(test)]
 mod expected;
 #[cfg(test)]
 mod faults;
