@@ -272,12 +272,7 @@ impl<'a> Elaborator<'a> {
     }
 
     /// An element of an array, read.
-    fn element_of(
-        &mut self,
-        view: View,
-        subscript: Typed,
-        span: Span,
-    ) -> Result<Typed, AllocError>
+    fn element_of(&mut self, view: View, subscript: Typed, span: Span) -> Result<Typed, AllocError>
         ensures means { IfOk result (λ t. (s : Store) → value_of t.value s
             ≡ followed (value_of subscript.value s) (element_at view.kind (array_of s view.array))) }
         ensures known { IfOk result (λ t. (s : Store) → IsKnown subscript s → Fits self.old s
