@@ -1,7 +1,7 @@
 -- What is found by a scope is found by the names that it shows; and what was made of a name means what the name does.
 use Rattle.std.proofs.Common.{◌≡◌, ◌≢◌, ℕ, ◌+◌, ◌*◌, ◌^◌, ◌<◌, ◌≤◌, Bool, true, false, Option, Some, None, List, [], ◌∷◌, length}
 use Rattle.std.proofs.Common.{refl, sym, ◌∙◌, ap, subst, arith, w32, get_or}
-use Rattle.std.specs.Prelude.{slice_get, slice_index, slice_set, All, ◌||◌, nat_lt, if◌then◌else◌}
+use Rattle.std.specs.Prelude.{slice_index, All, ◌||◌, if◌then◌else◌}
 use Rattle.std.specs.Int.{from_le_bytes, from_bool}
 use Rattle.std.proofs.Common.{◌⊎◌, inl, inr, ◌%◌, max, Result, Ok, Err, IfOk}
 use Rattle.std.proofs.lemmas.Bool.{cases_lt, lt-ltb}
@@ -30,7 +30,6 @@ use Rattle.tpw_occam_elaboration.specs.declared.environment.Meaning.TheVariants 
 use Rattle.tpw_occam_elaboration.specs.declared.environment.Scope.{Scope}
 use Rattle.tpw_occam_elaboration.specs.declared.environment.View.{View}
 use Rattle.tpw_occam_elaboration.specs.declared.typed.Typed.{Typed}
-use Rattle.tpw_occam_elaboration.specs.declared.typed.Worth.TheVariants as worth
 use Rattle.tpw_occam_elaboration.specs.Operators.{IsOf, IsKnown, monadic, combined}
 use Rattle.tpw_occam_elaboration.specs.Evaluation.{Standing, Word, Array, Names, Finds, first, further, Evaluates}
 use Rattle.tpw_occam_elaboration.specs.Evaluation as evaluates

@@ -1,5 +1,5 @@
 -- Elements of arrays: what a table's constant subscript gives, and that an element is of its type.
-use Rattle.std.proofs.Common.{◌≡◌, ◌∙◌, sym, ap, refl, ℕ, ◌+◌, ◌*◌, ◌<◌, ◌≤◌, ◌^◌, List, length, nat_lt, arith, inl, inr, ◌∷◌, []}
+use Rattle.std.proofs.Common.{◌≡◌, ◌∙◌, ap, ℕ, ◌+◌, ◌*◌, ◌<◌, ◌^◌, List, length, nat_lt, arith, inl, inr, ◌∷◌, []}
 use Rattle.std.specs.Prelude.{All, slice_index}
 use Rattle.std.specs.Int.{w32, from_le_bytes}
 use Rattle.std.proofs.lemmas.Bool.{cases_lt, lt-ltb, cond-true}

@@ -256,7 +256,8 @@ impl<'a> Elaborator<'a> {
     fn element_worth(&self, view: View, subscript: Worth, span: Span) -> Worth
         ensures { (word : ℕ) (s : Store) → result ≡ Worth.Constant word → Fits self.now s
             → view.elements ≡ size view.kind (array_of s view.array)
-            → (at : ℕ) × (subscript ≡ Worth.Constant at) × (element_at view.kind (array_of s view.array) at ≡ plain word) }
+            → (at : ℕ) × (subscript ≡ Worth.Constant at)
+            × (element_at view.kind (array_of s view.array) at ≡ plain word) }
     {
         match (self.storages.get(view.array), subscript) {
             (Some(Storage::Table(table)), Worth::Constant(at)) => {

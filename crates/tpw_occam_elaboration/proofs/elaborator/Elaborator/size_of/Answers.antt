@@ -1,4 +1,4 @@
-use Rattle.std.proofs.Common.{sym, subst, arith, rules}
+use Rattle.std.proofs.Common.{sym, subst, rules}
 use Rattle.tpw_occam_tree.specs.declared.expression.Monadic.TheVariants.{Size}
 use Rattle.tpw_occam_tree.specs.Formulas as formula
 use Rattle.tpw_occam_tree.specs.Formulas.{formula_of}

@@ -1,4 +1,4 @@
-use Rattle.std.proofs.Common.{refl, sym, ap, subst, ◌∙◌}
+use Rattle.std.proofs.Common.{refl, ap, subst, ◌∙◌}
 use Rattle.tpw_occam_core.specs.Meaning.{value_of}
 use Rattle.tpw_occam_elaboration.specs.Environments.{StandsFor, element_type, word_of}
 use Rattle.tpw_occam_elaboration.proofs.ByNames.{name_means, constant_word, computed_word, element_word, typed_as}
