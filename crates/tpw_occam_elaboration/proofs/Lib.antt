@@ -1,2 +1,7 @@
+mod Bound
+mod ByNames
+mod Elements
+mod OneValue
+mod Operands
 mod OperatorLemmas
 mod OrderLemmas

@@ -1,5 +1,8 @@
 //! What is known while a text is elaborated.
 
+ghost use Rattle.std.specs.Prelude.{◌≡◌, ◌+◌, length, IfOk};
+ghost use Rattle.tpw_occam_elaboration.specs.Environments.{Grows};
+
 use crate::environment::{Environment, Scope};
 use crate::fault::{Fault, FaultKind, Limit, Stop};
 use crate::limits::{MAX_CALLS, MAX_IN_LINE};
@@ -154,7 +157,9 @@ impl<'a> Elaborator<'a> {
     }
 
     /// Reports what is wrong, and fails.
-    pub(crate) fn fault<T>(&mut self, span: Span, kind: FaultKind<'a>) -> Result<T, Stop> {
+    pub(crate) fn fault<T>(&mut self, span: Span, kind: FaultKind<'a>) -> Result<T, Stop>
+        ensures { IfOk result (λ t. ⊥) }
+    {
         self.report(span, kind)?;
         Err(Stop::Reported)
     }
@@ -169,7 +174,9 @@ impl<'a> Elaborator<'a> {
     }
 
     /// Counts an expression or a process.
-    pub(crate) fn count(&mut self, span: Span) -> Result<(), Stop> {
+    pub(crate) fn count(&mut self, span: Span) -> Result<(), Stop>
+        ensures { IfOk result (λ u. Grows self.old self.new) }
+    {
         if self.left == 0 {
             self.report(span, FaultKind::Limit(Limit::InLine))?;
             return Err(Stop::Ended);
@@ -179,7 +186,11 @@ impl<'a> Elaborator<'a> {
     }
 
     /// A new name of the core that is given a value once.
-    pub(crate) fn new_value(&mut self, name: Name<'a>, of: Primitive) -> Result<usize, AllocError> {
+    pub(crate) fn new_value(&mut self, name: Name<'a>, of: Primitive) -> Result<usize, AllocError>
+        ensures name { IfOk result (λ x. x ≡ length self.old.kinds.items) }
+        ensures one { IfOk result (λ x. length self.new.kinds.items ≡ length self.old.kinds.items + 1) }
+        ensures grows { IfOk result (λ x. Grows self.old self.new) }
+    {
         let variable = self.kinds.len();
         self.kinds.push(Kind::Word)?;
         self.variables.add(name, of, false)?;

@@ -2,6 +2,17 @@
 //!
 //! `depth` counts down with each expression that lies within another, calls in line among them.
 
+ghost use Rattle.std.specs.Prelude.{◌≡◌, ◌≢◌, ℕ, ◌<◌, All, IfOk, IfSome, slice_index};
+ghost use Rattle.tpw_occam_core.specs.Arithmetic.{plain};
+ghost use Rattle.tpw_occam_core.specs.Arrays.{element, size};
+ghost use Rattle.tpw_occam_core.specs.Meaning.{Store, value_of, array_of, followed, element_at};
+ghost use Rattle.tpw_occam_tree.specs.Formulas as formula;
+ghost use Rattle.tpw_occam_tree.specs.Formulas.{formula_of};
+ghost use Rattle.tpw_occam_tree.specs.declared.expression.Primitive.{Primitive};
+ghost use Rattle.tpw_occam_elaboration.specs.declared.environment.Scope.{Scope};
+ghost use Rattle.tpw_occam_elaboration.specs.Operators.{IsKnown, monadic, operand_of};
+ghost use Rattle.tpw_occam_elaboration.specs.Environments.{Fits, Grows, Means, element_type};
+
 use crate::bindings::bound_value;
 use crate::elaborator::{Elaborator, Frame};
 use crate::environment::{Meaning, View};
@@ -19,12 +30,16 @@ use tpw_occam_core::{Expression, Kind, Operator, Storage};
 use tpw_occam_tree::{Dyadic, Expression as Tree, Monadic, Name, Primitive, Span};
 
 /// The byte of a table, or 0 behind its last.
-fn byte(table: &[u8], at: usize) -> u8 {
+fn byte(table: &[u8], at: usize) -> u8
+    ensures { result ≡ slice_index table.now at }
+{
     table.get(at).copied().unwrap_or(0)
 }
 
 /// An element of a table.
-fn table_element(table: &[u8], kind: Kind, at: u32) -> u32 {
+fn table_element(table: &[u8], kind: Kind, at: u32) -> u32
+    ensures { result ≡ element kind table.now at }
+{
     let at = at as usize;
     match kind {
         Kind::Word => u32::from_le_bytes([
@@ -38,7 +53,9 @@ fn table_element(table: &[u8], kind: Kind, at: u32) -> u32 {
 }
 
 /// The type of an expression that was made.
-fn type_of(made: &Result<Typed, Stop>) -> Option<Primitive> {
+fn type_of(made: &Result<Typed, Stop>) -> Option<Primitive>
+    ensures { IfOk made.now (λ t. result ≡ Some t.of) }
+{
     match made {
         Ok(typed) => Some(typed.of),
         Err(_) => None,
@@ -47,7 +64,11 @@ fn type_of(made: &Result<Typed, Stop>) -> Option<Primitive> {
 
 impl<'a> Elaborator<'a> {
     /// A number, which is a BYTE where one is wanted.
-    fn number(&mut self, value: u32, wanted: Option<Primitive>, span: Span) -> Result<Typed, Stop> {
+    fn number(&mut self, value: u32, wanted: Option<Primitive>, span: Span) -> Result<Typed, Stop>
+        ensures means { IfOk result (λ t. (scope : Scope)
+            → Means self.old self.new scope (formula.Number value span) t) }
+        ensures grows { IfOk result (λ t. Grows self.old self.new) }
+    {
         match wanted {
             Some(Primitive::Byte) if value < 256 => Ok(constant(Primitive::Byte, value)),
             Some(Primitive::Byte) => self.fault(span, FaultKind::NoByte { value }),
@@ -61,7 +82,11 @@ impl<'a> Elaborator<'a> {
         typed: Typed,
         e: &'a Tree<'a>,
         wanted: Option<Primitive>,
-    ) -> Result<Typed, Stop> {
+    ) -> Result<Typed, Stop>
+        ensures same { IfOk result (λ t. t ≡ typed) }
+        ensures typed { IfOk result (λ t. (of : Primitive) → wanted ≡ Some of → t.of ≡ of) }
+        ensures grows { IfOk result (λ t. Grows self.old self.new) }
+    {
         match wanted {
             Some(wanted) if wanted != typed.of => {
                 let kind = FaultKind::Type {
@@ -81,7 +106,10 @@ impl<'a> Elaborator<'a> {
         frame: Frame,
         e: &'a Tree<'a>,
         wanted: Option<Primitive>,
-    ) -> Result<Typed, Stop> {
+    ) -> Result<Typed, Stop>
+        ensures means { IfOk result (λ t. Means self.old self.new frame.scope (formula_of e.now) t) }
+        ensures grows { IfOk result (λ t. Grows self.old self.new) }
+    {
         match e {
             Tree::Number { value, span } => self.number(*value, wanted, *span),
             Tree::Character { value, .. } => Ok(constant(Primitive::Byte, u32::from(*value))),
@@ -156,7 +184,14 @@ impl<'a> Elaborator<'a> {
     }
 
     /// What an operator makes of its one operand.
-    fn applied(&mut self, operator: Monadic, e: Typed, span: Span) -> Result<Typed, Stop> {
+    fn applied(&mut self, operator: Monadic, e: Typed, span: Span) -> Result<Typed, Stop>
+        ensures means { IfOk result (λ t. (s : Store) → operator ≢ Monadic.Size → IsKnown e s
+            → IfSome (operand_of operator) (λ of. e.of ≡ of)
+            → value_of t.value s ≡ followed (value_of e.value s) (monadic operator)) }
+        ensures known { IfOk result (λ t. (s : Store) → operator ≢ Monadic.Size → IsKnown e s
+            → IfSome (operand_of operator) (λ of. e.of ≡ of) → IsKnown t s) }
+        ensures grows { IfOk result (λ t. Grows self.old self.new) }
+    {
         let alloc = self.alloc;
         let zero = constant(Primitive::Int, 0);
         match operator {
@@ -170,7 +205,12 @@ impl<'a> Elaborator<'a> {
     }
 
     /// A value of one type made of one of another.
-    fn converted(&mut self, to: Primitive, e: Typed, span: Span) -> Result<Typed, Stop> {
+    fn converted(&mut self, to: Primitive, e: Typed, span: Span) -> Result<Typed, Stop>
+        ensures means { IfOk result (λ t. (s : Store) → IsKnown e s
+            → value_of t.value s ≡ followed (value_of e.value s) (monadic (Monadic.Convert to))) }
+        ensures known { IfOk result (λ t. (s : Store) → IsKnown e s → IsKnown t s) }
+        ensures grows { IfOk result (λ t. Grows self.old self.new) }
+    {
         match (e.of, to) {
             (Primitive::Bool, Primitive::Int | Primitive::Byte) => Ok(Typed { of: to, ..e }),
             (Primitive::Byte, Primitive::Int) => Ok(Typed { of: to, ..e }),
@@ -213,7 +253,11 @@ impl<'a> Elaborator<'a> {
     }
 
     /// What is known of an element: of a table, with a constant subscript, it is a constant.
-    fn element_worth(&self, view: View, subscript: Worth, span: Span) -> Worth {
+    fn element_worth(&self, view: View, subscript: Worth, span: Span) -> Worth
+        ensures { (word : ℕ) (s : Store) → result ≡ Worth.Constant word → Fits self.now s
+            → view.elements ≡ size view.kind (array_of s view.array)
+            → (at : ℕ) × (subscript ≡ Worth.Constant at) × (element_at view.kind (array_of s view.array) at ≡ plain word) }
+    {
         match (self.storages.get(view.array), subscript) {
             (Some(Storage::Table(table)), Worth::Constant(at)) => {
                 if at < view.elements {
@@ -233,7 +277,15 @@ impl<'a> Elaborator<'a> {
         view: View,
         subscript: Typed,
         span: Span,
-    ) -> Result<Typed, AllocError> {
+    ) -> Result<Typed, AllocError>
+        ensures means { IfOk result (λ t. (s : Store) → value_of t.value s
+            ≡ followed (value_of subscript.value s) (element_at view.kind (array_of s view.array))) }
+        ensures known { IfOk result (λ t. (s : Store) → IsKnown subscript s → Fits self.old s
+            → view.elements ≡ size view.kind (array_of s view.array) → All (λ b. b < 256) (array_of s view.array)
+            → IsKnown t s) }
+        ensures of { IfOk result (λ t. t.of ≡ element_type view.kind) }
+        ensures grows { IfOk result (λ t. Grows self.old self.new) }
+    {
         self.arrays.read(view.array);
         let worth = self.element_worth(view, subscript.worth, span);
         let subscript = Box::new(self.alloc, subscript.value)?;

@@ -15,6 +15,7 @@ mod elaborator;
 mod environment;
 mod expressions;
 mod fault;
+pub mod laws;
 mod limits;
 mod lookup;
 mod messages;

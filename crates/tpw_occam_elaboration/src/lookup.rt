@@ -1,5 +1,12 @@
 //! Names, looked up for what they are used as.
 
+ghost use Rattle.std.specs.Prelude.{◌≡◌, IfOk};
+ghost use Rattle.tpw_occam_tree.specs.Formulas as formula;
+ghost use Rattle.tpw_occam_tree.specs.Formulas.{formula_of};
+ghost use Rattle.tpw_occam_tree.specs.declared.span.Span.{Span};
+ghost use Rattle.tpw_occam_tree.specs.declared.expression.Monadic.TheVariants.{Size};
+ghost use Rattle.tpw_occam_elaboration.specs.Environments.{IsFound, Grows, Means, Views};
+
 use crate::elaborator::Elaborator;
 use crate::environment::{Access, Channel, Entry, Meaning, Protocol, Scope, View};
 use crate::fault::{FaultKind, Stop};
@@ -11,7 +18,10 @@ use tpw_occam_tree::{Expression as Tree, Name, Primitive};
 
 impl<'a> Elaborator<'a> {
     /// What a name in scope stands for.
-    pub(crate) fn find(&mut self, scope: Scope, name: Name<'a>) -> Result<Entry<'a>, Stop> {
+    pub(crate) fn find(&mut self, scope: Scope, name: Name<'a>) -> Result<Entry<'a>, Stop>
+        ensures found { IfOk result (λ e. IsFound self.old.environment.entries.items name.entry.text.now scope e) }
+        ensures grows { IfOk result (λ e. Grows self.old self.new) }
+    {
         if let Some(entry) = self.environment.find(scope, name.text) {
             return Ok(entry);
         }
@@ -36,7 +46,9 @@ impl<'a> Elaborator<'a> {
         name: Name<'a>,
         entry: Entry<'a>,
         wanted: Role,
-    ) -> Result<T, Stop> {
+    ) -> Result<T, Stop>
+        ensures { IfOk result (λ t. ⊥) }
+    {
         let Some(found) = entry.meaning.sort() else {
             return Err(Stop::Reported);
         };
@@ -50,7 +62,10 @@ impl<'a> Elaborator<'a> {
     }
 
     /// The value of a name.
-    pub(crate) fn value_of(&mut self, scope: Scope, name: Name<'a>) -> Result<Typed, Stop> {
+    pub(crate) fn value_of(&mut self, scope: Scope, name: Name<'a>) -> Result<Typed, Stop>
+        ensures means { IfOk result (λ t. Means self.old self.new scope (formula.Name name.entry.text.now name.entry.span) t) }
+        ensures grows { IfOk result (λ t. Grows self.old self.new) }
+    {
         let entry = self.find(scope, name)?;
         match entry.meaning {
             Meaning::Constant { of, word } => Ok(constant(of, word)),
@@ -80,7 +95,10 @@ impl<'a> Elaborator<'a> {
     }
 
     /// The array that a name stands for.
-    pub(crate) fn view_of(&mut self, scope: Scope, name: Name<'a>) -> Result<View, Stop> {
+    pub(crate) fn view_of(&mut self, scope: Scope, name: Name<'a>) -> Result<View, Stop>
+        ensures views { IfOk result (λ v. Views self.old scope name.entry.text.now v) }
+        ensures grows { IfOk result (λ v. Grows self.old self.new) }
+    {
         let entry = self.find(scope, name)?;
         match entry.meaning {
             Meaning::Array(view) => Ok(view),
@@ -122,7 +140,11 @@ impl<'a> Elaborator<'a> {
     }
 
     /// `SIZE` of an operand: how many elements an array has.
-    pub(crate) fn size_of(&mut self, scope: Scope, operand: &'a Tree<'a>) -> Result<Typed, Stop> {
+    pub(crate) fn size_of(&mut self, scope: Scope, operand: &'a Tree<'a>) -> Result<Typed, Stop>
+        ensures means { IfOk result (λ t. (span : Span)
+            → Means self.old self.new scope (formula.Monadic Size span (formula_of operand.now)) t) }
+        ensures grows { IfOk result (λ t. Grows self.old self.new) }
+    {
         match operand {
             Tree::Name { name: text, span } => {
                 let view = self.view_of(scope, name(text, *span))?;

@@ -1,5 +1,8 @@
 //! What is read off syntax trees.
 
+ghost use Rattle.std.specs.Prelude.{◌≡◌};
+ghost use Rattle.tpw_occam_elaboration.specs.Environments.{element_type};
+
 use tpw_occam_core::Kind;
 use tpw_occam_tree::{Declaration, Expression, Name, Primitive, Process, Span};
 
@@ -32,7 +35,10 @@ pub(crate) fn name_of<'a>(e: &Expression<'a>) -> Option<&'a str> {
 }
 
 /// A name at its place.
-pub(crate) fn name<'a>(text: &'a str, span: Span) -> Name<'a> {
+pub(crate) fn name<'a>(text: &'a str, span: Span) -> Name<'a>
+    ensures text { result.text.now ≡ text.now }
+    ensures span { result.span ≡ span }
+{
     Name { text, span }
 }
 
@@ -56,7 +62,9 @@ pub(crate) fn element_kind(of: Primitive) -> Option<Kind> {
 }
 
 /// The type of elements that the core sees so.
-pub(crate) fn element_type(kind: Kind) -> Primitive {
+pub(crate) fn element_type(kind: Kind) -> Primitive
+    ensures { result ≡ element_type kind }
+{
     match kind {
         Kind::Word => Primitive::Int,
         Kind::Byte => Primitive::Byte,
