@@ -1,12 +1,11 @@
 -- A state in which a new name has a word shows the same names; and an expression within what is bound.
-use Rattle.std.proofs.Common.{◌≡◌, ◌≢◌, ℕ, ◌+◌, ◌<◌, ◌≤◌, Option, Some, None, List, [], ◌∷◌, ◌++◌, length}
-use Rattle.std.proofs.Common.{refl, sym, ◌∙◌, ap, subst, arith}
-use Rattle.std.specs.Prelude.{slice_index, slice_set, All, ◌||◌}
-use Rattle.std.proofs.lemmas.List.{get_or-set_other, get_or-set_same, length-set}
-use Rattle.tpw_occam_core.specs.declared.arithmetic.Answer.{Answer}
+use Rattle.std.proofs.Common.{◌≡◌, ◌≢◌, ℕ, ◌<◌, ◌≤◌, List, [], ◌∷◌, ◌++◌, length}
+use Rattle.std.proofs.Common.{refl, sym, ap, subst, arith}
+use Rattle.std.specs.Prelude.{slice_index, ◌||◌}
+use Rattle.std.proofs.lemmas.List.{get_or-set_other, length-set}
 use Rattle.tpw_occam_core.specs.declared.expression.Expression.{Expression}
 use Rattle.tpw_occam_core.specs.Arithmetic.{answer}
-use Rattle.tpw_occam_core.specs.Meaning.{Store, value_of, with_value, followed}
+use Rattle.tpw_occam_core.specs.Meaning.{Store, value_of, with_value}
 use Rattle.tpw_occam_elaboration.specs.declared.bindings.Binding.{Binding}
 use Rattle.tpw_occam_elaboration.specs.declared.bindings.Binding.TheVariants as binding
 use Rattle.tpw_occam_elaboration.specs.declared.elaborator.Elaborator.{Elaborator}
@@ -16,7 +15,7 @@ use Rattle.tpw_occam_elaboration.specs.declared.environment.Meaning.{Meaning}
 use Rattle.tpw_occam_elaboration.specs.declared.environment.Meaning.TheVariants as meaning
 use Rattle.tpw_occam_elaboration.specs.declared.environment.Scope.{Scope}
 use Rattle.tpw_occam_elaboration.specs.Evaluation.{Standing, Names}
-use Rattle.tpw_occam_elaboration.specs.Environments.{StandsFor, Shows, IsShown, IsThere, IsWord, IsElement, Fits, word_of}
+use Rattle.tpw_occam_elaboration.specs.Environments.{StandsFor, Shows, IsThere, IsWord, IsElement, Fits, word_of}
 use Rattle.tpw_occam_elaboration.specs.Environments.{value_within}
 
 -- ---- a new name

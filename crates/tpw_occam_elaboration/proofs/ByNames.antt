@@ -1,7 +1,7 @@
 -- What is found by a scope is found by the names that it shows; and what was made of a name means what the name does.
 use Rattle.std.proofs.Common.{◌≡◌, ◌≢◌, ℕ, ◌+◌, ◌*◌, ◌^◌, ◌<◌, ◌≤◌, Bool, true, false, Option, Some, None, List, [], ◌∷◌, length}
 use Rattle.std.proofs.Common.{refl, sym, ◌∙◌, ap, subst, arith, w32, get_or}
-use Rattle.std.specs.Prelude.{slice_get, slice_index, slice_set, All, ◌||◌, nat_lt, if◌then◌else◌}
+use Rattle.std.specs.Prelude.{slice_index, All, ◌||◌, if◌then◌else◌}
 use Rattle.std.specs.Int.{from_le_bytes, from_bool}
 use Rattle.std.proofs.Common.{◌⊎◌, inl, inr, ◌%◌, max, Result, Ok, Err, IfOk}
 use Rattle.std.proofs.lemmas.Bool.{cases_lt, lt-ltb}
@@ -30,7 +30,6 @@ use Rattle.tpw_occam_elaboration.specs.declared.environment.Meaning.TheVariants 
 use Rattle.tpw_occam_elaboration.specs.declared.environment.Scope.{Scope}
 use Rattle.tpw_occam_elaboration.specs.declared.environment.View.{View}
 use Rattle.tpw_occam_elaboration.specs.declared.typed.Typed.{Typed}
-use Rattle.tpw_occam_elaboration.specs.declared.typed.Worth.TheVariants as worth
 use Rattle.tpw_occam_elaboration.specs.Operators.{IsOf, IsKnown, monadic, combined}
 use Rattle.tpw_occam_elaboration.specs.Evaluation.{Standing, Word, Array, Names, Finds, first, further, Evaluates}
 use Rattle.tpw_occam_elaboration.specs.Evaluation as evaluates
@@ -120,10 +119,10 @@ pub name_means : (old new : Elaborator) (scope : Scope) (name : List ℕ) (span 
 name_means old new scope name span entry made is word =
     record {
       known =
-        λ s names fits shows.
+          λ s names fits shows.
           let f = found_by_names old s name names is shows in (word s f.standing f.stands).known;
       means =
-        λ s names fits shows.
+          λ s names fits shows.
           let f = found_by_names old s name names is shows in
           let w = word s f.standing f.stands in
           finds_word names name span f.standing f.before w.word (value_of made.value s) f.finds w.stands w.value;
@@ -184,8 +183,8 @@ pub element_word : (made : Typed) (s : Store) (array : ℕ) (of : Kind) (e : Exp
     IsElement s array of i standing → IsWordOf made s standing
 element_word made s array of e i standing value subscript known is =
     let read =
-      value ∙ ap (λ a. followed a (element_at of (array_of s array))) subscript
-      ∙ element_read of (array_of s array) i is.below in
+    value ∙ ap (λ a. followed a (element_at of (array_of s array))) subscript
+    ∙ element_read of (array_of s array) i is.below in
     record {
       word = element of (array_of s array) i;
       stands = is.stands;
@@ -238,9 +237,11 @@ stands_later old new s before (meaning.Value of value) standing g is =
     (there_later (length old.kinds.items) (length new.kinds.items) value g.kinds is.0, is.1)
 stands_later old new s before (meaning.Variable of x) standing g is =
     (let h = g.kinds in let b = is.0 in omega (arith, h, b), is.1)
-stands_later old new s before (meaning.Element array of subscript) standing g is =
-    (let h = g.stored in let b = is.0 in omega (arith, h, b),
-    there_later (length old.kinds.items) (length new.kinds.items) subscript g.kinds is.1, is.2)
+stands_later old new s before (meaning.Element array of subscript) standing g is = (
+  let h = g.stored in let b = is.0 in omega (arith, h, b),
+  there_later (length old.kinds.items) (length new.kinds.items) subscript g.kinds is.1,
+  is.2,
+)
 stands_later old new s before (meaning.Array view) standing g is =
     (let h = g.stored in let b = is.0 in omega (arith, h, b), is.1)
 stands_later old new s before (meaning.Function of signature value scope) standing g is =
@@ -290,7 +291,7 @@ monadic_means old new scope o span e one made other m value known =
     record {
       known = λ s names fits shows. known s (m.known s names fits shows);
       means =
-        λ s names fits shows.
+          λ s names fits shows.
           subst (λ a. Evaluates names (formula.Monadic o span e) a) (sym (value s (m.known s names fits shows)))
           (evaluates.of_one other (m.means s names fits shows));
     }
@@ -298,14 +299,14 @@ monadic_means old new scope o span e one made other m value known =
 pub dyadic_means : (old new : Elaborator) (scope : Scope) (o : Dyadic) (span : Span) (l r : Formula)
     (left right made : Typed) → Means old new scope l left → Means old new scope r right →
     ((s : Store) → IsKnown left s → IsKnown right s →
-      value_of made.value s ≡ combined o (value_of left.value s) (value_of right.value s)) →
+    value_of made.value s ≡ combined o (value_of left.value s) (value_of right.value s)) →
     ((s : Store) → IsKnown left s → IsKnown right s → IsKnown made s) →
     Means old new scope (formula.Dyadic o span l r) made
 dyadic_means old new scope o span l r left right made m n value known =
     record {
       known = λ s names fits shows. known s (m.known s names fits shows) (n.known s names fits shows);
       means =
-        λ s names fits shows.
+          λ s names fits shows.
           subst (λ a. Evaluates names (formula.Dyadic o span l r) a)
           (sym (value s (m.known s names fits shows) (n.known s names fits shows)))
           (evaluates.of_two (m.means s names fits shows) (n.means s names fits shows));
@@ -314,17 +315,17 @@ dyadic_means old new scope o span l r left right made m n value known =
 pub element_means : (old new : Elaborator) (scope : Scope) (name : List ℕ) (span : Span) (view : View) (e : Formula)
     (subscript made : Typed) → Views old scope name view → Means old new scope e subscript →
     ((s : Store) → value_of made.value s
-      ≡ followed (value_of subscript.value s) (element_at view.kind (array_of s view.array))) →
+    ≡ followed (value_of subscript.value s) (element_at view.kind (array_of s view.array))) →
     ((s : Store) → IsKnown subscript s → Fits new s → view.elements ≡ size view.kind (array_of s view.array) →
-      All (λ b. b < 256) (array_of s view.array) → IsKnown made s) →
+    All (λ b. b < 256) (array_of s view.array) → IsKnown made s) →
     Means old new scope (formula.Element name span e) made
 element_means old new scope name span view e subscript made views m value known =
     record {
       known =
-        λ s names fits shows.
+          λ s names fits shows.
           let v = views s names shows in known s (m.known s names fits shows) fits v.counted v.bytes;
       means =
-        λ s names fits shows.
+          λ s names fits shows.
           let v = views s names shows in
           subst (λ a. Evaluates names (formula.Element name span e) a) (sym (value s))
           (evaluates.element v.finds (m.means s names fits shows));
@@ -335,16 +336,16 @@ pub name_views : (old : Elaborator) (scope : Scope) (name : List ℕ) (entry : E
     IsFound old.environment.entries.items name scope entry → entry.meaning ≡ meaning.Array view → Views old scope name view
 name_views old scope name entry view is m =
     λ s names shows.
-      let f = found_by_names old s name names is shows in
-      let stands = subst (λ x. StandsFor old s entry.before x f.standing) m f.stands in
-      let v = stands.1 in
-      record {
-        before = f.before;
-        finds = subst (λ x. Finds names name x f.before) v.stands f.finds;
-        there = stands.0;
-        counted = v.counted;
-        bytes = v.bytes;
-      }
+    let f = found_by_names old s name names is shows in
+    let stands = subst (λ x. StandsFor old s entry.before x f.standing) m f.stands in
+    let v = stands.1 in
+    record {
+      before = f.before;
+      finds = subst (λ x. Finds names name x f.before) v.stands f.finds;
+      there = stands.0;
+      counted = v.counted;
+      bytes = v.bytes;
+    }
 
 pub size_means : (old new : Elaborator) (scope : Scope) (name : List ℕ) (place span : Span) (view : View)
     (made : Typed) → Views old scope name view → ((s : Store) → value_of made.value s ≡ plain view.elements) →
@@ -354,7 +355,7 @@ size_means old new scope name place span view made views value known =
     record {
       known = λ s names fits shows. known s;
       means =
-        λ s names fits shows.
+          λ s names fits shows.
           let v = views s names shows in
           subst (λ a. Evaluates names (formula.Monadic Size span (formula.Name name place)) a)
           (sym (value s ∙ ap plain v.counted)) (evaluates.size_of v.finds);

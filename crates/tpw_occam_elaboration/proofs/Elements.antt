@@ -1,5 +1,5 @@
 -- Elements of arrays: what a table's constant subscript gives, and that an element is of its type.
-use Rattle.std.proofs.Common.{◌≡◌, ◌∙◌, sym, ap, refl, ℕ, ◌+◌, ◌*◌, ◌<◌, ◌≤◌, ◌^◌, List, length, nat_lt, arith, inl, inr, ◌∷◌, []}
+use Rattle.std.proofs.Common.{◌≡◌, ◌∙◌, ap, ℕ, ◌+◌, ◌*◌, ◌<◌, ◌^◌, List, length, nat_lt, arith, inl, inr, ◌∷◌, []}
 use Rattle.std.specs.Prelude.{All, slice_index}
 use Rattle.std.specs.Int.{w32, from_le_bytes}
 use Rattle.std.proofs.lemmas.Bool.{cases_lt, lt-ltb, cond-true}
@@ -23,9 +23,9 @@ element_below of bytes at h =
 -- a byte, and nothing behind the last
 byte_below : (bytes : List ℕ) (i : ℕ) → All (λ b. b < 256) bytes → slice_index bytes i < 256
 byte_below bytes i all = elim (cases_lt i (length bytes)) [
-      | inl within ↦ All-get_or (λ b. b < 256) bytes i 0 within all
-      | inr behind ↦ omega (arith, get_or_past bytes i 0 behind)
-    ]
+  | inl within ↦ All-get_or (λ b. b < 256) bytes i 0 within all
+  | inr behind ↦ omega (arith, get_or_past bytes i 0 behind)
+]
 
 word_below : (a b c d : ℕ) → a < 256 → b < 256 → c < 256 → d < 256 → from_le_bytes w32 (a ∷ b ∷ c ∷ d ∷ []) < 2 ^ 32
 word_below a b c d ha hb hc hd = omega arith

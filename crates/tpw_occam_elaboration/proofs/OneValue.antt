@@ -102,13 +102,13 @@ mutual
       let found = finds_one f g in
       let same = ap parameters_in found.0 in
       let bound =
-        one_binding binds
-        (subst (λ p. Binds names p arguments before within' flag') (sym same)
-        (subst (λ n. Binds names parameters' arguments n within' flag') (sym found.1) binds')) in
+      one_binding binds
+      (subst (λ p. Binds names p arguments before within' flag') (sym same)
+      (subst (λ n. Binds names parameters' arguments n within' flag') (sym found.1) binds')) in
       let value =
-        one_value d
-        (subst (λ b. Evaluates within b a') (sym (ap (body_in body) found.0))
-        (subst (λ n. Evaluates n body' a') (sym bound.0) e)) in
+      one_value d
+      (subst (λ b. Evaluates within b a') (sym (ap (body_in body) found.0))
+      (subst (λ n. Evaluates n body' a') (sym bound.0) e)) in
       ap_two (λ flag a. answer a.word (flag || a.flag)) bound.1 value
 
   one_binding : {names before within within' : Names} {parameters : List (List ℕ × Taken)} {arguments : Formulas}
@@ -119,8 +119,8 @@ mutual
       (rule.value {within = within'} {flag = flag'} e rest') =
       let same = one_value d e in
       let bound =
-        one_binding rest
-        (subst (λ a. Binds names parameters more ((text, Word a.word) ∷ before) within' flag') (sym same) rest') in
+      one_binding rest
+      (subst (λ a. Binds names parameters more ((text, Word a.word) ∷ before) within' flag') (sym same) rest') in
       (bound.0, ap_two (λ a flag. a.flag || flag) same bound.1)
   one_binding {names} (rule.array {before} {text} {of} {parameters} {more} d rest)
       (rule.array {within = within'} {flag = flag'} e rest') =

@@ -1,5 +1,5 @@
 -- How the names that an elaboration has in scope show names of a text, in a state of the core.
-use Rattle.std.specs.Prelude.{◌≡◌, ◌≢◌, ℕ, ◌<◌, ◌≤◌, ◌^◌, Option, Some, None, List, [], ◌∷◌, length, take, drop, slice_get}
+use Rattle.std.specs.Prelude.{◌≡◌, ◌≢◌, ℕ, ◌<◌, ◌≤◌, Option, Some, None, List, [], ◌∷◌, length, take, drop, slice_get}
 use Rattle.std.specs.Prelude.{slice_index, All}
 use Rattle.tpw_occam_core.specs.declared.kind.Kind.{Kind}
 use Rattle.tpw_occam_core.specs.declared.kind.Kind.TheVariants as kind
@@ -29,8 +29,8 @@ use Rattle.tpw_occam_elaboration.specs.declared.signatures.Parameter.{Parameter}
 use Rattle.tpw_occam_elaboration.specs.declared.signatures.Signature.{Signature}
 use Rattle.tpw_occam_elaboration.specs.declared.typed.Typed.{Typed}
 use Rattle.tpw_occam_elaboration.specs.Operators.{IsOf, IsKnown}
-use Rattle.tpw_occam_elaboration.specs.Evaluation.{Taken, OneValue, Elements, Standing, Word, Array, Function, Other, Names}
-use Rattle.tpw_occam_elaboration.specs.Evaluation.{Evaluates, Finds}
+use Rattle.tpw_occam_elaboration.specs.Evaluation.{Taken, OneValue, Elements, Standing, Word, Array, Function, Other}
+use Rattle.tpw_occam_elaboration.specs.Evaluation.{Names, Evaluates, Finds}
 
 -- the type of the elements of an array
 abbrev pub element_type : Kind → Primitive

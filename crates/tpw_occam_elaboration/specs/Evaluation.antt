@@ -1,6 +1,6 @@
--- What an expression of a text means by its names. A call evaluates the FUNCTION's expression, in which the names of the
--- parameters stand for the arguments; its other names are those that were declared before the FUNCTION.
-use Rattle.std.specs.Prelude.{◌≡◌, ◌≢◌, ℕ, ◌-◌, ◌^◌, Bool, true, false, ◌||◌, List, [], ◌∷◌, ◌++◌}
+-- What an expression of a text means by its names. A call evaluates the FUNCTION's expression, in which the names of
+-- the parameters stand for the arguments; its other names are those that were declared before the FUNCTION.
+use Rattle.std.specs.Prelude.{◌≢◌, ℕ, ◌-◌, ◌^◌, Bool, true, false, ◌||◌, List, [], ◌∷◌, ◌++◌}
 use Rattle.std.specs.Int.{w32, to_le_bytes}
 use Rattle.tp_step.specs.Numbers.{truth}
 use Rattle.tpw_occam_core.specs.declared.arithmetic.Answer.{Answer}

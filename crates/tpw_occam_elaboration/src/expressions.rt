@@ -256,7 +256,8 @@ impl<'a> Elaborator<'a> {
     fn element_worth(&self, view: View, subscript: Worth, span: Span) -> Worth
         ensures { (word : ℕ) (s : Store) → result ≡ Worth.Constant word → Fits self.now s
             → view.elements ≡ size view.kind (array_of s view.array)
-            → (at : ℕ) × (subscript ≡ Worth.Constant at) × (element_at view.kind (array_of s view.array) at ≡ plain word) }
+            → (at : ℕ) × (subscript ≡ Worth.Constant at)
+            × (element_at view.kind (array_of s view.array) at ≡ plain word) }
     {
         match (self.storages.get(view.array), subscript) {
             (Some(Storage::Table(table)), Worth::Constant(at)) => {
@@ -272,12 +273,7 @@ impl<'a> Elaborator<'a> {
     }
 
     /// An element of an array, read.
-    fn element_of(
-        &mut self,
-        view: View,
-        subscript: Typed,
-        span: Span,
-    ) -> Result<Typed, AllocError>
+    fn element_of(&mut self, view: View, subscript: Typed, span: Span) -> Result<Typed, AllocError>
         ensures means { IfOk result (λ t. (s : Store) → value_of t.value s
             ≡ followed (value_of subscript.value s) (element_at view.kind (array_of s view.array))) }
         ensures known { IfOk result (λ t. (s : Store) → IsKnown subscript s → Fits self.old s

@@ -63,7 +63,8 @@ impl<'a> Elaborator<'a> {
 
     /// The value of a name.
     pub(crate) fn value_of(&mut self, scope: Scope, name: Name<'a>) -> Result<Typed, Stop>
-        ensures means { IfOk result (λ t. Means self.old self.new scope (formula.Name name.entry.text.now name.entry.span) t) }
+        ensures means { IfOk result (λ t.
+            Means self.old self.new scope (formula.Name name.entry.text.now name.entry.span) t) }
         ensures grows { IfOk result (λ t. Grows self.old self.new) }
     {
         let entry = self.find(scope, name)?;

@@ -1,4 +1,4 @@
-use Rattle.std.proofs.Common.{◌≡◌, ◌∙◌, sym, ap, refl, rules, subst, ◌<◌, arith}
+use Rattle.std.proofs.Common.{◌∙◌, ap, refl}
 use Rattle.tpw_occam_core.specs.Meaning.{array_of, value_of}
 use Rattle.tpw_occam_elaboration.proofs.Elements.{element_of_type, element_constant}
 use Rattle.tpw_occam_elaboration.proofs.elaborator.Elaborator.element_of.Goals as goal

@@ -6,11 +6,11 @@ use Rattle.tpw_occam_elaboration.proofs.elaborator.Elaborator.number.Goals as go
 pub returns-in-Some-Byte-clause-means : goal.returns-in-Some-Byte-clause-means
 returns-in-Some-Byte-clause-means c =
     λ scope.
-      constant_means _ _ scope _ c.args.value c.constant.result (λ names. evaluates.number) c.constant.ensures.means
-      (λ s. c.constant.ensures.known s c.if-value-lt256.true)
+    constant_means _ _ scope _ c.args.value c.constant.result (λ names. evaluates.number) c.constant.ensures.means
+    (λ s. c.constant.ensures.known s c.if-value-lt256.true)
 
 pub returns-in_default-clause-means : goal.returns-in_default-clause-means
 returns-in_default-clause-means c =
     λ scope.
-      constant_means _ _ scope _ c.args.value c.constant-in_default.result (λ names. evaluates.number)
-      c.constant-in_default.ensures.means (λ s. c.constant-in_default.ensures.known s (search rules))
+    constant_means _ _ scope _ c.args.value c.constant-in_default.result (λ names. evaluates.number)
+    c.constant-in_default.ensures.means (λ s. c.constant-in_default.ensures.known s (search rules))
