@@ -1,3 +1,4 @@
 pub mod Formulas
 pub mod Operators
 pub mod Places
+pub mod Spelling

@@ -4,6 +4,7 @@
 
 mod expression;
 mod fault;
+pub mod laws;
 mod places;
 mod source;
 mod span;
