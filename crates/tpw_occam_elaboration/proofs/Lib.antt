@@ -1,5 +1,7 @@
+mod Binding
 mod Bound
 mod ByNames
+mod Calls
 mod Elements
 mod OneValue
 mod Operands

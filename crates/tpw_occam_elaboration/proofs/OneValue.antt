@@ -5,8 +5,8 @@ use Rattle.tpw_occam_core.specs.declared.kind.Kind.{Kind}
 use Rattle.tpw_occam_core.specs.Arithmetic.{answer, plain}
 use Rattle.tpw_occam_core.specs.Arrays.{size}
 use Rattle.tpw_occam_core.specs.Meaning.{followed, element_at}
-use Rattle.tpw_occam_tree.specs.declared.span.Span.{Span}
 use Rattle.tpw_occam_tree.specs.Formulas.{Formula, Formulas, End, Then}
+use Rattle.tpw_occam_tree.proofs.Spelled.{one_thing}
 use Rattle.tpw_occam_tree.specs.Formulas as formula
 use Rattle.tpw_occam_elaboration.specs.Operators.{monadic, combined}
 use Rattle.tpw_occam_elaboration.specs.Evaluation.{Taken, Standing, Word, Array, Function, Other, Names, Finds, first, further}
@@ -130,6 +130,7 @@ mutual
 
   one_array : {names : Names} {of : Kind} {e : Formula} {a b : List ℕ} → IsArray names of e a → IsArray names of e b → a ≡ b
   one_array (rule.named f) (rule.named g) = ap bytes_in (finds_one f g).0
+  one_array (rule.text spells) (rule.text also) = one_thing _ _ _ spells also
   one_array (rule.table d) (rule.table e) = one_list d e
 
   one_list : {names : Names} {of : Kind} {items : Formulas} {a b : List ℕ} → AreElements names of items a →

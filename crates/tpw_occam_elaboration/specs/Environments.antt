@@ -1,17 +1,18 @@
 -- How the names that an elaboration has in scope show names of a text, in a state of the core.
 use Rattle.std.specs.Prelude.{◌≡◌, ◌≢◌, ℕ, ◌<◌, ◌≤◌, Option, Some, None, List, [], ◌∷◌, length, take, drop, slice_get}
-use Rattle.std.specs.Prelude.{slice_index, All}
+use Rattle.std.specs.Prelude.{slice_index, All, Bool, false, ◌||◌}
 use Rattle.tpw_occam_core.specs.declared.kind.Kind.{Kind}
 use Rattle.tpw_occam_core.specs.declared.kind.Kind.TheVariants as kind
 use Rattle.tpw_occam_core.specs.declared.arithmetic.Answer.{Answer}
 use Rattle.tpw_occam_core.specs.declared.expression.Expression.{Expression}
 use Rattle.tpw_occam_core.specs.declared.worker.Storage.{Storage}
 use Rattle.tpw_occam_core.specs.declared.worker.Storage.TheVariants as storage
+use Rattle.tpw_occam_core.specs.Arithmetic.{answer}
 use Rattle.tpw_occam_core.specs.Arrays.{size, element}
 use Rattle.tpw_occam_core.specs.Meaning.{Store, array_of, value_of, with_value, followed}
 use Rattle.tpw_occam_tree.specs.declared.expression.Primitive.{Primitive}
 use Rattle.tpw_occam_tree.specs.declared.expression.Primitive.TheVariants as primitive
-use Rattle.tpw_occam_tree.specs.Formulas.{Formula, formula_of}
+use Rattle.tpw_occam_tree.specs.Formulas.{Formula, Formulas, formula_of}
 use Rattle.tpw_occam_elaboration.specs.declared.bindings.Binding.{Binding}
 use Rattle.tpw_occam_elaboration.specs.declared.bindings.Binding.TheVariants as binding
 use Rattle.tpw_occam_elaboration.specs.declared.elaborator.Elaborator.{Elaborator}
@@ -30,7 +31,7 @@ use Rattle.tpw_occam_elaboration.specs.declared.signatures.Signature.{Signature}
 use Rattle.tpw_occam_elaboration.specs.declared.typed.Typed.{Typed}
 use Rattle.tpw_occam_elaboration.specs.Operators.{IsOf, IsKnown}
 use Rattle.tpw_occam_elaboration.specs.Evaluation.{Taken, OneValue, Elements, Standing, Word, Array, Function, Other}
-use Rattle.tpw_occam_elaboration.specs.Evaluation.{Names, Evaluates, Finds}
+use Rattle.tpw_occam_elaboration.specs.Evaluation.{Names, Evaluates, Finds, Binds, IsArray}
 
 -- the type of the elements of an array
 abbrev pub element_type : Kind → Primitive
@@ -185,3 +186,49 @@ value_within (binding.Value x value ∷ more) e s =
     followed (value_of value s) (λ word. value_within more e (with_value x word s))
 value_within (binding.Variable x ∷ more) e s = value_within more e s
 value_within (binding.Array a ∷ more) e s = value_within more e s
+
+-- parameters are bound: in a state with what is bound, the scope of the body shows their names, and an expression within
+-- what is bound has the value that it has there, with the flag of the arguments
+pub record IsBound (known : Elaborator) (s : Store) (names before : Names) (parameters : List (List ℕ × Taken))
+    (arguments : Formulas) (scope : Scope) (bindings : List Binding) : Type 0 where
+  pub within : Names
+  pub flag : Bool
+  pub state : Store
+  pub binds : Binds names parameters arguments before within flag
+  pub shows : Shows known state within scope
+  pub fits : (later : Elaborator) → Fits later s → Fits later state
+  pub value : (e : Expression) → value_within bindings e s
+      ≡ answer (value_of e state).word (flag || (value_of e state).flag)
+
+-- whichever names stand for the arguments, the parameters are bound to them
+abbrev pub AreBound : Elaborator → Elaborator → Scope → Signature → Formulas → Scope → Scope → List Binding → Type 0
+AreBound old new scope signature arguments before within bindings =
+    (s : Store) (names outer : Names) (parameters : List (List ℕ × Taken)) → Fits new s → Shows old s names scope →
+    Shows old s outer before → length parameters ≡ signature.count →
+    AreTaken (take signature.count (drop signature.first old.parameters.items)) parameters →
+    IsBound new s names outer parameters arguments within bindings
+
+-- an argument is what a parameter takes, and sets this flag
+abbrev pub IsArgument : Names → Taken → Formula → Standing → Bool → Type 0
+IsArgument names OneValue e standing flag =
+    (a : Answer) × Evaluates names e a × (standing ≡ Word a.word) × (flag ≡ a.flag)
+IsArgument names (Elements of) e standing flag =
+    (bytes : List ℕ) × IsArray names of e bytes × (standing ≡ Array of bytes) × (flag ≡ false)
+
+-- one parameter is bound: in a state with what is bound, its entry stands for the argument, and all that was shown is
+pub record IsPassed (old new : Elaborator) (s : Store) (names : Names) (taken : Taken) (e : Formula) (entry : Meaning)
+    (bindings : List Binding) : Type 0 where
+  pub standing : Standing
+  pub flag : Bool
+  pub state : Store
+  pub argument : IsArgument names taken e standing flag
+  pub stands : (before : Scope) → StandsFor new state before entry standing
+  pub shows : (others : Names) (scope : Scope) → Shows old s others scope → Shows new state others scope
+  pub fits : (later : Elaborator) → Fits later s → Fits later state
+  pub value : (within : Expression) → value_within bindings within s
+      ≡ answer (value_of within state).word (flag || (value_of within state).flag)
+
+abbrev pub Passes : Elaborator → Elaborator → Scope → Form → Formula → Meaning → List Binding → Type 0
+Passes old new scope form e entry bindings =
+    (s : Store) (names : Names) (taken : Taken) → Fits new s → Shows old s names scope → Takes form taken →
+    IsPassed old new s names taken e entry bindings

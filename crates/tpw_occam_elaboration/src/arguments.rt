@@ -1,5 +1,9 @@
 //! Arguments of calls, bound to parameters.
 
+ghost use Rattle.std.specs.Prelude.{◌≡◌, ◌≤◌, ◌+◌, true, length, IfOk};
+ghost use Rattle.tpw_occam_tree.specs.Formulas.{formulas};
+ghost use Rattle.tpw_occam_elaboration.specs.Environments.{Grows, AreBound};
+
 use crate::bindings::{Binding, Bound};
 use crate::elaborator::{Elaborator, Frame, or_else};
 use crate::environment::{Access, Atom, Channel, Entry, Meaning, Protocol, Scope, View};
@@ -36,7 +40,10 @@ impl<'a> Elaborator<'a> {
         entry: Entry<'a>,
         signature: Signature,
         found: usize,
-    ) -> Result<(), Stop> {
+    ) -> Result<(), Stop>
+        ensures count { IfOk result (λ u. signature.count ≡ found) }
+        ensures grows { IfOk result (λ u. Grows self.old self.new) }
+    {
         if signature.count == found {
             return Ok(());
         }
@@ -280,16 +287,23 @@ impl<'a> Elaborator<'a> {
         arguments: &'a [Tree<'a>],
         scope: Scope,
         depth: u32,
-    ) -> Result<Bound, Stop> {
+    ) -> Result<Bound, Stop>
+        ensures bound { IfOk result (λ b. b.is_whole ≡ true
+            → AreBound self.old self.new frame.scope signature (formulas arguments.now) scope b.scope b.bindings.items) }
+        ensures grows { IfOk result (λ b. Grows self.old self.new) }
+    {
         let mut scope = scope;
         let mut bindings = Vec::new(self.alloc);
+        let mut is_whole = true;
         for (index, argument) in arguments.iter().enumerate() {
             let at = signature.first.saturating_add(index);
             let Some(parameter) = self.parameters.get(at).copied() else {
+                is_whole = false;
                 break;
             };
             let depth = levels_within(depth, bindings.len());
             let passed = self.passed(frame, parameter, argument, signature.callee, depth);
+            is_whole = is_whole && passed.is_ok();
             let passed = or_else(passed, alias(Meaning::Wrong))?;
             scope = self
                 .environment
@@ -298,6 +312,10 @@ impl<'a> Elaborator<'a> {
                 bindings.push(binding)?;
             }
         }
-        Ok(Bound { scope, bindings })
+        Ok(Bound {
+            scope,
+            bindings,
+            is_whole,
+        })
     }
 }

@@ -23,6 +23,8 @@ pub(crate) enum Binding {
 pub(crate) struct Bound {
     pub(crate) scope: Scope,
     pub(crate) bindings: Vec<Binding>,
+    /// Whether each argument was made, without a fault.
+    pub(crate) is_whole: bool,
 }
 
 /// A process within what is bound, of which the last is innermost.

@@ -7,7 +7,7 @@ ghost use Rattle.tpw_occam_core.specs.Arithmetic.{plain};
 ghost use Rattle.tpw_occam_core.specs.Arrays.{element, size};
 ghost use Rattle.tpw_occam_core.specs.Meaning.{Store, value_of, array_of, followed, element_at};
 ghost use Rattle.tpw_occam_tree.specs.Formulas as formula;
-ghost use Rattle.tpw_occam_tree.specs.Formulas.{formula_of};
+ghost use Rattle.tpw_occam_tree.specs.Formulas.{formula_of, formulas};
 ghost use Rattle.tpw_occam_tree.specs.declared.expression.Primitive.{Primitive};
 ghost use Rattle.tpw_occam_elaboration.specs.declared.environment.Scope.{Scope};
 ghost use Rattle.tpw_occam_elaboration.specs.Operators.{IsKnown, monadic, operand_of};
@@ -134,36 +134,55 @@ impl<'a> Elaborator<'a> {
         e: &'a Tree<'a>,
         wanted: Option<Primitive>,
         depth: u32,
-    ) -> Result<Typed, Stop> {
+    ) -> Result<Typed, Stop>
+        ensures means { IfOk result (λ t. Means self.old self.new frame.scope (formula_of e.now) t) }
+        ensures typed { IfOk result (λ t. (of : Primitive) → wanted ≡ Some of → t.of ≡ of) }
+        ensures grows { IfOk result (λ t. Grows self.old self.new) }
+    {
         self.count(span_of(e))?;
         if depth == 0 {
             return self.fault(span_of(e), FaultKind::Limit(Limit::Depth));
         }
-        let typed = match e {
+        let typed = self.made(frame, e, wanted, depth - 1)?;
+        self.of_type(typed, e, wanted)
+    }
+
+    /// What is made of an expression, whichever type is wanted: a number alone takes it.
+    #[cycle(expressions)]
+    fn made(
+        &mut self,
+        frame: Frame,
+        e: &'a Tree<'a>,
+        wanted: Option<Primitive>,
+        depth: u32,
+    ) -> Result<Typed, Stop>
+        ensures means { IfOk result (λ t. Means self.old self.new frame.scope (formula_of e.now) t) }
+        ensures grows { IfOk result (λ t. Grows self.old self.new) }
+    {
+        match e {
             Tree::Element {
                 name: text,
                 span,
                 subscript,
-            } => self.element(frame, name(text, *span), subscript, depth - 1)?,
+            } => self.element(frame, name(text, *span), subscript, depth),
             Tree::Call {
                 name: text,
                 span,
                 arguments,
-            } => self.call(frame, name(text, *span), arguments, depth - 1)?,
+            } => self.call(frame, name(text, *span), arguments, depth),
             Tree::Monadic {
                 operator,
                 span,
                 operand,
-            } => self.monadic(frame, *operator, operand, *span, depth - 1)?,
+            } => self.monadic(frame, *operator, operand, *span, depth),
             Tree::Dyadic {
                 operator,
                 span,
                 left,
                 right,
-            } => self.dyadic(frame, *operator, (left, right), *span, depth - 1)?,
-            other => self.leaf(frame, other, wanted)?,
-        };
-        self.of_type(typed, e, wanted)
+            } => self.dyadic(frame, *operator, (left, right), *span, depth),
+            other => self.leaf(frame, other, wanted),
+        }
     }
 
     /// An operator with its one operand.
@@ -175,7 +194,11 @@ impl<'a> Elaborator<'a> {
         operand: &'a Tree<'a>,
         span: Span,
         depth: u32,
-    ) -> Result<Typed, Stop> {
+    ) -> Result<Typed, Stop>
+        ensures means { IfOk result (λ t.
+            Means self.old self.new frame.scope (formula.Monadic operator span (formula_of operand.now)) t) }
+        ensures grows { IfOk result (λ t. Grows self.old self.new) }
+    {
         if operator == Monadic::Size {
             return self.size_of(frame.scope, operand);
         }
@@ -228,7 +251,11 @@ impl<'a> Elaborator<'a> {
         operands: (&'a Tree<'a>, &'a Tree<'a>),
         span: Span,
         depth: u32,
-    ) -> Result<Typed, Stop> {
+    ) -> Result<Typed, Stop>
+        ensures means { IfOk result (λ t. Means self.old self.new frame.scope
+            (formula.Dyadic operator span (formula_of operands.entry.0.now) (formula_of operands.entry.1.now)) t) }
+        ensures grows { IfOk result (λ t. Grows self.old self.new) }
+    {
         let (left, right) = operands;
         let is_turned = is_number(left);
         let (one, other) = if is_turned {
@@ -304,7 +331,11 @@ impl<'a> Elaborator<'a> {
         name: Name<'a>,
         subscript: &'a Tree<'a>,
         depth: u32,
-    ) -> Result<Typed, Stop> {
+    ) -> Result<Typed, Stop>
+        ensures means { IfOk result (λ t. Means self.old self.new frame.scope
+            (formula.Element name.entry.text.now name.entry.span (formula_of subscript.now)) t) }
+        ensures grows { IfOk result (λ t. Grows self.old self.new) }
+    {
         let view = self.view_of(frame.scope, name);
         let subscript = self.expression(frame, subscript, Some(Primitive::Int), depth);
         let (view, subscript) = (view?, subscript?);
@@ -319,7 +350,11 @@ impl<'a> Elaborator<'a> {
         name: Name<'a>,
         arguments: &'a [Tree<'a>],
         depth: u32,
-    ) -> Result<Typed, Stop> {
+    ) -> Result<Typed, Stop>
+        ensures means { IfOk result (λ t. Means self.old self.new frame.scope
+            (formula.Call name.entry.text.now name.entry.span (formulas arguments.now)) t) }
+        ensures grows { IfOk result (λ t. Grows self.old self.new) }
+    {
         let entry = self.find(frame.scope, name)?;
         let Meaning::Function {
             of,
@@ -341,6 +376,9 @@ impl<'a> Elaborator<'a> {
         };
         let depth = levels_within(depth, bound.bindings.len());
         let value = self.expression(within, value, Some(of), depth)?;
+        if !bound.is_whole {
+            return Err(Stop::Reported);
+        }
         Ok(bound_value(self.alloc, value, bound.bindings)?)
     }
 }
