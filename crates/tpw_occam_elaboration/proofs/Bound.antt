@@ -1,7 +1,7 @@
 -- A state in which a new name has a word shows the same names; and an expression within what is bound.
 use Rattle.std.proofs.Common.{◌≡◌, ◌≢◌, ℕ, ◌<◌, ◌≤◌, List, [], ◌∷◌, ◌++◌, length}
-use Rattle.std.proofs.Common.{refl, sym, ap, subst, arith}
-use Rattle.std.specs.Prelude.{slice_index, ◌||◌}
+use Rattle.std.proofs.Common.{refl, sym, ◌∙◌, ap, subst, arith}
+use Rattle.std.specs.Prelude.{slice_index, Bool, true, false, ◌||◌}
 use Rattle.std.proofs.lemmas.List.{get_or-set_other, length-set}
 use Rattle.tpw_occam_core.specs.declared.expression.Expression.{Expression}
 use Rattle.tpw_occam_core.specs.Arithmetic.{answer}
@@ -16,7 +16,7 @@ use Rattle.tpw_occam_elaboration.specs.declared.environment.Meaning.TheVariants 
 use Rattle.tpw_occam_elaboration.specs.declared.environment.Scope.{Scope}
 use Rattle.tpw_occam_elaboration.specs.Evaluation.{Standing, Names}
 use Rattle.tpw_occam_elaboration.specs.Environments.{StandsFor, Shows, IsThere, IsWord, IsElement, Fits, word_of}
-use Rattle.tpw_occam_elaboration.specs.Environments.{value_within}
+use Rattle.tpw_occam_elaboration.specs.Bindings.{value_within, state_within, flag_within}
 
 -- ---- a new name
 
@@ -77,3 +77,49 @@ within_put (binding.Value x value ∷ bindings) b e f put s =
     (within_put bindings b e f put (with_value x (value_of value s).word s))
 within_put (binding.Variable x ∷ bindings) b e f put s = within_put bindings b e f put s
 within_put (binding.Array x ∷ bindings) b e f put s = within_put bindings b e f put s
+
+pub or_three : (a b c : Bool) → (a || (b || c)) ≡ ((a || b) || c)
+or_three true b c = refl
+or_three false b c = refl
+
+-- it is the expression's value in the state within, with the flag of what is bound
+pub value_is : (bindings : List Binding) (e : Expression) (s : Store) →
+    value_within bindings e s
+    ≡ answer (value_of e (state_within bindings s)).word (flag_within bindings s || (value_of e (state_within bindings s)).flag)
+value_is [] e s = refl
+value_is (binding.Value x value ∷ bindings) e s =
+    let inner = with_value x (value_of value s).word s in
+    let last = value_of e (state_within bindings inner) in
+    ap (λ a. answer a.word ((value_of value s).flag || a.flag)) (value_is bindings e inner)
+    ∙ ap (answer last.word) (or_three (value_of value s).flag (flag_within bindings inner) last.flag)
+value_is (binding.Variable x ∷ bindings) e s = value_is bindings e s
+value_is (binding.Array x ∷ bindings) e s = value_is bindings e s
+
+pub fits_within : (known : Elaborator) (bindings : List Binding) (s : Store) → Fits known s →
+    Fits known (state_within bindings s)
+fits_within known [] s fits = fits
+fits_within known (binding.Value x value ∷ bindings) s fits =
+    fits_within known bindings (with_value x (value_of value s).word s)
+    (fits_with known s x (value_of value s).word fits)
+fits_within known (binding.Variable x ∷ bindings) s fits = fits_within known bindings s fits
+fits_within known (binding.Array x ∷ bindings) s fits = fits_within known bindings s fits
+
+-- ---- more that is bound
+
+pub state_append : (bindings more : List Binding) (s : Store) →
+    state_within (bindings ++ more) s ≡ state_within more (state_within bindings s)
+state_append [] more s = refl
+state_append (binding.Value x value ∷ bindings) more s =
+    state_append bindings more (with_value x (value_of value s).word s)
+state_append (binding.Variable x ∷ bindings) more s = state_append bindings more s
+state_append (binding.Array x ∷ bindings) more s = state_append bindings more s
+
+pub flag_append : (bindings more : List Binding) (s : Store) →
+    flag_within (bindings ++ more) s ≡ (flag_within bindings s || flag_within more (state_within bindings s))
+flag_append [] more s = refl
+flag_append (binding.Value x value ∷ bindings) more s =
+    let inner = with_value x (value_of value s).word s in
+    ap (λ flag. (value_of value s).flag || flag) (flag_append bindings more inner)
+    ∙ or_three (value_of value s).flag (flag_within bindings inner) (flag_within more (state_within bindings inner))
+flag_append (binding.Variable x ∷ bindings) more s = flag_append bindings more s
+flag_append (binding.Array x ∷ bindings) more s = flag_append bindings more s

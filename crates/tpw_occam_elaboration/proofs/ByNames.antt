@@ -230,7 +230,7 @@ entry_later : (old new : Elaborator) (at : Option ℕ) (entry : Entry) → Grows
 entry_later old new None entry g is = is
 entry_later old new (Some at) entry g is = g.entries at entry is
 
-stands_later : (old new : Elaborator) (s : Store) (before : Scope) (m : Meaning) (standing : Standing) → Grows old new →
+pub stands_later : (old new : Elaborator) (s : Store) (before : Scope) (m : Meaning) (standing : Standing) → Grows old new →
     StandsFor old s before m standing → StandsFor new s before m standing
 stands_later old new s before (meaning.Constant of word) standing g is = is
 stands_later old new s before (meaning.Value of value) standing g is =

@@ -1,7 +1,11 @@
+mod Binding
 mod Bound
 mod ByNames
+mod Calls
+mod Cycle
 mod Elements
 mod OneValue
-mod Operands
 mod OperatorLemmas
 mod OrderLemmas
+mod Passing
+mod Tables

@@ -124,7 +124,7 @@ or_turned true false = refl
 or_turned false true = refl
 or_turned false false = refl
 
-or_false : (b : Bool) → (b || false) ≡ b
+pub or_false : (b : Bool) → (b || false) ≡ b
 or_false true = refl
 or_false false = refl
 

@@ -3,17 +3,14 @@ use Rattle.std.specs.Prelude.{◌≡◌, ◌≢◌, ℕ, ◌<◌, ◌≤◌, Opt
 use Rattle.std.specs.Prelude.{slice_index, All}
 use Rattle.tpw_occam_core.specs.declared.kind.Kind.{Kind}
 use Rattle.tpw_occam_core.specs.declared.kind.Kind.TheVariants as kind
-use Rattle.tpw_occam_core.specs.declared.arithmetic.Answer.{Answer}
-use Rattle.tpw_occam_core.specs.declared.expression.Expression.{Expression}
 use Rattle.tpw_occam_core.specs.declared.worker.Storage.{Storage}
 use Rattle.tpw_occam_core.specs.declared.worker.Storage.TheVariants as storage
 use Rattle.tpw_occam_core.specs.Arrays.{size, element}
-use Rattle.tpw_occam_core.specs.Meaning.{Store, array_of, value_of, with_value, followed}
+use Rattle.tpw_occam_core.specs.Arithmetic.{plain}
+use Rattle.tpw_occam_core.specs.Meaning.{Store, array_of, value_of}
 use Rattle.tpw_occam_tree.specs.declared.expression.Primitive.{Primitive}
 use Rattle.tpw_occam_tree.specs.declared.expression.Primitive.TheVariants as primitive
 use Rattle.tpw_occam_tree.specs.Formulas.{Formula, formula_of}
-use Rattle.tpw_occam_elaboration.specs.declared.bindings.Binding.{Binding}
-use Rattle.tpw_occam_elaboration.specs.declared.bindings.Binding.TheVariants as binding
 use Rattle.tpw_occam_elaboration.specs.declared.elaborator.Elaborator.{Elaborator}
 use Rattle.tpw_occam_elaboration.specs.declared.environment.Atom.{Atom}
 use Rattle.tpw_occam_elaboration.specs.declared.environment.Atom.TheVariants as atom
@@ -30,7 +27,7 @@ use Rattle.tpw_occam_elaboration.specs.declared.signatures.Signature.{Signature}
 use Rattle.tpw_occam_elaboration.specs.declared.typed.Typed.{Typed}
 use Rattle.tpw_occam_elaboration.specs.Operators.{IsOf, IsKnown}
 use Rattle.tpw_occam_elaboration.specs.Evaluation.{Taken, OneValue, Elements, Standing, Word, Array, Function, Other}
-use Rattle.tpw_occam_elaboration.specs.Evaluation.{Names, Evaluates, Finds}
+use Rattle.tpw_occam_elaboration.specs.Evaluation.{Names, Evaluates, Finds, IsArray}
 
 -- the type of the elements of an array
 abbrev pub element_type : Kind → Primitive
@@ -176,12 +173,20 @@ abbrev pub Views : Elaborator → Scope → List ℕ → View → Type 0
 Views known scope name view =
     (s : Store) (names : Names) → Shows known s names scope → FindsArray known s names name view
 
--- ---- what is bound around an expression
+-- the word of an expression is there already: a parameter with this meaning stands for it
+abbrev pub IsFixed : Elaborator → Scope → Formula → Meaning → Type 0
+IsFixed known scope e m =
+    (s : Store) (names : Names) → Shows known s names scope →
+    (word : ℕ) × Evaluates names e (plain word) × ((before : Scope) → StandsFor known s before m (Word word))
 
--- the value of an expression within what is bound; the arguments of a FUNCTION bind values alone
-abbrev pub value_within : List Binding → Expression → Store → Answer
-value_within [] e s = value_of e s
-value_within (binding.Value x value ∷ more) e s =
-    followed (value_of value s) (λ word. value_within more e (with_value x word s))
-value_within (binding.Variable x ∷ more) e s = value_within more e s
-value_within (binding.Array a ∷ more) e s = value_within more e s
+-- by its names, an expression is the array that a view shows
+pub record ShowsArray (known : Elaborator) (s : Store) (names : Names) (e : Formula) (view : View) : Type 0 where
+  pub is : IsArray names view.kind e (array_of s view.array)
+  pub there : view.array < length known.storages.items
+  pub counted : view.elements ≡ size view.kind (array_of s view.array)
+  pub bytes : All (λ b. b < 256) (array_of s view.array)
+
+-- the array that was made of an expression is the one that the expression is by its names
+abbrev pub MakesArray : Elaborator → Elaborator → Scope → Formula → View → Type 0
+MakesArray old new scope e view =
+    (s : Store) (names : Names) → Fits new s → Shows old s names scope → ShowsArray new s names e view

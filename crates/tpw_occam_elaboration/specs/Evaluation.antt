@@ -13,6 +13,7 @@ use Rattle.tpw_occam_tree.specs.declared.span.Span.{Span}
 use Rattle.tpw_occam_tree.specs.declared.expression.Monadic as one
 use Rattle.tpw_occam_tree.specs.declared.expression.Monadic.TheVariants.{Size}
 use Rattle.tpw_occam_tree.specs.declared.expression.Dyadic as two
+use Rattle.tpw_occam_tree.specs.Spelling.{Spells}
 use Rattle.tpw_occam_tree.specs.Formulas.{Formula, Formulas, End, Then}
 use Rattle.tpw_occam_tree.specs.Formulas as formula
 use Rattle.tpw_occam_elaboration.specs.Operators.{monadic, combined}
@@ -91,11 +92,13 @@ mutual
         Binds names parameters more ((text, Array of bytes) ∷ before) within flag →
         Binds names ((text, Elements of) ∷ parameters) (Then argument more) before within flag
 
-  -- an expression is an array of a kind with these bytes: a name that stands for it, or a table of constants. A text as
-  -- an argument is none yet: nothing says what bytes it spells.
+  -- an expression is an array of a kind with these bytes: a name that stands for it, a text of BYTEs, or a table of
+  -- constants
   pub data IsArray : Names → Kind → Formula → List ℕ → Type 0 where
     named : {names before : Names} {of : Kind} {text : List ℕ} {span : Span} {bytes : List ℕ} →
         Finds names text (Array of bytes) before → IsArray names of (formula.Name text span) bytes
+    text : {names : Names} {spelled bytes : List ℕ} {span : Span} → Spells spelled bytes →
+        IsArray names kind.Byte (formula.Text spelled span) bytes
     table : {names : Names} {of : Kind} {items : Formulas} {span : Span} {bytes : List ℕ} →
         AreElements names of items bytes → IsArray names of (formula.Table items span) bytes
 

@@ -5,4 +5,5 @@ pub mod Order
 pub mod Operators
 pub mod Evaluation
 pub mod Environments
+pub mod Bindings
 pub mod Elaboration

@@ -1,11 +1,20 @@
 //! Arrays and tables.
 
+ghost use Rattle.std.specs.Prelude.{◌≡◌, ℕ, ◌<◌, ◌++◌, ◌^◌, true, All, IfOk, length};
+ghost use Rattle.tpw_occam_core.specs.Arrays.{size};
+ghost use Rattle.tpw_occam_core.specs.Meaning.{Store, array_of};
+ghost use Rattle.tpw_occam_tree.specs.Formulas.{formula_of, formulas};
+ghost use Rattle.tpw_occam_elaboration.specs.declared.typed.Typed.{Typed};
+ghost use Rattle.tpw_occam_elaboration.specs.Operators.{IsOf};
+ghost use Rattle.tpw_occam_elaboration.specs.Evaluation.{Names, AreElements, bytes_of};
+ghost use Rattle.tpw_occam_elaboration.specs.Environments.{Fits, Grows, MakesArray, Shows, element_type};
+
 use crate::elaborator::{Elaborator, Frame};
 use crate::environment::{Access, View};
 use crate::fault::{FaultKind, Stop};
 use crate::limits::{MAX_ARRAY_BYTES, MAX_MESSAGE_WORDS};
 use crate::syntax::{bytes_of, element_kind, element_type, name, span_of};
-use crate::typed::Typed;
+use crate::typed::{Typed, Worth};
 use std::alloc::AllocError;
 use tpw_occam_core::Kind;
 use tpw_occam_tree::{Expression as Tree, Name, Primitive, Size, Span, Type, text_bytes};
@@ -26,7 +35,10 @@ impl Shape {
 }
 
 /// Appends an element's bytes.
-fn put_element(bytes: &mut Vec<u8>, kind: Kind, word: u32) -> Result<(), AllocError> {
+fn put_element(bytes: &mut Vec<u8>, kind: Kind, word: u32) -> Result<(), AllocError>
+    ensures { IfOk result (λ u. IsOf (element_type kind) word
+        → bytes.new.items ≡ bytes.old.items ++ bytes_of kind word) }
+{
     let [b0, b1, b2, b3] = word.to_le_bytes();
     bytes.push(b0)?;
     if kind == Kind::Word {
@@ -39,7 +51,11 @@ fn put_element(bytes: &mut Vec<u8>, kind: Kind, word: u32) -> Result<(), AllocEr
 
 impl<'a> Elaborator<'a> {
     /// The number of elements of an array that is declared, where it may have so many.
-    pub(crate) fn elements(&mut self, kind: Kind, word: u32, span: Span) -> Result<u32, Stop> {
+    pub(crate) fn elements(&mut self, kind: Kind, word: u32, span: Span) -> Result<u32, Stop>
+        ensures same { IfOk result (λ n. n ≡ word) }
+        ensures small { IfOk result (λ n. n < 2 ^ 31) }
+        ensures grows { IfOk result (λ n. Grows self.old self.new) }
+    {
         if word > 0 && word.cast_signed() > 0 && bytes_of(kind, word) <= MAX_ARRAY_BYTES {
             Ok(word)
         } else {
@@ -82,7 +98,11 @@ impl<'a> Elaborator<'a> {
     }
 
     /// An array, where it has the shape that is wanted.
-    pub(crate) fn of_shape(&mut self, view: View, shape: Shape, span: Span) -> Result<View, Stop> {
+    pub(crate) fn of_shape(&mut self, view: View, shape: Shape, span: Span) -> Result<View, Stop>
+        ensures same { IfOk result (λ v. v ≡ view) }
+        ensures kind { IfOk result (λ v. v.kind ≡ shape.kind) }
+        ensures grows { IfOk result (λ v. Grows self.old self.new) }
+    {
         if view.kind != shape.kind {
             let kind = FaultKind::Elements {
                 wanted: element_type(shape.kind),
@@ -106,7 +126,14 @@ impl<'a> Elaborator<'a> {
         kind: Kind,
         bytes: Vec<u8>,
         span: Span,
-    ) -> Result<View, Stop> {
+    ) -> Result<View, Stop>
+        ensures kind { IfOk result (λ v. v.kind ≡ kind) }
+        ensures there { IfOk result (λ v. v.array < length self.new.storages.items) }
+        ensures counted { IfOk result (λ v. v.elements ≡ size kind bytes.items) }
+        ensures table { IfOk result (λ v. (s : Store) → Fits self.new s → array_of s v.array ≡ bytes.items) }
+        ensures bytes { IfOk result (λ v. All (λ b. b < 256) bytes.items) }
+        ensures grows { IfOk result (λ v. Grows self.old self.new) }
+    {
         let count = match kind {
             Kind::Word => bytes.len() / 4,
             Kind::Byte => bytes.len(),
@@ -130,16 +157,16 @@ impl<'a> Elaborator<'a> {
         items: &'a [Tree<'a>],
         kind: Kind,
         depth: u32,
-    ) -> Result<Vec<u8>, Stop> {
+    ) -> Result<Vec<u8>, Stop>
+        ensures made { IfOk result (λ bytes. (s : Store) (names : Names) → Fits self.new s
+            → Shows self.old s names frame.scope → AreElements names kind (formulas items.now) bytes.items) }
+        ensures grows { IfOk result (λ bytes. Grows self.old self.new) }
+    {
         let mut bytes = Vec::new(self.alloc);
         let mut is_whole = true;
         for item in items {
             let typed = self.expression(frame, item, Some(element_type(kind)), depth);
-            match self.word_of(typed, span_of(item)) {
-                Ok(word) => put_element(&mut bytes, kind, word)?,
-                Err(Stop::Reported) => is_whole = false,
-                Err(stop) => return Err(stop),
-            }
+            is_whole &= self.put_constant(&mut bytes, kind, typed, span_of(item))?;
         }
         if is_whole {
             Ok(bytes)
@@ -148,8 +175,34 @@ impl<'a> Elaborator<'a> {
         }
     }
 
+    /// Appends the bytes of a constant that was made, and returns whether it was made without a fault.
+    fn put_constant(
+        &mut self,
+        bytes: &mut Vec<u8>,
+        kind: Kind,
+        made: Result<Typed, Stop>,
+        span: Span,
+    ) -> Result<bool, Stop>
+        ensures put { IfOk result (λ put. put ≡ true → (t : Typed) × (word : ℕ)
+            × (made ≡ Ok t) × (t.worth ≡ Worth.Constant word)
+            × (IsOf (element_type kind) word → bytes.new.items ≡ bytes.old.items ++ bytes_of kind word)) }
+        ensures grows { IfOk result (λ put. put ≡ true → Grows self.old self.new) }
+    {
+        match self.word_of(made, span) {
+            Ok(word) => {
+                put_element(bytes, kind, word)?;
+                Ok(true)
+            }
+            Err(Stop::Reported) => Ok(false),
+            Err(stop) => Err(stop),
+        }
+    }
+
     /// The constant that was made.
-    fn word_of(&mut self, made: Result<Typed, Stop>, span: Span) -> Result<u32, Stop> {
+    fn word_of(&mut self, made: Result<Typed, Stop>, span: Span) -> Result<u32, Stop>
+        ensures constant { IfOk result (λ word. (t : Typed) × (made ≡ Ok t) × (t.worth ≡ Worth.Constant word)) }
+        ensures grows { IfOk result (λ word. Grows self.old self.new) }
+    {
         let typed = made?;
         self.constant_of(&typed, span)
     }
@@ -163,20 +216,28 @@ impl<'a> Elaborator<'a> {
         label: Name<'a>,
         shape: Shape,
         depth: u32,
-    ) -> Result<View, Stop> {
+    ) -> Result<View, Stop>
+        ensures made { IfOk result (λ v. MakesArray self.old self.new frame.scope (formula_of e.now) v) }
+        ensures kind { IfOk result (λ v. v.kind ≡ shape.kind) }
+        ensures grows { IfOk result (λ v. Grows self.old self.new) }
+    {
         self.count(span_of(e))?;
-        let view = match e {
-            Tree::Name { name: text, span } => self.view_of(frame.scope, name(text, *span))?,
+        match e {
+            Tree::Name { name: text, span } => {
+                let view = self.view_of(frame.scope, name(text, *span))?;
+                self.of_shape(view, shape, *span)
+            }
             Tree::Text { spelled, span } => {
                 let bytes = text_bytes(self.alloc, spelled)?;
-                self.table(label, Kind::Byte, bytes, *span)?
+                let view = self.table(label, Kind::Byte, bytes, *span)?;
+                self.of_shape(view, shape, *span)
             }
             Tree::List { items, span } => {
                 let bytes = self.list(frame, items, shape.kind, depth)?;
-                self.table(label, shape.kind, bytes, *span)?
+                let view = self.table(label, shape.kind, bytes, *span)?;
+                self.of_shape(view, shape, *span)
             }
-            other => return self.fault(span_of(other), FaultKind::ArrayWanted),
-        };
-        self.of_shape(view, shape, span_of(e))
+            other => self.fault(span_of(other), FaultKind::ArrayWanted),
+        }
     }
 }

@@ -3,7 +3,7 @@
 ghost use Rattle.std.specs.Prelude.{◌≡◌, ℕ, [], ◌∷◌, IfOk};
 ghost use Rattle.tpw_occam_core.specs.Meaning.{Store, value_of};
 ghost use Rattle.tpw_occam_elaboration.specs.declared.typed.Worth.TheVariants as worth;
-ghost use Rattle.tpw_occam_elaboration.specs.Environments.{value_within};
+ghost use Rattle.tpw_occam_elaboration.specs.Bindings.{value_within};
 
 use crate::environment::Scope;
 use crate::typed::{Typed, computed};
@@ -23,6 +23,8 @@ pub(crate) enum Binding {
 pub(crate) struct Bound {
     pub(crate) scope: Scope,
     pub(crate) bindings: Vec<Binding>,
+    /// Whether each argument was made, without a fault.
+    pub(crate) is_whole: bool,
 }
 
 /// A process within what is bound, of which the last is innermost.

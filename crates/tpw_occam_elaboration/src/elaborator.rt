@@ -1,7 +1,8 @@
 //! What is known while a text is elaborated.
 
-ghost use Rattle.std.specs.Prelude.{◌≡◌, ◌+◌, length, IfOk};
-ghost use Rattle.tpw_occam_elaboration.specs.Environments.{Grows};
+ghost use Rattle.std.specs.Prelude.{◌≡◌, ◌<◌, ◌+◌, length, true, IfOk};
+ghost use Rattle.tpw_occam_core.specs.Meaning.{Store, array_of};
+ghost use Rattle.tpw_occam_elaboration.specs.Environments.{Fits, Grows};
 
 use crate::environment::{Environment, Scope};
 use crate::fault::{Fault, FaultKind, Limit, Stop};
@@ -231,7 +232,11 @@ impl<'a> Elaborator<'a> {
         name: Name<'a>,
         of: Primitive,
         bytes: Vec<u8>,
-    ) -> Result<usize, AllocError> {
+    ) -> Result<usize, AllocError>
+        ensures there { IfOk result (λ a. a < length self.new.storages.items) }
+        ensures table { IfOk result (λ a. (s : Store) → Fits self.new s → array_of s a ≡ bytes.items) }
+        ensures grows { IfOk result (λ a. Grows self.old self.new) }
+    {
         for table in &self.tables {
             if self.has_bytes(*table, &bytes) {
                 return Ok(*table);
@@ -245,7 +250,10 @@ impl<'a> Elaborator<'a> {
     }
 
     /// Whether an array is a table of these bytes.
-    fn has_bytes(&self, array: usize, bytes: &[u8]) -> bool {
+    fn has_bytes(&self, array: usize, bytes: &[u8]) -> bool
+        ensures there { result ≡ true → array < length self.now.storages.items }
+        ensures table { result ≡ true → (s : Store) → Fits self.now s → array_of s array ≡ bytes.now }
+    {
         match self.storages.get(array) {
             Some(Storage::Table(table)) => table.as_slice() == bytes,
             _ => false,

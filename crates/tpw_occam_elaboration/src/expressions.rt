@@ -7,10 +7,10 @@ ghost use Rattle.tpw_occam_core.specs.Arithmetic.{plain};
 ghost use Rattle.tpw_occam_core.specs.Arrays.{element, size};
 ghost use Rattle.tpw_occam_core.specs.Meaning.{Store, value_of, array_of, followed, element_at};
 ghost use Rattle.tpw_occam_tree.specs.Formulas as formula;
-ghost use Rattle.tpw_occam_tree.specs.Formulas.{formula_of};
+ghost use Rattle.tpw_occam_tree.specs.Formulas.{formula_of, formulas};
 ghost use Rattle.tpw_occam_tree.specs.declared.expression.Primitive.{Primitive};
 ghost use Rattle.tpw_occam_elaboration.specs.declared.environment.Scope.{Scope};
-ghost use Rattle.tpw_occam_elaboration.specs.Operators.{IsKnown, monadic, operand_of};
+ghost use Rattle.tpw_occam_elaboration.specs.Operators.{IsKnown, Takes, monadic, combined, operand_of};
 ghost use Rattle.tpw_occam_elaboration.specs.Environments.{Fits, Grows, Means, element_type};
 
 use crate::bindings::bound_value;
@@ -49,16 +49,6 @@ fn table_element(table: &[u8], kind: Kind, at: u32) -> u32
             byte(table, 4 * at + 3),
         ]),
         Kind::Byte => u32::from(byte(table, at)),
-    }
-}
-
-/// The type of an expression that was made.
-fn type_of(made: &Result<Typed, Stop>) -> Option<Primitive>
-    ensures { IfOk made.now (λ t. result ≡ Some t.of) }
-{
-    match made {
-        Ok(typed) => Some(typed.of),
-        Err(_) => None,
     }
 }
 
@@ -134,36 +124,55 @@ impl<'a> Elaborator<'a> {
         e: &'a Tree<'a>,
         wanted: Option<Primitive>,
         depth: u32,
-    ) -> Result<Typed, Stop> {
+    ) -> Result<Typed, Stop>
+        ensures means { IfOk result (λ t. Means self.old self.new frame.scope (formula_of e.now) t) }
+        ensures typed { IfOk result (λ t. (of : Primitive) → wanted ≡ Some of → t.of ≡ of) }
+        ensures grows { IfOk result (λ t. Grows self.old self.new) }
+    {
         self.count(span_of(e))?;
         if depth == 0 {
             return self.fault(span_of(e), FaultKind::Limit(Limit::Depth));
         }
-        let typed = match e {
+        let typed = self.made(frame, e, wanted, depth - 1)?;
+        self.of_type(typed, e, wanted)
+    }
+
+    /// What is made of an expression, whichever type is wanted: a number alone takes it.
+    #[cycle(expressions)]
+    fn made(
+        &mut self,
+        frame: Frame,
+        e: &'a Tree<'a>,
+        wanted: Option<Primitive>,
+        depth: u32,
+    ) -> Result<Typed, Stop>
+        ensures means { IfOk result (λ t. Means self.old self.new frame.scope (formula_of e.now) t) }
+        ensures grows { IfOk result (λ t. Grows self.old self.new) }
+    {
+        match e {
             Tree::Element {
                 name: text,
                 span,
                 subscript,
-            } => self.element(frame, name(text, *span), subscript, depth - 1)?,
+            } => self.element(frame, name(text, *span), subscript, depth),
             Tree::Call {
                 name: text,
                 span,
                 arguments,
-            } => self.call(frame, name(text, *span), arguments, depth - 1)?,
+            } => self.call(frame, name(text, *span), arguments, depth),
             Tree::Monadic {
                 operator,
                 span,
                 operand,
-            } => self.monadic(frame, *operator, operand, *span, depth - 1)?,
+            } => self.monadic(frame, *operator, operand, *span, depth),
             Tree::Dyadic {
                 operator,
                 span,
                 left,
                 right,
-            } => self.dyadic(frame, *operator, (left, right), *span, depth - 1)?,
-            other => self.leaf(frame, other, wanted)?,
-        };
-        self.of_type(typed, e, wanted)
+            } => self.dyadic(frame, *operator, (left, right), *span, depth),
+            other => self.leaf(frame, other, wanted),
+        }
     }
 
     /// An operator with its one operand.
@@ -175,7 +184,11 @@ impl<'a> Elaborator<'a> {
         operand: &'a Tree<'a>,
         span: Span,
         depth: u32,
-    ) -> Result<Typed, Stop> {
+    ) -> Result<Typed, Stop>
+        ensures means { IfOk result (λ t.
+            Means self.old self.new frame.scope (formula.Monadic operator span (formula_of operand.now)) t) }
+        ensures grows { IfOk result (λ t. Grows self.old self.new) }
+    {
         if operator == Monadic::Size {
             return self.size_of(frame.scope, operand);
         }
@@ -228,27 +241,68 @@ impl<'a> Elaborator<'a> {
         operands: (&'a Tree<'a>, &'a Tree<'a>),
         span: Span,
         depth: u32,
-    ) -> Result<Typed, Stop> {
+    ) -> Result<Typed, Stop>
+        ensures means { IfOk result (λ t. Means self.old self.new frame.scope
+            (formula.Dyadic operator span (formula_of operands.entry.0.now) (formula_of operands.entry.1.now)) t) }
+        ensures grows { IfOk result (λ t. Grows self.old self.new) }
+    {
         let (left, right) = operands;
-        let is_turned = is_number(left);
-        let (one, other) = if is_turned {
-            (right, left)
+        if is_number(left) {
+            let turned = self.operands(frame, operator, right, left, depth)?;
+            self.of_two(operator, turned.1, turned.0, span)
         } else {
-            (left, right)
-        };
+            let pair = self.operands(frame, operator, left, right, depth)?;
+            self.of_two(operator, pair.0, pair.1, span)
+        }
+    }
+
+    /// The operands of an operator, the one made first. The other is of the operator's type, or else of the one's.
+    #[cycle(expressions)]
+    fn operands(
+        &mut self,
+        frame: Frame,
+        operator: Dyadic,
+        one: &'a Tree<'a>,
+        other: &'a Tree<'a>,
+        depth: u32,
+    ) -> Result<(Typed, Typed), Stop>
+        ensures one { IfOk result (λ pair. Means self.old self.new frame.scope (formula_of one.now) pair.0) }
+        ensures other { IfOk result (λ pair. Means self.old self.new frame.scope (formula_of other.now) pair.1) }
+        ensures taken { IfOk result (λ pair. Takes operator pair.0.of pair.1.of × Takes operator pair.1.of pair.0.of) }
+        ensures grows { IfOk result (λ pair. Grows self.old self.new) }
+    {
         let wanted = operands_of(operator);
-        let one = self.expression(frame, one, wanted, depth);
-        let wanted = wanted.or(type_of(&one));
-        let other = self.expression(frame, other, wanted, depth);
-        let (one, other) = (one?, other?);
-        if is_order(operator) && one.of == Primitive::Bool {
+        match self.expression(frame, one, wanted, depth) {
+            Ok(first) => {
+                let second = self.expression(frame, other, wanted.or(Some(first.of)), depth)?;
+                Ok((first, second))
+            }
+            Err(Stop::Reported) => {
+                self.expression(frame, other, wanted, depth)?;
+                Err(Stop::Reported)
+            }
+            Err(stop) => Err(stop),
+        }
+    }
+
+    /// What an operator makes of its two operands. BOOLs have no order.
+    fn of_two(
+        &mut self,
+        operator: Dyadic,
+        left: Typed,
+        right: Typed,
+        span: Span,
+    ) -> Result<Typed, Stop>
+        ensures means { IfOk result (λ t. (s : Store) → IsKnown left s → IsKnown right s
+            → Takes operator left.of right.of
+            → value_of t.value s ≡ combined operator (value_of left.value s) (value_of right.value s)) }
+        ensures known { IfOk result (λ t. (s : Store) → IsKnown left s → IsKnown right s
+            → Takes operator left.of right.of → IsKnown t s) }
+        ensures grows { IfOk result (λ t. Grows self.old self.new) }
+    {
+        if is_order(operator) && left.of == Primitive::Bool {
             return self.fault(span, FaultKind::NoOrder);
         }
-        let (left, right) = if is_turned {
-            (other, one)
-        } else {
-            (one, other)
-        };
         Ok(combined(self.alloc, operator, left, right, span)?)
     }
 
@@ -304,7 +358,11 @@ impl<'a> Elaborator<'a> {
         name: Name<'a>,
         subscript: &'a Tree<'a>,
         depth: u32,
-    ) -> Result<Typed, Stop> {
+    ) -> Result<Typed, Stop>
+        ensures means { IfOk result (λ t. Means self.old self.new frame.scope
+            (formula.Element name.entry.text.now name.entry.span (formula_of subscript.now)) t) }
+        ensures grows { IfOk result (λ t. Grows self.old self.new) }
+    {
         let view = self.view_of(frame.scope, name);
         let subscript = self.expression(frame, subscript, Some(Primitive::Int), depth);
         let (view, subscript) = (view?, subscript?);
@@ -319,7 +377,11 @@ impl<'a> Elaborator<'a> {
         name: Name<'a>,
         arguments: &'a [Tree<'a>],
         depth: u32,
-    ) -> Result<Typed, Stop> {
+    ) -> Result<Typed, Stop>
+        ensures means { IfOk result (λ t. Means self.old self.new frame.scope
+            (formula.Call name.entry.text.now name.entry.span (formulas arguments.now)) t) }
+        ensures grows { IfOk result (λ t. Grows self.old self.new) }
+    {
         let entry = self.find(frame.scope, name)?;
         let Meaning::Function {
             of,
@@ -341,6 +403,9 @@ impl<'a> Elaborator<'a> {
         };
         let depth = levels_within(depth, bound.bindings.len());
         let value = self.expression(within, value, Some(of), depth)?;
+        if !bound.is_whole {
+            return Err(Stop::Reported);
+        }
         Ok(bound_value(self.alloc, value, bound.bindings)?)
     }
 }

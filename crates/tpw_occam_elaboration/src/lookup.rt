@@ -108,7 +108,9 @@ impl<'a> Elaborator<'a> {
     }
 
     /// The array that a name stands for, which is to be written to.
-    pub(crate) fn written_view(&mut self, scope: Scope, name: Name<'a>) -> Result<View, Stop> {
+    pub(crate) fn written_view(&mut self, scope: Scope, name: Name<'a>) -> Result<View, Stop>
+        ensures grows { IfOk result (λ v. Grows self.old self.new) }
+    {
         let entry = self.find(scope, name)?;
         match entry.meaning {
             Meaning::Array(view) if view.access == Access::ReadAndWrite => Ok(view),
@@ -121,7 +123,9 @@ impl<'a> Elaborator<'a> {
         &mut self,
         scope: Scope,
         name: Name<'a>,
-    ) -> Result<(Channel, Protocol), Stop> {
+    ) -> Result<(Channel, Protocol), Stop>
+        ensures grows { IfOk result (λ c. Grows self.old self.new) }
+    {
         let entry = self.find(scope, name)?;
         match entry.meaning {
             Meaning::Channel { channel, protocol } => Ok((channel, protocol)),

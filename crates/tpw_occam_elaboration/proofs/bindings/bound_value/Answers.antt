@@ -1,6 +1,6 @@
 use Rattle.std.proofs.Common.{◌≡◌, ◌+◌, [], ◌∷◌, length, sym, ap, ◌∙◌, arith}
 use Rattle.std.proofs.lemmas.List.{length-append}
-use Rattle.tpw_occam_elaboration.specs.Environments.{value_within}
+use Rattle.tpw_occam_elaboration.specs.Bindings.{value_within}
 use Rattle.tpw_occam_elaboration.proofs.Bound.{within_put}
 use Rattle.tpw_occam_elaboration.proofs.bindings.bound_value.Goals as goal
 

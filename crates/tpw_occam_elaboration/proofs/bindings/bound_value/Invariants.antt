@@ -1,6 +1,6 @@
 use Rattle.std.proofs.Common.{◌≡◌, ◌+◌, length}
 use Rattle.tpw_occam_core.specs.Meaning.{Store}
-use Rattle.tpw_occam_elaboration.specs.Environments.{value_within}
+use Rattle.tpw_occam_elaboration.specs.Bindings.{value_within}
 use Rattle.tpw_occam_elaboration.proofs.bindings.bound_value.Given as goal
 
 -- each turn puts the last of what is left around the expression
