@@ -10,7 +10,7 @@ struct Case {
     wanted: &'static str,
 }
 
-const CASES: [Case; 9] = [
+const CASES: [Case; 10] = [
     // Names, types and constants. What follows from a wrong declaration is not told.
     Case {
         text: "VAL INT n IS 1 / 0:
@@ -56,6 +56,25 @@ PROC main (CHAN OF INT packet, CHAN OF INT result)
 22:5: `p`, of line 4, takes 1 argument, not 2
 23:10: no `f` is declared here
 25:7: `m` is an INT, and a BOOL is wanted here
+",
+    },
+    // Of a call with a wrong argument nothing more is told, as of an operator with a wrong operand.
+    Case {
+        text: "INT FUNCTION f (VAL INT x) IS 1 :
+PROC main (CHAN OF INT packet, CHAN OF INT result)
+  INT x:
+  BOOL b:
+  SEQ
+    packet ? x
+    b := f (y)
+    b := y + 1
+    b := f (x)
+    result ! x
+:
+",
+        wanted: "7:13: no `y` is declared here
+8:10: no `y` is declared here
+9:10: `f` is an INT, and a BOOL is wanted here
 ",
     },
     // A PROC and a FUNCTION that call themselves, and a name behind its scope.
