@@ -14,19 +14,30 @@ fi
 # The folder of results has the name of what they are made from.
 folder=farmd.$({ echo "$TASKS"; cat <"$1"; cat <"$2"; } | sha256sum | head -c 16)
 packets=$(grep -c '' <"$2")
-export COUNT=$(((packets + TASKS - 1) / TASKS))
+share=$(((packets + TASKS - 1) / TASKS))
+
+# Prints the results of a task, which a command runs where they are not in its folder: TASK IMAGE PACKETS COMMAND..
+run_task() {
+    WORK=$folder/$1
+    FIRST=$(($1 * share))
+    COUNT=$((packets - FIRST < share ? packets - FIRST : share))
+    export WORK FIRST COUNT
+    shift
+    [ "$COUNT" -le 0 ] || farmd-run "$@"
+}
+
 if [ -n "$SLURM_ARRAY_TASK_ID" ]; then
-    new=$folder/new.$SLURM_ARRAY_TASK_ID.$SLURM_JOB_ID.${SLURM_RESTART_COUNT:-0}
-    mkdir -p "$folder" && FIRST=$((SLURM_ARRAY_TASK_ID * COUNT)) farmd-run "$1" "$2" farmd --members 4 >"$new" &&
-        mv "$new" "$folder/part.$SLURM_ARRAY_TASK_ID"
+    mkdir -p "$folder" && run_task "$SLURM_ARRAY_TASK_ID" "$1" "$2" farmd --members 4 >/dev/null
     exit
 fi
-parts=$(seq -f "$folder/part.%g" 0 $((TASKS - 1)))
-missing=$(for part in $parts; do [ -e "$part" ] || printf ',%s' "${part##*.}"; done)
+tasks=$(seq 0 $((TASKS - 1)))
+mkdir -p "$folder" || exit 2
+missing=$(for task in $tasks; do run_task "$task" "$1" "$2" false >/dev/null 2>&1 || printf ',%s' "$task"; done)
 if [ -n "$missing" ]; then
-    echo "farmd.sbatch: no results yet of: sbatch --array=${missing#,} farmd.sbatch $1 $2" >&2
+    words=$(for word in "$1" "$2"; do printf " '"; printf %s "$word" | sed "s/'/'\\\\''/g"; printf "'"; done)
+    echo "farmd.sbatch: no results yet of: sbatch --array=${missing#,} farmd.sbatch$words" >&2
     exit 3
 fi
-# shellcheck disable=SC2086 # the names have no blanks
-cat $parts | awk -v all="$packets" '/^(R|LOST) / && $2 == n { n++ } { print } END { exit n != all }' ||
-    { echo "farmd.sbatch: results of $packets packets are not whole in $folder" >&2; exit 3; }
+for task in $tasks; do
+    run_task "$task" "$1" "$2" false || exit
+done

@@ -23,6 +23,11 @@ def worker(name, body, packets, words=2, declared=()):
     print('\n'.join(lines))
 
 
+def text(name, lines, packets):
+    """A worker whose text is written out."""
+    print('\n'.join([f'@worker {name}', *lines, *packets]))
+
+
 def pairs():
     return [packet(a, b) for a in ENDS for b in ENDS]
 
@@ -146,8 +151,67 @@ def choices():
         worker(f'{count} turns from {start}', [f'SEQ i = {start if start >= -2147483647 else "MOSTNEG INT"} FOR {count}', '  r := (r TIMES 7) PLUS i'], pairs()[:1])
 
 
+def messages():
+    """What is received and sent, but for a variable, an array and an expression."""
+    head = 'PROC worker (CHAN OF INT packet, CHAN OF INT result)'
+    some = [packet(a) for a in ENDS]
+    text('an element receives', [head, '  [4]INT a:', '  SEQ', '    packet ? a[1 + 1]', '    a[3] := a[2] PLUS (a[1] PLUS 5)',
+         '    result ! a[3]', ':'], some)
+    text('an element is sent', [head, '  [2]INT a:', '  SEQ', '    packet ? a[1]', '    a[0] := a[1] /\\ 1', '    result ! a[a[0]]', ':'], some)
+    text('a text is sent', ['PROC worker (CHAN OF INT packet, CHAN OF [8]BYTE result)', '  INT x:', '  SEQ', '    packet ? x',
+         '    result ! "a*"*\'*#00*#FFz*s!"', ':'], some[:2])
+    text('a table is sent', ['VAL []INT t IS [7, -1, MOSTNEG INT]:', 'PROC worker (CHAN OF INT packet, CHAN OF [3]INT result)', '  INT x:',
+         '  SEQ', '    packet ? x', '    result ! t', ':'], some[:2])
+    text('a table that is written out is sent', ['PROC worker (CHAN OF INT packet, CHAN OF [2]INT result)', '  INT x:', '  SEQ',
+         '    packet ? x', '    result ! [12, 13]', ':'], some[:2])
+    for protocol, traced in (('[4]BYTE', '"abc*n"'), ('[2]INT', 't')):
+        text(f'{traced} is traced', ['VAL []INT t IS [1, 2]:', f'PROC worker (CHAN OF INT packet, CHAN OF INT result, CHAN OF {protocol} trace)',
+             '  INT x:', '  SEQ', '    packet ? x', f'    trace ! {traced}', f'    trace ! {traced}', '    result ! x', ':'], some[:2])
+    text('traces are lost', ['PROC worker (CHAN OF INT packet, CHAN OF INT result, CHAN OF [32]INT trace)', '  [32]INT a:', '  INT x:', '  SEQ',
+         '    packet ? x', '    trace ! a', '    trace ! a', '    IF', '      x = 3', '        trace ! a', '      TRUE', '        SKIP',
+         '    result ! x', ':'], some[:6])
+
+
+def spellings():
+    """Escapes in letters of both cases, a DEL, bytes by two digits, numbers of many digits."""
+    for name, spelled in (('capitals', '*N*C*T*S'), ('small letters', '*n*c*t*s'), ('a DEL', 'ab\x7f!'), ('digits', '*#0A*#AB*#7F*#80')):
+        worker(name, ['r := ((INT t[p[0] /\\ 3]) TIMES 256) PLUS (INT t[p[1] /\\ 3])'], [packet(a, b) for a in range(4) for b in range(4)],
+               declared=[f'VAL []BYTE t IS "{spelled}":'])
+    for name, spelled in (('capital N', "'*N'"), ('capital C', "'*C'"), ('a DEL as a character', "'\x7f'")):
+        worker(name, [f'r := (INT {spelled}) PLUS p[0]'], [packet(a, 0) for a in ENDS])
+    for number in (123456789, 999999999, 1000000000, 2147483647):
+        worker(f'the number {number}', [f'r := p[0] >< {number}'], [packet(a, 0) for a in ENDS])
+
+
+def declarations():
+    """Sizes that are left out, counts that are worked out, flags of values that are declared."""
+    worker('bytes of an open size', ['w[0], w[1] := p[0], p[1]', 'SEQ i = 0 FOR SIZE m', '  r := (r TIMES 3) PLUS (INT m[i])'], pairs()[::5],
+           declared=['[2]INT w:', '[]BYTE m RETYPES w:'])
+    worker('words of an open size', ['m[5] := BYTE (p[0] /\\ 255)', 'SEQ i = 0 FOR SIZE w', '  r := r PLUS w[i]'], pairs()[::14],
+           declared=['[8]BYTE m:', '[]INT w RETYPES m:'])
+    worker('as many turns as elements', ['SEQ i = 0 FOR SIZE p', '  r := (r TIMES 5) PLUS p[i]'], pairs()[::7])
+    worker('turns that are worked out', ['SEQ i = n - 1 FOR (n * 2) + 1', '  r := (r TIMES 3) PLUS (p[0] PLUS i)'], pairs()[::14], declared=['VAL INT n IS 3:'])
+    for first, second in (('1 / z', 'z'), ('z', '1 / z'), ('1 / z', '2 / z'), ('z', 'z')):
+        worker(f'the values {first} and {second}', ['r := p[0] PLUS (a PLUS b)'], pairs()[:3],
+               declared=['INT z:', f'VAL INT a IS {first}:', f'VAL INT b IS {second}:'])
+    worker('values in a process', ['VAL INT a IS p[0] + p[1]:', 'VAL INT b IS p[0] - p[1]:', 'r := a PLUS (b TIMES 3)'], pairs())
+
+
+def stops():
+    """STOP wherever it stands, and what stops."""
+    worker('an IF without guards', ['IF', 'r := p[0]'], pairs()[:3])
+    worker('an IF without guards behind a guard', ['IF', '  p[0] = 1', '    IF', '  TRUE', '    SKIP', 'r := p[1]'], pairs()[::14])
+    worker('a CASE without choices', ['CASE p[0]', 'r := p[1]'], pairs()[:3])
+    worker('a CASE without a choice for it', ['CASE p[0]', '  1', '    r := 5'], pairs()[::14])
+    worker('STOP in a PROC', ['stop (p[0])', 'r := p[1]'], pairs()[::14],
+           declared=['PROC stop (VAL INT x)', '  IF', '    x = 0', '      SKIP', '    TRUE', '      STOP', ':'])
+    worker('STOP in a PROC of a PROC', ['outer (p[0])', 'r := p[1]'], pairs()[::14],
+           declared=['PROC inner ()', '  STOP', ':', 'PROC outer (VAL INT x)', '  IF', '    x = 7', '      inner ()', '    TRUE', '      SKIP', ':'])
+
+
 def main():
-    for part in (operators, conversions, truth, registers, subscripts, assignments, parameters, choices):
+    parts = (operators, conversions, truth, registers, subscripts, assignments, parameters, choices, messages, spellings, declarations, stops)
+    for part in parts:
         part()
 
 

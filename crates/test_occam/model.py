@@ -211,6 +211,7 @@ class Line:
             elif self.peek() in ('[', INT, BOOL, BYTE):
                 passing, of = 'VAR', self.type()
             found.append((passing, of, self.next()))
+            _ = self.take('?') or self.take('!')
             self.take(',')
         return found
 

@@ -5,27 +5,32 @@
 """
 
 import random
+import re
 import sys
 
-from model import BOOL, BYTE, INT
+from model import BOOL, BYTE, INT, MAX_TRACED
 
 NAMES = ['a', 'b', 'c', 'd', 'e', 'f', 'g', 'h', 'k', 'n', 'p', 'q', 's', 't', 'x', 'y', 'z', 'Value', 'up.to', 'last2', 'in.it', 'X']
 ENDS = [0, 1, 2, 3, 4, 5, 7, 8, 15, 16, 17, 31, 32, 33, 63, 64, 127, 128, 255, 256, 257, 32767, 32768, 65535, 65536, 0x7FFFFFFF]
 HIGH = [0xFFFFFFFF, 0xFFFFFFFE, 0xFFFFFF00, 0x80000000, 0x80000001, 0xEDB88320]
-SPELLED = [("'a'", 97), ("'*n'", 10), ("'*c'", 13), ("'*t'", 9), ("'*s'", 32), ("'**'", 42), ("'*''", 39), ("'*\"'", 34), ("'*#FF'", 255)]
+ESCAPES = ['*n', '*c', '*t', '*s', '*N', '*C', '*T', '*S', '**', "*'", '*"', '*#FF', '*#0A']
+CHARACTERS = ["'a'", "'Z'"] + [f"'{escape}'" for escape in ESCAPES]
 CHECKED = ['+', '-', '*', '/', '\\', 'REM', '<<', '>>']
 FREE = ['PLUS', 'MINUS', 'TIMES', '/\\', '\\/', '><', 'BITAND', 'BITOR', '>>', '<<', '/', '\\']
 CHAINED = ['+', '*', 'PLUS', 'TIMES', '/\\', '\\/', '><']
+# Where a line may be broken, but for operators.
+BREAKS = re.compile(r', |\bIS |:= |\(|\[(?!\])')
 
 
 class Entry:
     """What a name means: a value, a variable, an array, a table, a procedure or a function."""
 
-    def __init__(self, kind, of=None, size=None, parameters=()):
+    def __init__(self, kind, of=None, size=None, parameters=(), is_open=False):
         self.kind = kind
         self.of = of
         self.size = size
         self.parameters = parameters
+        self.is_open = is_open
 
 
 class Maker:
@@ -49,11 +54,21 @@ class Maker:
     # Lines
 
     def line(self, text):
+        if self.chance(0.03):
+            text = self.parted(text)
         if self.chance(0.04):
             text += '  -- ' + self.of('a comment', 'PAR', '"', "x := 'y'", ':')
         self.out.append('  ' * self.indent + text)
         if self.chance(0.02):
             self.out.append(self.of('', '-- between', '    -- indented'))
+
+    def parted(self, text):
+        """A line that is broken behind a comma, IS, :=, ( or [, where it has one."""
+        places = [place.end() for place in BREAKS.finditer(text)]
+        if not places:
+            return text
+        place = self.random.choice(places)
+        return f'{text[:place].rstrip()}\n{"  " * (self.indent + self.random.randint(0, 4))}{text[place:]}'
 
     def broken(self, left, operator, right):
         """An operator between its operands, where a line may be broken."""
@@ -87,6 +102,15 @@ class Maker:
             return f'#{self.random.getrandbits(32):X}'
         return self.of('MOSTPOS INT', 'MOSTNEG INT')
 
+    def computed(self, number):
+        """A size or a count, mostly as it is."""
+        if self.chance(0.75):
+            return str(number)
+        array = self.pick(lambda e: e.kind in ('array', 'table') and e.size == number and not e.is_open)
+        if array and self.chance(0.7):
+            return f'SIZE {array}'
+        return self.of(f'#{number:X}', f'{number + 3} - 3', f'({number} * 6) / 6', f'INT (BYTE {number})')
+
     def closed(self, of, depth):
         """An operand: in brackets where it wants them."""
         text, is_operand = self.made(of, depth)
@@ -104,7 +128,7 @@ class Maker:
         if of == BOOL:
             return self.of('TRUE', 'FALSE'), True
         if of == BYTE:
-            return self.random.choice(SPELLED)[0], True
+            return self.random.choice(CHARACTERS), True
         text = self.number()
         return text, True
 
@@ -226,16 +250,16 @@ class Maker:
         return f'BYTE {self.closed(self.of(INT, BOOL, BOOL), depth - 1)}', False
 
     def table(self, of, size):
-        if of == BYTE and self.chance(0.4):
-            return '"' + ''.join(self.random.choice(['a', 'Z', ' ', '*n', '**', '*#00', "'", '--']) for _ in range(size)).replace('--', '-') + '"'
-        items = [self.random.choice(SPELLED)[0] if of == BYTE and self.chance(0.5) else self.constant(of) for _ in range(size)]
+        if of == BYTE and self.chance(0.5):
+            return '"' + ''.join(self.random.choice(['a', 'Z', ' ', "'", '-', '*#00'] + ESCAPES) for _ in range(size)) + '"'
+        items = [self.random.choice(CHARACTERS) if of == BYTE and self.chance(0.5) else self.constant(of) for _ in range(size)]
         return '[' + ', '.join(items) + ']'
 
     def constant(self, of):
         if of == BOOL:
             return self.of('TRUE', 'FALSE')
         if of == BYTE:
-            return str(self.random.randint(0, 255)) if self.chance(0.7) else self.random.choice(SPELLED)[0]
+            return str(self.random.randint(0, 255)) if self.chance(0.7) else self.random.choice(CHARACTERS)
         return self.number() if self.chance(0.8) else f'-{self.random.randint(0, 99)}'
 
     # Declarations
@@ -258,21 +282,20 @@ class Maker:
             self.scope[name] = Entry('value', of)
         elif pick < 0.35:
             of = self.of(INT, BYTE)
-            size = self.of(1, 2, 4, 5, 8, 16, 20)
-            self.line(f'VAL [{self.of("", str(size))}]{of} {name} IS {self.table(of, size)}:')
-            self.scope[name] = Entry('table', of, size)
+            self.declared_table(name, of, self.of(1, 2, 4, 5, 8, 16, 20))
         elif pick < 0.55 and self.indent:
             of = self.of(INT, INT, BOOL, BYTE)
-            others = [name] + [self.new() for _ in range(self.random.choice([0, 0, 1, 2]))]
-            others = list(dict.fromkeys(others))
-            self.line(f'{of} {", ".join(others)}:')
-            for one in others:
+            names = self.several(name)
+            self.line(f'{of} {", ".join(names)}:')
+            for one in names:
                 self.scope[one] = Entry('variable', of)
         elif pick < 0.7 and self.indent:
             of = self.of(INT, BYTE)
             size = self.of(1, 2, 3, 4, 5, 7, 8, 12, 16)
-            self.line(f'[{size}]{of} {name}:')
-            self.scope[name] = Entry('array', of, size)
+            names = self.several(name) if self.chance(0.2) else [name]
+            self.line(f'[{self.computed(size)}]{of} {", ".join(names)}:')
+            for one in names:
+                self.scope[one] = Entry('array', of, size)
         elif pick < 0.78 and self.indent:
             self.retypes(name)
         elif pick < 0.9 and self.levels < 2:
@@ -280,13 +303,21 @@ class Maker:
         elif self.levels < 2:
             self.function(name)
 
+    def declared_table(self, name, of, size):
+        self.line(f'VAL [{self.of("", self.computed(size))}]{of} {name} IS {self.table(of, size)}:')
+        self.scope[name] = Entry('table', of, size)
+
+    def several(self, name):
+        return list(dict.fromkeys([name] + [self.new() for _ in range(self.random.choice([0, 0, 1, 2]))]))
+
     def retypes(self, name):
         array = self.pick(lambda e: e.kind == 'array' and (e.of == INT or e.size % 4 == 0))
         if array:
             entry = self.scope[array]
             of, size = (BYTE, entry.size * 4) if entry.of == INT else (INT, entry.size // 4)
-            self.line(f'[{size}]{of} {name} RETYPES {array}:')
-            self.scope[name] = Entry('array', of, size)
+            is_open = self.chance(0.4)
+            self.line(f'[{"" if is_open else size}]{of} {name} RETYPES {array}:')
+            self.scope[name] = Entry('array', of, size, is_open=is_open and entry.is_open)
 
     def parameters(self, passings):
         found = []
@@ -304,7 +335,7 @@ class Maker:
         spelled = []
         for place, (passing, of, size, name) in enumerate(parameters):
             if passing == 'CHAN':
-                spelled.append(f'CHAN OF {self.trace_type} {name}')
+                spelled.append(f'CHAN OF {self.trace_type} {name}{self.mark("!")}')
                 continue
             bounds = '' if size is None else '[]' if size == () else f'[{size}]'
             before = parameters[place - 1][:3] if place else None
@@ -320,7 +351,8 @@ class Maker:
                 self.scope[name] = Entry('channel')
             elif size is not None:
                 # How many an open array has is not known here: one is always there.
-                self.scope[name] = Entry('table' if passing == 'VAL' else 'array', of, 1 if size == () else size)
+                is_open = size == ()
+                self.scope[name] = Entry('table' if passing == 'VAL' else 'array', of, 1 if is_open else size, is_open=is_open)
             else:
                 self.scope[name] = Entry('value' if passing == 'VAL' else 'variable', of)
 
@@ -375,7 +407,8 @@ class Maker:
             self.simple()
         elif pick < 0.5:
             self.line('SEQ')
-            self.steps(depth - 1, 4)
+            if self.chance(0.97):
+                self.steps(depth - 1, 4)
         elif pick < 0.65:
             self.replicated(depth)
         elif pick < 0.82:
@@ -389,7 +422,7 @@ class Maker:
         pick = self.random.random()
         if pick < 0.04:
             self.line('SKIP')
-        elif pick < 0.042:
+        elif pick < (0.05 if self.levels else 0.042):
             self.line('STOP')
         elif pick < 0.15:
             self.trace()
@@ -433,8 +466,25 @@ class Maker:
         elif self.trace_size is None:
             self.line(f'{channel} ! {self.whole(INT, 2)}')
         else:
-            array = self.pick(lambda e: e.kind in ('array', 'table') and e.of == self.trace_of and e.size == self.trace_size)
-            self.line(f'{channel} ! {array}' if array else 'SKIP')
+            self.line(f'{channel} ! {self.message(self.trace_of, self.trace_size)}')
+
+    def message(self, of, size):
+        """An array or a table of a protocol."""
+        kinds = self.of(('array',), ('table',), ('table',))
+        array = self.pick(lambda e: e.kind in kinds and (e.of, e.size) == (of, size) and not e.is_open)
+        return array if array and self.chance(0.75) else self.table(of, size)
+
+    def too_many_traces(self, packet):
+        """Loses the packets whose first word or byte is above 20."""
+        size = 4 if self.trace_size is None else 8
+        self.line('IF')
+        self.indent += 1
+        self.line(f'(INT {packet}) > 20' if self.packet_of == BYTE else f'{packet} > 20')
+        self.line(f'  SEQ i = 0 FOR {MAX_TRACED // size + 1}')
+        self.line(f'    trace ! {"i" if self.trace_size is None else self.table(self.trace_of, self.trace_size)}')
+        self.line('TRUE')
+        self.line('  SKIP')
+        self.indent -= 1
 
     def replicated(self, depth):
         count = self.random.choice([0, 1, 1, 2, 3, 4, 7])
@@ -442,7 +492,7 @@ class Maker:
             count = self.of(0, 1)
         start = self.of('0', '0', '1', '-1', '250', 'MOSTNEG INT', '2147483600')
         index = self.new()
-        self.line(f'SEQ {index} = {start} FOR {count}')
+        self.line(f'SEQ {index} = {start} FOR {self.computed(count)}')
         outer, turns = dict(self.scope), self.turns
         self.scope[index] = Entry('value', INT)
         self.turns *= max(count, 1)
@@ -453,6 +503,8 @@ class Maker:
 
     def choice(self, depth):
         self.line('IF')
+        if self.chance(0.03):
+            return
         self.indent += 1
         for _ in range(self.random.randint(1, 3)):
             self.guarded(self.whole(BOOL, self.random.randint(0, 3)), depth)
@@ -469,14 +521,20 @@ class Maker:
     def case(self, depth):
         of = self.of(INT, INT, BYTE)
         self.line(f'CASE {self.whole(of, 2)}')
+        if self.chance(0.03):
+            return
         self.indent += 1
-        values = self.random.sample([0, 1, 2, 3, 10, 32, 97, 255] + [4096, -1, 0x7FFFFFFF] * (of == INT), self.random.randint(1, 5))
+        others = ['4096', '-1', '#7FFFFFFF', 'MOSTNEG INT'] if of == INT else ["'b'", "'*t'", "'*#FE'"]
+        values = self.random.sample(['0', '1', '2', '3', '10', '32', '97', '255'] + others, self.random.randint(1, 5))
+        choices = []
         while values:
             share = self.random.randint(1, len(values))
-            self.guarded(', '.join(map(str, values[:share])), depth)
+            choices.append(', '.join(values[:share]))
             values = values[share:]
         if self.chance(0.97):
-            self.guarded('ELSE', depth)
+            choices.insert(len(choices) if self.chance(0.9) else 0, 'ELSE')
+        for choice in choices:
+            self.guarded(choice, depth)
         self.indent -= 1
 
     def call_procedure(self):
@@ -498,15 +556,21 @@ class Maker:
         size = self.of(1, 2, 4, 8, 16) * (1 if of == INT else 4)
         return f'[{size}]{of}', of, size
 
+    def mark(self, mark):
+        return mark if self.chance(0.2) else ''
+
     def worker(self):
         packet, packet_of, packet_size = self.protocol()
         result, result_of, result_size = self.protocol()
         self.trace_type, self.trace_of, self.trace_size = self.of((INT, INT, None), ('[2]INT', INT, 2), ('[8]BYTE', BYTE, 8))
+        for of, size in ((result_of, result_size), (self.trace_of, self.trace_size)):
+            if size is not None and self.chance(0.2):
+                self.declared_table(self.new(), of, size)
         for _ in range(self.random.randint(0, 3)):
             self.declaration(0)
-        channels = f'CHAN OF {packet} packet, CHAN OF {result} result'
+        channels = f'CHAN OF {packet} packet{self.mark("?")}, CHAN OF {result} result{self.mark("!")}'
         if self.is_traced:
-            channels += f', CHAN OF {self.trace_type} trace'
+            channels += f', CHAN OF {self.trace_type} trace{self.mark("!")}'
         self.line(f'PROC worker ({channels})')
         self.indent += 1
         if self.is_traced:
@@ -518,15 +582,32 @@ class Maker:
         self.receives(packet_of, packet_size, result_of, result_size)
         self.line('SEQ')
         self.indent += 1
-        self.line('packet ? m.in')
+        self.takes(packet_size)
         for _ in range(self.random.randint(1, 6)):
             self.block(3)
-        self.line(f'result ! {"m.out" if result_size is not None or self.chance(0.5) else self.whole(INT, 2)}')
+        self.gives(result_of, result_size)
         self.indent -= 2
         self.line(':')
         return '\n'.join(self.out) + '\n'
 
+    def takes(self, packet_size):
+        """Receives the packet, now and then in an element; the traces of some are too many."""
+        array = self.pick(lambda e: e.kind == 'array' and e.of == INT)
+        place = 'm.in'
+        if packet_size is None and array and self.chance(0.5):
+            place = f'{array}[{self.subscript(self.scope[array].size, 1)}]'
+        self.line(f'packet ? {place}')
+        if self.is_traced and self.chance(0.06):
+            self.too_many_traces(place if packet_size is None else 'm.in[0]')
+
+    def gives(self, result_of, result_size):
+        if result_size is not None:
+            self.line(f'result ! {"m.out" if self.chance(0.7) else self.message(result_of, result_size)}')
+        else:
+            self.line(f'result ! {"m.out" if self.chance(0.5) else self.whole(INT, 2)}')
+
     def receives(self, packet_of, packet_size, result_of, result_size):
+        self.packet_of = packet_of
         if 'm.in' in self.scope:
             return
         for name, of, size in (('m.in', packet_of, packet_size), ('m.out', result_of, result_size)):

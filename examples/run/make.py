@@ -168,3 +168,8 @@ samples = [bytes(256), bytes(range(256))] + [random.randbytes(256) for _ in rang
 samples += [bytes(random.choice(values) for _ in range(256)) for values in (b'\x00\xFF', b'ab', b'\x7F\x80\x81')]
 write('quantiles', [s.hex() for s in samples],
       [bytes(sorted(s)[i] for i in (0, 64, 128, 192, 255)).hex() + '000000' for s in samples])
+
+# The numbers of Fibonacci that follow one another take the most turns of all words.
+pairs = [(1071, 462), (89, 55), (0, 0), (0, 7), (7, 0), (numbers[46], numbers[45]), (numbers[45], numbers[46])]
+pairs += [(random.randrange(2**31), random.randrange(2**31)) for _ in range(33)]
+write('gcd', map(words, pairs), [str(math.gcd(*pair)) for pair in pairs])

@@ -111,28 +111,16 @@ fn assert_kinds(rt: &impl Abort, alloc: Global, text: &str, kinds: &[FaultKind])
     assert!(rt; found.as_slice() == kinds, "{found:?}");
 }
 
-/// Sixty brackets within one another, and sixty-one; five hundred operators in a chain, and one more.
+/// Ten thousand brackets within one another, and a hundred thousand operators in a chain: one fault.
 #[test]
-fn most(rt: HostRuntime) {
+fn far_beyond(rt: HostRuntime) {
     let alloc = rt.alloc();
-    for (brackets, kinds) in [
-        (60, [].as_slice()),
-        (61, [FaultKind::TooDeep].as_slice()),
-        (10_000, [FaultKind::TooDeep].as_slice()),
-    ] {
-        let front = repeated(&rt, alloc, "VAL x IS ", "(", brackets, "1");
-        let text = repeated(&rt, alloc, front.as_str(), ")", brackets, ":");
-        assert_kinds(&rt, alloc, text.as_str(), kinds);
-    }
+    let front = repeated(&rt, alloc, "VAL x IS ", "(", 10_000, "1");
+    let text = repeated(&rt, alloc, front.as_str(), ")", 10_000, ":");
+    assert_kinds(&rt, alloc, text.as_str(), &[FaultKind::TooDeep]);
+    let text = repeated(&rt, alloc, "VAL x IS 1", " + 1", 100_000, ":");
     let small = FaultKind::Wanted(Wanted::SmallerExpression);
-    for (operators, kinds) in [
-        (500, [].as_slice()),
-        (501, [small].as_slice()),
-        (100_000, [small].as_slice()),
-    ] {
-        let text = repeated(&rt, alloc, "VAL x IS 1", " + 1", operators, ":");
-        assert_kinds(&rt, alloc, text.as_str(), kinds);
-    }
+    assert_kinds(&rt, alloc, text.as_str(), &[small]);
 }
 
 /// A PROC whose process stands so many levels deep.
@@ -149,28 +137,11 @@ fn nested(rt: &impl Abort, alloc: Global, levels: usize) -> String {
     text
 }
 
-/// Sixty levels of processes, and more: one fault.
+/// A thousand levels of processes: one fault.
 #[test]
 fn levels(rt: HostRuntime) {
-    for (levels, kinds) in [
-        (60, [].as_slice()),
-        (61, [FaultKind::TooDeep].as_slice()),
-        (1_000, [FaultKind::TooDeep].as_slice()),
-    ] {
-        let text = nested(&rt, rt.alloc(), levels);
-        assert_kinds(&rt, rt.alloc(), text.as_str(), kinds);
-    }
-}
-
-/// Thirty lines with a fault: the first twenty are told.
-#[test]
-fn twenty(rt: HostRuntime) {
-    let text = repeated(&rt, rt.alloc(), "", "VAL x IS 1 2:\n", 30, "");
-    let source = unwrap(&rt, parse(rt.alloc(), text.as_str()));
-    assert!(&rt; source.faults.len() == MAX_FAULTS);
-    for (index, fault) in source.faults.iter().enumerate() {
-        assert!(&rt; fault.span.line == index.saturating_add(1));
-    }
+    let text = nested(&rt, rt.alloc(), 1_000);
+    assert_kinds(&rt, rt.alloc(), text.as_str(), &[FaultKind::TooDeep]);
 }
 
 /// Sixteen million bytes of one kind.

@@ -1,6 +1,4 @@
-//! Programs and their images: three workers that were assembled by hand, lengths at their limits, and each fault.
+//! Programs: each fault, and which comes first.
 
 mod faults;
-mod lengths;
 pub(crate) mod programs;
-mod workers;

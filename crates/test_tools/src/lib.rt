@@ -1,5 +1,5 @@
-//! What the authors' tools are made of: programs and their images, their texts, runs printed line by line, first
-//! refusals, and a hostile image at full size. There is no code here but tests.
+//! What the authors' tools are made of, where `cases/` cannot see it: the faults of programs, what texts say, images that
+//! come back from their text, first refusals, and hostile texts and images. There is no code here but tests.
 #![tactic(auto)]
 
 #[cfg(test)]
@@ -10,7 +10,5 @@ mod asserts;
 mod hostile;
 #[cfg(test)]
 mod passes;
-#[cfg(test)]
-mod steps;
 #[cfg(test)]
 mod texts;

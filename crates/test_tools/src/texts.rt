@@ -1,7 +1,6 @@
-//! Assembly text: three workers, images that come back from text, faults with their places, places of lines,
-//! constants, and initial words of a local.
+//! Assembly text: what it says, the places of its lines, large texts, and images that come back from their text.
 
-mod faults;
+mod large;
 mod names;
 mod places;
-mod workers;
+mod samples;

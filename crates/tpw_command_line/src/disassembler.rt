@@ -4,7 +4,7 @@ use crate::shared::FILE_ARGUMENT;
 use crate::subcommand::Subcommand;
 
 /// The name of the command.
-pub const DIS: &str = "dis";
+pub(crate) const DIS: &str = "dis";
 
 /// `dis`, as the command line has it.
 pub(crate) const DIS_COMMAND: Subcommand = Subcommand {

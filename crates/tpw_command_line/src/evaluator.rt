@@ -7,7 +7,7 @@ use crate::shared::{
 use crate::subcommand::Subcommand;
 
 /// The name of the command.
-pub const EVAL: &str = "eval";
+pub(crate) const EVAL: &str = "eval";
 
 /// `eval`, as the command line has it.
 pub(crate) const EVAL_COMMAND: Subcommand = Subcommand {

@@ -4,7 +4,7 @@ use crate::shared::{FILE_ARGUMENT, OCCAM_ARGUMENT};
 use crate::subcommand::Subcommand;
 
 /// The name of the command.
-pub const WHY: &str = "why";
+pub(crate) const WHY: &str = "why";
 
 /// `why`, as the command line has it.
 pub(crate) const WHY_COMMAND: Subcommand = Subcommand {

@@ -4,7 +4,7 @@ use crate::shared::{FILE_ARGUMENT, OCCAM_ARGUMENT};
 use crate::subcommand::Subcommand;
 
 /// The name of the command.
-pub const LIST: &str = "list";
+pub(crate) const LIST: &str = "list";
 
 /// `list`, as the command line has it.
 pub(crate) const LIST_COMMAND: Subcommand = Subcommand {

@@ -1,13 +1,18 @@
-//! `profile`, as the command line has it.
+//! `profile`, as the command line has it, and what it is asked for.
 
+use crate::arguments::{asking, members};
+use crate::asking::Asking;
+use crate::ending::Ending;
 use crate::shared::{
     FILE_ARGUMENT, HEX_PACKETS_ARGUMENT, MEMBERS_ARGUMENT, OCCAM_ARGUMENT, PACKETS_ARGUMENT,
     WORDS_ARGUMENT,
 };
 use crate::subcommand::Subcommand;
+use clap::ArgMatches;
+use std::alloc::Global;
 
 /// The name of the command.
-pub const PROFILE: &str = "profile";
+pub(crate) const PROFILE: &str = "profile";
 
 /// `profile`, as the command line has it.
 pub(crate) const PROFILE_COMMAND: Subcommand = Subcommand {
@@ -28,3 +33,18 @@ Status 0: each worker stopped. Status 1: not so, or what is read says no worker.
         MEMBERS_ARGUMENT,
     ],
 };
+
+/// What `profile` is to count, and on how many members.
+#[derive(Drop)]
+pub struct Profiling {
+    pub asking: Asking,
+    pub members: usize,
+}
+
+/// What it is asked for.
+pub fn profiling_of(alloc: Global, matches: &ArgMatches<'_>) -> Result<Profiling, Ending> {
+    Ok(Profiling {
+        asking: asking(alloc, matches)?,
+        members: members(matches),
+    })
+}

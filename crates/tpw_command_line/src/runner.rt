@@ -1,16 +1,21 @@
-//! `run`, as the command line has it.
+//! `run`, as the command line has it, and what it is asked for.
 
 use crate::argument::{Argument, Kind};
+use crate::arguments::{members, showing};
+use crate::ending::Ending;
 use crate::options::{CHECK, EXPECT, RAW};
 use crate::shared::{
     EXPECT_ARGUMENT, FILE_ARGUMENT, HEX_ARGUMENT, HEX_EXPECT_ARGUMENT, HEX_PACKETS_ARGUMENT,
     MEMBERS_ARGUMENT, OCCAM_ARGUMENT, PACKETS_ARGUMENT, RAW_ARGUMENT, TRACE_ARGUMENT,
     WORDS_ARGUMENT,
 };
+use crate::showing::Showing;
 use crate::subcommand::Subcommand;
+use clap::ArgMatches;
+use std::alloc::Global;
 
 /// The name of the command.
-pub const RUN: &str = "run";
+pub(crate) const RUN: &str = "run";
 
 /// Whether runs are compared with what a text means.
 const CHECK_ARGUMENT: Argument = Argument {
@@ -45,3 +50,21 @@ so, or the worker is refused, as `why` explains it.",
         RAW_ARGUMENT,
     ],
 };
+
+/// What `run` is to run, and how.
+#[derive(Drop)]
+pub struct Running {
+    pub showing: Showing,
+    pub members: usize,
+    /// Whether what is made of packets is compared with what the text means by them.
+    pub check: bool,
+}
+
+/// What it is asked for.
+pub fn running_of(alloc: Global, matches: &ArgMatches<'_>) -> Result<Running, Ending> {
+    Ok(Running {
+        showing: showing(alloc, matches)?,
+        members: members(matches),
+        check: matches.get_flag(CHECK),
+    })
+}

@@ -1,14 +1,25 @@
-//! `step`, as the command line has it.
+//! `step`, as the command line has it, and what it is asked for.
+
+ghost use Rattle.std.specs.Prelude.{◌≤◌};
 
 use crate::argument::{Argument, Kind};
+use crate::arguments::{asking, has_packets, text_given};
+use crate::asking::Asking;
+use crate::ending::Ending;
 use crate::options::{FROM, HEX, NUMBER, UNTIL, WATCH};
+use crate::refusal::Refusal;
 use crate::shared::{
     FILE_ARGUMENT, HEX_PACKETS_ARGUMENT, OCCAM_ARGUMENT, PACKETS_ARGUMENT, WORDS_ARGUMENT,
 };
 use crate::subcommand::Subcommand;
+use clap::ArgMatches;
+use std::alloc::Global;
+use std::io::Read;
+use std::rt::Files;
+use tpw_files::Inputs;
 
 /// The name of the command.
-pub const STEP: &str = "step";
+pub(crate) const STEP: &str = "step";
 
 /// The packet that is followed.
 const NUMBER_ARGUMENT: Argument = Argument {
@@ -68,3 +79,87 @@ docs/WORKERS.md reads a run.",
         HEX_ARGUMENT,
     ],
 };
+
+/// A packet of those that are asked for, by its number.
+#[derive(Drop)]
+pub struct Picked {
+    pub asking: Asking,
+    pub number: usize,
+}
+
+impl Picked {
+    /// The packet.
+    fn packet<T: Files, R: Read>(
+        &self,
+        alloc: Global,
+        inputs: &mut Inputs<'_, T, R>,
+        bytes: usize,
+    ) -> Result<Vec<u8>, Ending>
+        requires { bytes ≤ 256 }
+    {
+        let packets = self.asking.packets(alloc, inputs, bytes)?;
+        match packets.get(self.number) {
+            Some(packet) => Ok(Vec::from_slice(alloc, packet)?),
+            None => Err(Ending::Refused(Refusal::NoNumber(self.number, packets.len()))),
+        }
+    }
+}
+
+/// What `step` is to show: a packet's run, from the place that a word names and as far as another, and of it the
+/// changes of some words.
+#[derive(Drop)]
+pub struct Stepping {
+    /// The packet, where one is given.
+    pub packet: Option<Picked>,
+    pub from: Option<String>,
+    pub until: Option<String>,
+    pub watch: Option<String>,
+    pub hexadecimal: bool,
+}
+
+impl Stepping {
+    /// Whether the file of packets is standard input.
+    pub fn is_standard(&self) -> bool {
+        match &self.packet {
+            Some(picked) => picked.asking.is_standard(),
+            None => false,
+        }
+    }
+
+    /// The packet of so many bytes whose run is shown; an empty one where none is given.
+    pub fn packet<T: Files, R: Read>(
+        &self,
+        alloc: Global,
+        inputs: &mut Inputs<'_, T, R>,
+        bytes: usize,
+    ) -> Result<Vec<u8>, Ending>
+        requires { bytes ≤ 256 }
+    {
+        match &self.packet {
+            Some(picked) => picked.packet(alloc, inputs, bytes),
+            None => Ok(Vec::new(alloc)),
+        }
+    }
+}
+
+/// The packet, where one is given.
+fn packet_given(alloc: Global, matches: &ArgMatches<'_>) -> Result<Option<Picked>, Ending> {
+    if !has_packets(matches) {
+        return Ok(None);
+    }
+    Ok(Some(Picked {
+        asking: asking(alloc, matches)?,
+        number: matches.get_one::<usize>(NUMBER).unwrap_or(0),
+    }))
+}
+
+/// What it is asked for.
+pub fn stepping_of(alloc: Global, matches: &ArgMatches<'_>) -> Result<Stepping, Ending> {
+    Ok(Stepping {
+        packet: packet_given(alloc, matches)?,
+        from: text_given(alloc, matches, FROM)?,
+        until: text_given(alloc, matches, UNTIL)?,
+        watch: text_given(alloc, matches, WATCH)?,
+        hexadecimal: matches.get_flag(HEX),
+    })
+}

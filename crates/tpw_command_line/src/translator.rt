@@ -4,7 +4,7 @@ use crate::shared::FILE_ARGUMENT;
 use crate::subcommand::Subcommand;
 
 /// The name of the command.
-pub const OCCAM: &str = "occam";
+pub(crate) const OCCAM: &str = "occam";
 
 /// `occam`, as the command line has it.
 pub(crate) const OCCAM_COMMAND: Subcommand = Subcommand {

@@ -1,4 +1,1 @@
-mod Naming
 mod Lines
-mod Others
-mod Origins

@@ -1,7 +1,7 @@
 -- The line of an image.
 use Rattle.std.proofs.Common.{◌≡◌, ◌∙◌, ℕ, List, ◌++◌, codes, Option, Some, Result, Ok, Err, IfOk, ap, sym, append_assoc}
 use Rattle.hex.specs.Hex.{encode_lower}
-use Rattle.tpw_inputs.specs.Programs.{IsAssembledTo}
+use Rattle.tpw_assembly.specs.Programs.{IsAssembledTo}
 use Rattle.tpw_commands.specs.Programs.{IsImageLine, image_line}
 
 regrouped : (a b c d : List ℕ) → a ++ (b ++ (c ++ d)) ≡ ((a ++ b) ++ c) ++ d

@@ -4,44 +4,14 @@ use Rattle.std.specs.IoError.{error_kind}
 use Rattle.std.specs.declared.io.Error.{Error as IoError}
 use Rattle.std.specs.declared.io.ErrorKind.{ErrorKind as IoKind}
 use Rattle.std.specs.declared.io.ErrorKind.TheVariants.{BrokenPipe}
-use Rattle.clap.specs.declared.error.Error.{Error}
-use Rattle.clap.specs.declared.error.kind.ErrorKind.{ErrorKind}
-use Rattle.clap.specs.declared.error.kind.ErrorKind.TheVariants.{DisplayHelp, DisplayVersion, OutOfMemory}
-use Rattle.tpw_step.specs.declared.run.End.{End}
-use Rattle.tpw_step.specs.declared.run.End.TheVariants as end
-use Rattle.tpw_inputs.specs.declared.failure.Failure.{Failure}
-use Rattle.tpw_inputs.specs.declared.failure.Failure.TheVariants as failure
-use Rattle.tpw_commands.specs.declared.ending.Ending.{Ending}
-use Rattle.tpw_commands.specs.declared.ending.Ending.TheVariants as ending
-use Rattle.tpw_commands.specs.declared.ending.Outcome.{Outcome}
-use Rattle.tpw_commands.specs.declared.ending.Outcome.TheVariants as outcome
-use Rattle.tpw_commands.specs.declared.ending.Refusal.TheVariants as refusal
-
--- by the kind of what clap answers to the words of a command line
-abbrev pub of_words : ErrorKind → Error → Ending
-of_words OutOfMemory error = ending.Failed failure.Memory
-of_words DisplayHelp error = ending.Shown error
-of_words DisplayVersion error = ending.Shown error
-of_words kind error = ending.Refused (refusal.Line error)
-
--- what a run answers, by its end
-abbrev pub of_run : End → Outcome
-of_run end.Stopped = outcome.Good
-of_run end.Left = outcome.Good
-of_run e = outcome.Bad
-
--- the status of what a command answers
-abbrev pub status_on : Outcome → ℕ
-status_on outcome.Good = 0
-status_on outcome.Bad = 1
-
--- the status of an ending: a text that was asked for, a command line that is refused, an input without messages, or a
--- failure
-abbrev pub status_of : Ending → ℕ
-status_of (ending.Shown error) = 0
-status_of (ending.Refused why) = 2
-status_of (ending.NoMessages input fault) = 1
-status_of (ending.Failed why) = 1
+use Rattle.tpw_files.specs.declared.failure.Failure.{Failure}
+use Rattle.tpw_files.specs.declared.failure.Failure.TheVariants as failure
+use Rattle.tpw_files.specs.declared.outcome.Outcome.{Outcome}
+use Rattle.tpw_files.specs.declared.outcome.Outcome.TheVariants as outcome
+use Rattle.tpw_files.specs.Outcomes.{status_on}
+use Rattle.tpw_command_line.specs.declared.ending.Ending.{Ending}
+use Rattle.tpw_command_line.specs.declared.ending.Ending.TheVariants as ending
+use Rattle.tpw_command_line.specs.Endings.{status_of}
 
 -- the status of the program, by what a command answers or how it ends early
 abbrev pub status_by : Result Outcome Ending → ℕ

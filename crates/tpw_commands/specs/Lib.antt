@@ -1,6 +1,3 @@
 -- What a reader must believe: clauses of public calls cite it.
 pub mod Endings
-pub mod Places
 pub mod Programs
-pub mod Checks
-pub mod Asked

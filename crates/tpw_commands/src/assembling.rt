@@ -3,30 +3,15 @@
 ghost use Rattle.std.specs.Prelude.{◌≡◌, ◌⊎◌, ℕ, List, IfOk, IfErr, OnOk, string_bytes};
 ghost use Rattle.std.specs.Io.KnownBytes.{Appends};
 ghost use Rattle.std.specs.Option.{option_map};
-ghost use Rattle.tpw_inputs.specs.declared.failure.Failure.TheVariants as failure;
-ghost use Rattle.tpw_inputs.specs.Programs.{IsUnassembled};
-ghost use Rattle.tpw_commands.specs.declared.ending.Outcome.TheVariants.{Good};
+ghost use Rattle.tpw_files.specs.declared.failure.Failure.TheVariants as failure;
+ghost use Rattle.tpw_assembly.specs.Programs.{IsUnassembled};
+ghost use Rattle.tpw_files.specs.declared.outcome.Outcome.TheVariants.{Good};
 ghost use Rattle.tpw_commands.specs.Programs.{IsImageLine, image_line};
 
-use crate::ending::Outcome;
 use std::alloc::{AllocError, Global};
 use std::io::Write;
-use tpw_inputs::{Failure, assembled_from};
-
-/// Writes a text, and flushes it.
-pub fn write_line<W: Write>(writer: &mut W, text: &str) -> Result<Outcome, Failure>
-    ensures text { OnOk result (Appends (W.contents writer.old) (W.contents writer.new) text.now) }
-    ensures good { IfOk result (λ outcome. outcome ≡ Good) }
-    ensures fault { IfErr result (λ e. e ≡ failure.Write) }
-{
-    if writer.write_all(text.as_bytes()).is_err() {
-        return Err(Failure::Write);
-    }
-    match writer.flush() {
-        Ok(()) => Ok(Outcome::Good),
-        Err(_) => Err(Failure::Write),
-    }
-}
+use tpw_assembly::assembled_from;
+use tpw_files::{Failure, Outcome, write_line};
 
 /// An image in hexadecimal on one line: behind `NAME IMAGE`, where a name is given.
 fn image_line(alloc: Global, image: &[u8], name: Option<&str>) -> Result<String, AllocError>

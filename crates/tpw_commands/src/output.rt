@@ -3,10 +3,10 @@
 ghost use Rattle.std.specs.Prelude.{◌≡◌, ◌≤◌, None};
 ghost use Rattle.tpw_commands.specs.Endings.{settled, status_by};
 
-use crate::ending::{Ending, Outcome};
 use std::io;
 use std::io::{ErrorKind, Write};
-use tpw_inputs::Failure;
+use tpw_command_line::Ending;
+use tpw_files::{Failure, Outcome};
 
 /// A writer, and why it has failed, if it has.
 #[derive(Drop)]

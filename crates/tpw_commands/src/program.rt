@@ -2,64 +2,27 @@
 
 ghost use Rattle.std.specs.Prelude.{◌≡◌, ◌≤◌, IfErr};
 ghost use Rattle.std.specs.Process.{exit_status};
-ghost use Rattle.tpw_commands.specs.Endings.{EndsEarly, status_by, status_of};
+ghost use Rattle.tpw_command_line.specs.Endings.{status_of};
+ghost use Rattle.tpw_commands.specs.Endings.{EndsEarly, status_by};
 
 use crate::assembling::{assemble_text, write_image};
-use crate::command_line::{Asked, Task, Work, asked_by};
-use crate::disassembly::disassemble_image;
-use crate::ending::{Ending, Outcome};
-use crate::evaluating::evaluate_packets;
 use crate::output::{Output, settle};
-use crate::profiling::profile_worker;
-use crate::refusing::judge;
-use crate::running::run_worker;
-use crate::stepping::step;
-use crate::terminal::Terminal;
+use crate::performing::{evaluate_text, perform_on};
 use crate::translating::translate;
-use crate::words::words_of;
 use std::alloc::Global;
 use std::env::Env;
+use std::fmt;
 use std::io::{Eprint, Read, Write};
 use std::process::ExitCode;
 use std::rt::Files;
 use std::sync::Wait;
 use std::thread::Threads;
 use std::time::Clock;
-use tpw_inputs::{
-    Failure, Input, Inputs, Language, Worker, note_traps, read_occam, read_worker, report_fault,
-};
-
-/// Does what is asked with a worker.
-fn perform_on<T, R: Read, W: Write, E: Write>(
-    rt: &T,
-    inputs: &mut Inputs<'_, T, R>,
-    alloc: Global,
-    worker: &Worker<'_>,
-    writer: &mut W,
-    terminal: &mut Terminal<'_, E>,
-    asked: &Asked,
-    work: &Work,
-) -> Result<Outcome, Ending>
-where
-    T: Files + Threads + Wait + Clock + Eprint + Sync,
-    ensures { IfErr result (λ e. status_of e ≡ 2 → W.contents writer.new ≡ W.contents writer.old) }
-{
-    let Asked {
-        input,
-        language,
-        ..
-    } = asked;
-    match work {
-        Work::Profile(profiling) => profile_worker(
-            rt, alloc, inputs, worker, writer, terminal, profiling,
-        ),
-        Work::Run(running) => run_worker(
-            rt, alloc, inputs, input, *language, worker, writer, terminal, running,
-        ),
-        Work::Step(stepping) => step(alloc, inputs, worker, writer, stepping),
-        Work::Judge(report) => Ok(judge(alloc, worker, *report, writer)?),
-    }
-}
+use tpw_assembly::{note_traps, report_fault};
+use tpw_command_line::{Asked, Ending, Task, asked_by, words_of};
+use tpw_files::{Failure, Input, Inputs, Language, Outcome, Terminal};
+use tpw_inputs::{read_occam, read_worker};
+use tpw_judging::disassemble_image;
 
 /// Writes the image that a text says, behind a name where one is given.
 fn assemble<W: Write, E: Write>(
@@ -105,7 +68,7 @@ where
         }
         Task::Evaluate(showing) => {
             let occam = read_occam(alloc, terminal.errors, input, text)?;
-            evaluate_packets(alloc, inputs, &occam, writer, terminal, showing)
+            evaluate_text(alloc, inputs, &occam, writer, terminal, showing)
         }
         Task::Translate => {
             let occam = read_occam(alloc, terminal.errors, input, text)?;
@@ -169,7 +132,7 @@ where
 }
 
 /// Writes the text that a command line asks for, and flushes it.
-fn show<W: Write>(writer: &mut Output<W>, text: &clap::Error) -> Result<Outcome, Ending>
+fn show<W: Write, T: fmt::Display>(writer: &mut Output<W>, text: &T) -> Result<Outcome, Ending>
     ensures { status_by result ≤ 1 }
 {
     match write!(writer, "{text}").and_then(|()| writer.flush()) {

@@ -1,10 +1,9 @@
 //! The command `occam`: the assembly text that a text in occam becomes.
 
-use crate::assembling::write_line;
-use crate::ending::Outcome;
 use std::alloc::{AllocError, Global};
 use std::io::Write;
-use tpw_inputs::{Failure, Occam};
+use tpw_files::{Failure, Outcome, write_line};
+use tpw_inputs::Occam;
 use tpw_occam::Located;
 use tpw_text::{Position, read_source, source_text};
 

@@ -6,7 +6,7 @@ use Rattle.tpw_asm.specs.declared.program.Program.{Program}
 use Rattle.tpw_asm.specs.Assembly.{IsAssembly}
 use Rattle.tpw_occam_core.specs.declared.worker.Worker.{Worker}
 use Rattle.tpw_occam_code.specs.Program.{Means}
-use Rattle.tpw_inputs.specs.Programs.{AreImageOf}
+use Rattle.tpw_assembly.specs.Programs.{AreImageOf}
 use Rattle.tpw_inputs.specs.Meanings.{AreAccepted, AreImageOfWorker, DoesWhatIsMeant}
 
 does_what_is_meant : (worker : Worker) (program : Program) (image : ImageValue) → Means worker program → IsAssembly program image

@@ -1,4 +1,1 @@
-mod Positions
-mod Reading
-mod Lines
 mod Compiled

@@ -1,7 +1,6 @@
 -- What a reader must believe: clauses of public calls cite it.
-pub mod Positions
-pub mod Texts
-pub mod Failures
-pub mod Programs
 pub mod Meanings
-pub mod Names
+pub mod Refusals
+pub use Rattle.tpw_assembly.specs.Programs
+pub use Rattle.tpw_files.specs.Failures
+pub use Rattle.tpw_files.specs.Unread

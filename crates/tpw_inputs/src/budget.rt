@@ -1,11 +1,11 @@
 //! Texts in occam whose workers would have too large a budget.
 
-use crate::failure::Failure;
 use std::alloc::Global;
 use std::fmt;
 use tp_accept::{Counted, costs};
 use tp_decode::{DecodeFault, decode};
 use tp_image::{Image, read_image};
+use tpw_files::Failure;
 use tpw_occam::{CompiledText, Message, message_at};
 
 /// A replicated SEQ: the line that it begins in, its turns, and the bytes of a turn.

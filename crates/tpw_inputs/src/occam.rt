@@ -3,18 +3,18 @@
 ghost use Rattle.std.specs.Prelude.{◌≡◌, ◌≤◌, IfOk, OnOk, true};
 ghost use Rattle.tpw_occam_core.specs.Sound.{is_sound};
 ghost use Rattle.tpw_inputs.specs.Meanings.{AreAccepted, AreImageOfWorker};
-ghost use Rattle.tpw_inputs.specs.Programs.{AreImageOf};
+ghost use Rattle.tpw_assembly.specs.Programs.{AreImageOf};
+ghost use Rattle.tpw_occam.specs.Compilation.{IsCompiled};
 
 use crate::budget::over_budget;
-use crate::failure::Failure;
-use crate::fault::{CompilerFault, InputFault};
-use crate::input::{Input, text_of};
+use crate::refused::{CompilerFault, report_compiler, report_messages, report_refusal};
 use std::alloc::Global;
 use std::io::Write;
 use tp_accept::{Refusal, RefusalCode, accept};
 use tp_image::{Image, read_image, write_image};
 use tpw_asm::{AssemblyFault, Program, assemble};
-use tpw_occam::{CompiledText, Defect, Message, OccamFault, compile_text};
+use tpw_files::{Failure, Input, InputFault, text_of};
+use tpw_occam::{CompiledText, Defect, Message, compile_text};
 
 /// A text in occam, what it is compiled to, and the bytes of its image, which is accepted.
 #[derive(Drop)]
@@ -44,21 +44,46 @@ fn write_notes<E: Write>(errors: &mut E, input: &Input, notes: &[Message]) {
     }
 }
 
+/// What a text is compiled to. Faults of the text are reported.
+fn compiled_from<'a, E: Write>(
+    alloc: Global,
+    errors: &mut E,
+    input: &Input,
+    text: &'a str,
+) -> Result<CompiledText<'a>, Failure>
+    ensures { IfOk result (IsCompiled text.now) }
+{
+    match compile_text(alloc, text) {
+        Ok(compiled) => Ok(compiled),
+        Err(fault) => Err(report_refusal(alloc, errors, input, text, fault)),
+    }
+}
+
 /// The bytes of the image of a program that was compiled.
-fn image_of(alloc: Global, program: &Program) -> Result<Vec<u8>, Failure>
+fn image_of<E: Write>(
+    alloc: Global,
+    errors: &mut E,
+    input: &Input,
+    program: &Program,
+) -> Result<Vec<u8>, Failure>
     ensures { IfOk result (λ bytes. AreImageOf program.now bytes.items) }
 {
     match assemble(alloc, program) {
         Ok(image) => Ok(write_image(alloc, &image)?),
         Err(AssemblyFault::Memory) => Err(Failure::Memory),
-        Err(fault) => Err(Failure::from(OccamFault::Compiler(Defect::Program(fault)))),
+        Err(fault) => {
+            let fault = CompilerFault::Made(Defect::Program(fault));
+            Err(report_compiler(errors, input, fault))
+        }
     }
 }
 
 /// Refuses a text whose image the verifier refuses: of one whose budget is too large that is the text's fault, else the
-/// compiler's.
-fn check_accepted(
+/// compiler's. It is reported.
+fn check_accepted<E: Write>(
     alloc: Global,
+    errors: &mut E,
+    input: &Input,
     text: &str,
     compiled: &CompiledText<'_>,
     bytes: &[u8],
@@ -73,16 +98,15 @@ fn check_accepted(
     };
     if code == RefusalCode::B1 {
         if let Some(message) = over_budget(alloc, text, compiled, bytes)? {
-            let mut messages = Vec::new(alloc);
-            messages.push(message)?;
-            return Err(Failure::Input(InputFault::Occam(messages)));
+            return Err(report_messages(alloc, errors, input, text, &[message]));
         }
     }
     let fault = CompilerFault::Refused { code, place };
-    Err(Failure::Input(InputFault::Compiler(fault)))
+    Err(report_compiler(errors, input, fault))
 }
 
-/// Reads a worker in occam. What may not be meant in it goes to `errors`.
+/// Reads a worker in occam. What may not be meant in it goes to `errors`, and so does why it says none
+/// (`Failure::Reported`).
 ///
 /// What the text means is `compiled.worker`: its packets' meanings are what the farm computes of the bytes.
 pub fn read_occam<'a, E: Write>(
@@ -99,10 +123,10 @@ pub fn read_occam<'a, E: Write>(
         return Err(Failure::Input(InputFault::Empty));
     }
     let text = text_of(text)?;
-    let compiled = compile_text(alloc, text)?;
+    let compiled = compiled_from(alloc, errors, input, text)?;
     write_notes(errors, input, &compiled.notes);
-    let bytes = image_of(alloc, &compiled.program)?;
-    check_accepted(alloc, text, &compiled, &bytes)?;
+    let bytes = image_of(alloc, errors, input, &compiled.program)?;
+    check_accepted(alloc, errors, input, text, &compiled, &bytes)?;
     Ok(Occam {
         text,
         compiled,

@@ -4,19 +4,15 @@ ghost use Rattle.std.specs.Prelude.{◌≡◌, ◌≤◌, IfOk, IfSome, None};
 ghost use Rattle.tp_image.specs.Text.{IsTextOf};
 ghost use Rattle.tpw_inputs.specs.Meanings.{AreImageOfWorker};
 
-use crate::failure::Failure;
-use crate::fault::InputFault;
-use crate::fields::assembled_text;
-use crate::input::{Input, TextFault, bytes_of, text_of};
-use crate::language::Language;
-use crate::notes::Notes;
 use crate::occam::{Occam, read_occam};
-use crate::traps::note_source;
+use crate::symbols::debug_info;
 use std::alloc::Global;
 use std::io::Write;
 use tp_image::{Image, read_image};
+use tpw_assembly::{assembled_text, note_source};
+use tpw_files::{Failure, Input, InputFault, Language, TextFault, bytes_of, text_of};
 use tpw_occam_core::Worker as Meaning;
-use tpw_source::SourceText;
+use tpw_source::{DebugInfo, SourceText};
 use tpw_text::read_source;
 
 /// A worker: the bytes of its image, accepted or not, what its text says of its code, and in occam what it means.
@@ -24,14 +20,14 @@ use tpw_text::read_source;
 pub struct Worker<'a> {
     pub bytes: Vec<u8>,
     pub meaning: Option<Meaning>,
-    notes: Option<Notes<'a>>,
+    debug: Option<DebugInfo<'a>>,
 }
 
 impl Worker<'_> {
     /// What its text says of its code: nothing, of an image in hexadecimal.
     pub fn source_text(&self) -> SourceText<'_> {
-        match &self.notes {
-            Some(notes) => notes.source_text(),
+        match &self.debug {
+            Some(debug) => debug.source_text(),
             None => SourceText::NONE,
         }
     }
@@ -57,11 +53,11 @@ fn read_assembly<'a, E: Write>(
     let source = read_source(alloc, text)?;
     note_source(alloc, errors, input, text, &source)?;
     let bytes = assembled_text(alloc, text, &source)?;
-    let notes = Notes::new(alloc, input, text, &source)?;
+    let debug = tpw_assembly::debug_info(alloc, input, text, &source)?;
     Ok(Worker {
         bytes,
         meaning: None,
-        notes: Some(notes),
+        debug: Some(debug),
     })
 }
 
@@ -79,11 +75,11 @@ fn read_compiled<'a, E: Write>(
         compiled,
         bytes,
     } = read_occam(alloc, errors, input, text)?;
-    let notes = Notes::of_occam(alloc, input, text, &compiled)?;
+    let debug = debug_info(alloc, input, text, &compiled)?;
     Ok(Worker {
         bytes,
         meaning: Some(compiled.worker),
-        notes: Some(notes),
+        debug: Some(debug),
     })
 }
 
@@ -103,7 +99,7 @@ fn read_assembled<'a, E: Write>(
         Ok(bytes) => Ok(Worker {
             bytes,
             meaning: None,
-            notes: None,
+            debug: None,
         }),
         Err(TextFault::Memory) => Err(Failure::Memory),
         Err(TextFault::NotADigit(_) | TextFault::HalfAByte(_)) => {

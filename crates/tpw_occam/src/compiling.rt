@@ -17,7 +17,7 @@ use tpw_occam_syntax::parse;
 use tpw_occam_tree::Source;
 
 /// A text, compiled.
-#[derive(Debug, Drop)]
+#[derive(Drop)]
 pub struct CompiledText<'t> {
     /// What the text means.
     pub worker: Worker,

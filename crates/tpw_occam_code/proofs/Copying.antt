@@ -56,7 +56,8 @@ array_sized k storages scope a place there = by_test (is_sized (storage_of stora
   where
     by_test : (b : Bool) → is_sized (storage_of storages a) ≡ b → (0 < slice_index k.arrays a) × (slice_index k.arrays a ≤ 2048)
     by_test true e = rw (storage_size k storages scope a place)
-        (ltb-true _ _ (and_first _ _ e), leb-true _ _ (and_second (nat_lt 0 (bytes_of (storage_of storages a))) _ e))
+        (let both = and_first (nat_lt 0 (bytes_of (storage_of storages a)) && nat_le (bytes_of (storage_of storages a)) 2048) _ e in
+        (ltb-true _ _ (and_first _ _ both), leb-true _ _ (and_second (nat_lt 0 (bytes_of (storage_of storages a))) _ both)))
     by_test false e = absurd (let not = sym (list_all_at is_sized storages a (storage.Zeros 0) there e) ∙ place.sized in cc)
 
 -- ---- an array takes bytes

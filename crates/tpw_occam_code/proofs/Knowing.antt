@@ -1,6 +1,6 @@
 -- What stays known of states, and of machines that match them, where a name or an array is declared.
 use Rattle.std.proofs.Common.{◌≡◌, ◌⊎◌, inl, inr, ◌+◌, ◌≤◌, ◌<◌, [], ◌∷◌, ◌++◌, ℕ, zero, suc, List, length, map, Option, Some, None, Bool, false, true, nat_eq, refl, ap, sym, subst, ◌∙◌, arith}
-use Rattle.std.specs.Prelude.{slice_index, slice_set, slice_index_or, slice_get, ◌||◌, ◌&&◌, not, nat_lt, IsTrue, replicate}
+use Rattle.std.specs.Prelude.{slice_index, slice_set, slice_index_or, slice_get, ◌||◌, ◌&&◌, not, nat_lt, nat_le, IsTrue, replicate}
 use Rattle.std.specs.List.{list_any, list_all}
 use Rattle.std.proofs.Math.Bool.{or-false}
 use Rattle.std.proofs.lemmas.Bool.{ltb-true, leb-true, eqb-true, eq-eqb}
@@ -328,7 +328,7 @@ sized_at : (storages : List Storage) (a : ℕ) → IsTrue (list_all is_sized sto
     → (0 < slice_index (map bytes_of storages) a) × (slice_index (map bytes_of storages) a ≤ 2048)
 sized_at [] a sized h = absurd (omega (arith, h))
 sized_at (storage ∷ storages) zero sized h =
-    let one = and_first (is_sized storage) _ sized in (ltb-true 0 _ (and_first _ _ one), leb-true _ 2048 (and_second (nat_lt 0 (bytes_of storage)) _ one))
+    let one = and_first (nat_lt 0 (bytes_of storage) && nat_le (bytes_of storage) 2048) _ (and_first (is_sized storage) _ sized) in (ltb-true 0 _ (and_first _ _ one), leb-true _ 2048 (and_second (nat_lt 0 (bytes_of storage)) _ one))
 sized_at (storage ∷ storages) (suc a) sized h = sized_at storages a (and_second (is_sized storage) _ sized) (omega (arith, h))
 
 pub length_at : (arrays : List (List ℕ)) (a : ℕ) → length (slice_index_or arrays a []) ≡ slice_index (map length arrays) a

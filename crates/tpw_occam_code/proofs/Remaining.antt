@@ -31,7 +31,7 @@ use Rattle.tpw_occam_code.specs.declared.range.Range.{Range}
 use Rattle.tpw_occam_code.specs.Ranges.{Contains}
 use Rattle.tpw_occam_code.specs.Agreement.{Knowledge, fact_at, with_fact, fact_of_kind, constant_fact, counted_fact, constant_in, FitsFact}
 use Rattle.tpw_occam_code.specs.Computing.{Binds}
-use Rattle.tpw_occam_code.specs.Executing.{IsProcessPlace, none_unset, KnowsState, Follows, Remains, HasWords, HaveWords, ChoosesKnown, RepeatsKnown, cleared, is_skip}
+use Rattle.tpw_occam_code.specs.Executing.{IsProcessPlace, none_unset, KnowsState, Follows, Remains, ChoosesKnown, RepeatsKnown, cleared, is_skip}
 use Rattle.tpw_occam_code.proofs.Words.{applied_small}
 use Rattle.tpw_occam_code.proofs.Ranges.{full_contains, byte_contains}
 use Rattle.tpw_occam_code.proofs.Constructs.{constant_value}
@@ -93,28 +93,28 @@ small_taken count scope x v s long new small are = record {
     by_name y (inr same) = rw (sym same) (rw (slice_same s.values x v 0 (omega (arith, long, within))) small)
 
 pub value_small : (count : ℕ) (stores : List Storage) (scope : List Entry) (e : Expression) (s : Store) → length s.values ≡ count
-    → IsTrue (is_sound_expression count stores scope e) → HasWords e → AreSmall scope s → (value_of e s).word < 2 ^ 32
-value_small count stores scope (Constant c) s long sound words are = words
-value_small count stores scope (expression.Variable x) s long sound words are = are.names x sound
-value_small count stores scope (Element' a kind p e) s long sound words are = element_small kind (array_of s a) _ (are.bytes a)
-value_small count stores scope (Checked' below p e) s long sound words are =
-    subscript_small below (value_of e s).word (value_small count stores scope e s long (and_second _ _ sound) words are)
-value_small count stores scope (Binary' operator p e q f) s long sound words are =
+    → IsTrue (is_sound_expression count stores scope e) → AreSmall scope s → (value_of e s).word < 2 ^ 32
+value_small count stores scope (Constant c) s long sound are = ltb-true c (2 ^ 32) sound
+value_small count stores scope (expression.Variable x) s long sound are = are.names x sound
+value_small count stores scope (Element' a kind p e) s long sound are = element_small kind (array_of s a) _ (are.bytes a)
+value_small count stores scope (Checked' below p e) s long sound are =
+    subscript_small below (value_of e s).word (value_small count stores scope e s long (and_second _ _ sound) are)
+value_small count stores scope (Binary' operator p e q f) s long sound are =
     applied_small operator (value_of e s).word (value_of f s).word
-    (value_small count stores scope e s long (and_first _ _ sound) words.0 are)
-    (value_small count stores scope f s long (and_second (is_sound_expression count stores scope e) _ sound) words.1 are)
-value_small count stores scope (Complement' p e) s long sound words are = omega arith
-value_small count stores scope (Not' p e) s long sound words are = truth_small ((value_of e s).word == 0)
-value_small count stores scope (LowByte' p e) s long sound words are = omega arith
-value_small count stores scope (And' p e q f) s long sound words are =
-    both_small (value_of e s).word (value_of f s) (value_small count stores scope f s long (and_second (is_sound_expression count stores scope e) _ sound) words.1 are)
-value_small count stores scope (Or' p e q f) s long sound words are = either_small (value_of e s).word (value_of f s)
-value_small count stores scope (Let' x p e q f) s long sound words are =
+    (value_small count stores scope e s long (and_first _ _ sound) are)
+    (value_small count stores scope f s long (and_second (is_sound_expression count stores scope e) _ sound) are)
+value_small count stores scope (Complement' p e) s long sound are = omega arith
+value_small count stores scope (Not' p e) s long sound are = truth_small ((value_of e s).word == 0)
+value_small count stores scope (LowByte' p e) s long sound are = omega arith
+value_small count stores scope (And' p e q f) s long sound are =
+    both_small (value_of e s).word (value_of f s) (value_small count stores scope f s long (and_second (is_sound_expression count stores scope e) _ sound) are)
+value_small count stores scope (Or' p e q f) s long sound are = either_small (value_of e s).word (value_of f s)
+value_small count stores scope (Let' x p e q f) s long sound are =
     let v = (value_of e s).word in
     let new = and_second (is_sound_expression count stores scope e) _ (and_first _ _ sound) in
     value_small count stores (scope ++ entry.Value x ∷ []) f (with_value x v s) (slice_length s.values x v ∙ long)
-    (and_second (is_sound_expression count stores scope e && is_new_name count scope x) _ sound) words.1
-    (small_taken count scope x v s long new (value_small count stores scope e s long (and_first _ _ (and_first _ _ sound)) words.0 are) are)
+    (and_second (is_sound_expression count stores scope e && is_new_name count scope x) _ sound)
+    (small_taken count scope x v s long new (value_small count stores scope e s long (and_first _ _ (and_first _ _ sound)) are) are)
 
 known_small : (k : Knowledge) (scope : List Entry) (s : Store) → KnowsState k scope s → AreSmall scope s
 known_small k scope s known = record { names = λ x there. (known.knows.names x there refl).small; bytes = known.knows.bytes }
@@ -255,26 +255,26 @@ follows_stored k stores scope (target.Element a kind e) i v s u place sound smal
     (element_bytes kind (array_of u a) i v (follows.knows.knows.bytes a)) follows
 
 follows_assigned : (k : Knowledge) (stores : List Storage) (scope : List Entry) (list : List Assignment) (s : Store) → IsProcessPlace k stores scope
-    → IsTrue (list_all (is_sound_assignment (length k.kinds) stores scope) list) → HaveWords list → KnowsState k scope s
+    → IsTrue (list_all (is_sound_assignment (length k.kinds) stores scope) list) → KnowsState k scope s
     → Follows k scope s (assigned k.kinds list s)
-follows_assigned k stores scope [] s place sound words known = follows_same k scope s known
-follows_assigned k stores scope (a ∷ more) s place sound words known =
+follows_assigned k stores scope [] s place sound known = follows_same k scope s known
+follows_assigned k stores scope (a ∷ more) s place sound known =
     let one = and_first (is_sound_assignment (length k.kinds) stores scope a) _ sound in
     let v = (value_of a.value s).word in
     let i = (subscript_of a.target s).word in
     let u = assigned k.kinds more s in
     let small = value_small (length k.kinds) stores scope a.value s known.knows.count (and_second (is_sound_target (length k.kinds) stores scope a.target) _ one)
-    words.0 (known_small k scope s known) in
+    (known_small k scope s known) in
     follows_flags k scope s (stored k.kinds a.target i v u) (assigned k.kinds (a ∷ more) s) refl refl
     (follows_stored k stores scope a.target i v s u place (and_first _ _ one) small
-    (follows_assigned k stores scope more s place (and_second (is_sound_assignment (length k.kinds) stores scope a) _ sound) words.1 known))
+    (follows_assigned k stores scope more s place (and_second (is_sound_assignment (length k.kinds) stores scope a) _ sound) known))
 
 -- ---- processes
 
-pub assign_remains : (k : Knowledge) (list : List Assignment) → HaveWords list
+pub assign_remains : (k : Knowledge) (list : List Assignment)
     → (storages : List Storage) (scope : List Entry) (s : Store) → IsProcessPlace k storages scope
     → IsTrue (list_all (is_sound_assignment (length k.kinds) storages scope) list) → KnowsState k scope s → Follows k scope s (assigned k.kinds list s)
-assign_remains k list words storages scope s place sound known = follows_assigned k storages scope list s place sound words known
+assign_remains k list storages scope s place sound known = follows_assigned k storages scope list s place sound known
 
 pub skip_remains : (k : Knowledge) → Remains k process.Skip
 skip_remains k storages scope s place sound known = follows_same k scope s known

@@ -4,7 +4,7 @@ use Rattle.std.specs.Prelude.{slice_index, slice_set, slice_index_or, ◌||◌, 
 use Rattle.std.specs.Int.{to_le_bytes}
 use Rattle.std.specs.List.{list_any, list_all}
 use Rattle.std.proofs.Math.Bool.{or_assoc}
-use Rattle.std.proofs.lemmas.Bool.{eqb-true, eq-eqb, cases_lt}
+use Rattle.std.proofs.lemmas.Bool.{eqb-true, eq-eqb, cases_lt, lt-ltb}
 use Rattle.std.proofs.lemmas.Int.{ints, to_z_pos}
 use Rattle.tp_decode.specs.Words.{signed}
 use Rattle.tpw_occam_core.specs.declared.arithmetic.Answer.{Answer}
@@ -508,7 +508,7 @@ move_keeps k old new all i temporaries there has_small keeps made more rest wait
     let word_small : v.word < 2 ^ 32 = has_small storages scope unset s place.place (make_stands k storages scope unset one one_may) known in
     let left_may : MayMakeAll k storages scope unset (pending all words_then left) = record {
       sound = marks_all (is_sound_assignment count storages scope) all words i v.word waiting left
-          (λ h. and_both _ _ (and_first _ _ h) refl) marks may.sound;
+          (λ h. and_both _ _ (and_first _ _ h) (lt-ltb v.word (2 ^ 32) word_small)) marks may.sound;
       assigned = λ x h. marks_none (sources_read x) all words i v.word waiting left
           (λ e. or_second (reads one.value x) _ e) marks (may.assigned x h);
     } in

@@ -1,7 +1,7 @@
 -- A program that is made of a worker's code means what the worker does.
 use Rattle.std.proofs.Common.{◌≡◌, ℕ, zero, suc, ◌+◌, ◌-◌, ◌*◌, ◌/◌, ◌%◌, ◌<◌, ◌^◌, Bool, true, false, List, [], ◌∷◌, ◌++◌, length, map}
 use Rattle.std.proofs.Common.{replicate, slice_get, Some, None, refl, ap, sym, subst, ◌∙◌, arith, w32}
-use Rattle.std.specs.Prelude.{slice_index, flat_map, All, IsTrue, ◌&&◌, if◌then◌else◌, nat_lt}
+use Rattle.std.specs.Prelude.{slice_index, flat_map, All, IsTrue, ◌&&◌, if◌then◌else◌, nat_lt, nat_le}
 use Rattle.std.specs.Int.{to_le_bytes}
 use Rattle.std.proofs.lemmas.Bool.{ltb-true, leb-true, eqb-true}
 use Rattle.std.proofs.lemmas.Option.{same_Some}
@@ -82,7 +82,11 @@ declared_small w a declared = sized_small w.arrays.items a (and_first _ _ (and_f
   where
     sized_small : (storages : List Storage) (a : ℕ) → IsTrue (list_all is_sized storages) → slice_index (map size_of storages) a < 2 ^ 32
     sized_small [] a sized = omega arith
-    sized_small (one ∷ storages) zero sized = omega (arith, leb-true (size_of one) 2048 (and_second _ _ (and_first (is_sized one) _ sized)))
+    sized_small (one ∷ storages) zero sized = omega (
+      arith,
+      leb-true (size_of one) 2048
+          (and_second _ _ (and_first (nat_lt 0 (size_of one) && nat_le (size_of one) 2048) _ (and_first (is_sized one) _ sized))),
+    )
     sized_small (one ∷ storages) (suc a) sized = sized_small storages a (and_second (is_sized one) _ sized)
 
 -- the size of an array that is a message

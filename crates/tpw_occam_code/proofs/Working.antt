@@ -1,17 +1,17 @@
 -- The code of a worker makes of a packet what the worker does.
 use Rattle.std.proofs.Common.{◌≡◌, ◌≢◌, ◌⊎◌, inl, inr, ℕ, zero, suc, ◌+◌, ◌<◌, ◌≤◌, ◌^◌, Bool, true, false, List, [], ◌∷◌, ◌++◌, length, map, nat_eq}
 use Rattle.std.proofs.Common.{replicate, slice_get, Option, Some, None, refl, ap, sym, subst, ◌∙◌, arith}
-use Rattle.std.specs.Prelude.{slice_index, slice_index_or, slice_set, All, IsTrue, nat_lt, ◌||◌, ◌&&◌}
+use Rattle.std.specs.Prelude.{slice_index, slice_index_or, slice_set, All, IsTrue, nat_lt, nat_le, ◌||◌, ◌&&◌}
 use Rattle.std.specs.List.{list_all, list_any}
 use Rattle.std.proofs.lemmas.Bool.{ltb-true, leb-true, eqb-true, eqb-false, cases_lt}
 use Rattle.std.proofs.lemmas.Int.{ints}
-use Rattle.std.proofs.lemmas.List.Elements.{All-head, All-tail}
 use Rattle.std.proofs.lemmas.List.{length-map, length-replicate, length-set, get_or-replicate, get_or_past, get_or-set_same, get_or-set_other}
 use Rattle.tpw_occam_core.specs.declared.kind.Kind.{Kind}
 use Rattle.tpw_occam_core.specs.declared.kind.Kind.TheVariants.{Word, Byte}
 use Rattle.tpw_occam_core.specs.declared.scope.Entry.{Entry}
 use Rattle.tpw_occam_core.specs.declared.scope.Entry.TheVariants as entry
 use Rattle.tpw_occam_core.specs.declared.worker.Storage.{Storage}
+use Rattle.tpw_occam_core.specs.declared.worker.Storage.TheVariants.{Zeros, Table}
 use Rattle.tpw_occam_core.specs.declared.worker.Place.{Place}
 use Rattle.tpw_occam_core.specs.declared.worker.Place.TheVariants as place
 use Rattle.tpw_occam_core.specs.declared.worker.Worker.{Worker}
@@ -25,7 +25,7 @@ use Rattle.tpw_occam_code.specs.Symbolic.{Machine}
 use Rattle.tpw_occam_code.specs.Leading.{Does}
 use Rattle.tpw_occam_code.specs.Agreement.{Knowledge, fact_at, fact_of_kind, any_word, FitsFact}
 use Rattle.tpw_occam_code.specs.Executing.{IsProcessPlace, MayRun, KnowsState, Matches, Executes, first_use, none_unset}
-use Rattle.tpw_occam_code.specs.Starting.{AreBytes, knowledge_of, FitsPlace, IsInScope, Receives, DoesLast, Sends, Begins, IsSent, Stops, Works}
+use Rattle.tpw_occam_code.specs.Starting.{knowledge_of, FitsPlace, IsInScope, Receives, DoesLast, Sends, Begins, IsSent, Stops, Works}
 use Rattle.tpw_occam_code.proofs.Ranges.{full_contains}
 use Rattle.tpw_occam_code.proofs.Starting.{index_zeros, size_at, sound_declared, sound_message}
 use Rattle.tpw_occam_code.proofs.Standing.{and_first, and_second}
@@ -44,13 +44,23 @@ HasBytes w = (a i : ℕ) → slice_index (slice_index_or (map first_bytes w.arra
 none_some : {c : ℕ} → ◌≡◌ {A = Option ℕ} None (Some c) → ⊥
 none_some e = cc
 
-pub has_bytes : (w : Worker) → All AreBytes w.arrays.items → HasBytes w
-has_bytes w all = by_list w.arrays.items all
+list_bytes : (bytes : List ℕ) (i : ℕ) → IsTrue (list_all (λ b. nat_lt b 256) bytes) → slice_index bytes i < 256
+list_bytes [] i all = omega arith
+list_bytes (b ∷ bytes) zero all = ltb-true b 256 (and_first (nat_lt b 256) _ all)
+list_bytes (b ∷ bytes) (suc i) all = list_bytes bytes i (and_second (nat_lt b 256) _ all)
+
+storage_bytes : (storage : Storage) (i : ℕ) → IsTrue (is_sized storage) → slice_index (first_bytes storage) i < 256
+storage_bytes (Zeros n) i sized = rw (index_zeros n i) (omega arith)
+storage_bytes (Table bytes) i sized = list_bytes bytes.items i (and_second (nat_lt 0 (size_of (Table bytes)) && nat_le (size_of (Table bytes)) 2048) _ sized)
+
+has_bytes : (w : Worker) → IsTrue (are_declared w) → HasBytes w
+has_bytes w declared = by_list w.arrays.items (and_first _ _ (and_first _ _ declared))
   where
-    by_list : (storages : List Storage) → All AreBytes storages → (a i : ℕ) → slice_index (slice_index_or (map first_bytes storages) a []) i < 256
-    by_list [] all a i = omega arith
-    by_list (one ∷ storages) all zero i = All-head AreBytes one storages all i
-    by_list (one ∷ storages) all (suc a) i = by_list storages (All-tail AreBytes one storages all) a i
+    by_list : (storages : List Storage) → IsTrue (list_all is_sized storages) → (a i : ℕ)
+        → slice_index (slice_index_or (map first_bytes storages) a []) i < 256
+    by_list [] sized a i = omega arith
+    by_list (one ∷ storages) sized zero i = storage_bytes one i (and_first (is_sized one) _ sized)
+    by_list (one ∷ storages) sized (suc a) i = by_list storages (and_second (is_sized one) _ sized) a i
 
 false_true : ◌≡◌ {A = Bool} false true → ⊥
 false_true e = cc
@@ -83,7 +93,7 @@ sized_at : (storages : List Storage) (a : ℕ) → IsTrue (list_all is_sized sto
     → (0 < slice_index (map size_of storages) a) × (slice_index (map size_of storages) a ≤ 2048)
 sized_at [] a sized h = absurd (omega (arith, h))
 sized_at (one ∷ storages) zero sized h =
-    let here = and_first (is_sized one) _ sized in (ltb-true 0 (size_of one) (and_first _ _ here), leb-true (size_of one) 2048 (and_second (nat_lt 0 (size_of one)) _ here))
+    let here = and_first (nat_lt 0 (size_of one) && nat_le (size_of one) 2048) _ (and_first (is_sized one) _ sized) in (ltb-true 0 (size_of one) (and_first _ _ here), leb-true (size_of one) 2048 (and_second (nat_lt 0 (size_of one)) _ here))
 sized_at (one ∷ storages) (suc a) sized h = sized_at storages a (and_second (is_sized one) _ sized) (omega (arith, h))
 
 facts_at : (kinds : List Kind) (x : ℕ) → slice_index_or (map fact_of_kind kinds) x any_word ≡ fact_of_kind (slice_index_or kinds x Word)
@@ -239,7 +249,7 @@ zeros_fit storages p = record {
   bytes = λ i d h. rw (get_or-replicate (place_bytes storages p) i 0 d (omega (arith, h, length-replicate {A = ℕ} (place_bytes storages p) 0))) (omega arith);
 }
 
-module _ (w : Worker) (one two three : Lines) (remains : KnowsAfter (knowledge_of w) w.body) (sound : IsTrue (is_sound w)) (bytes : HasBytes w)
+module _ (w : Worker) (one two three : Lines) (remains : KnowsAfter (knowledge_of w) w.body) (sound : IsTrue (is_sound w))
     (receives : Receives (knowledge_of w) (none_at 0) one w.receive) (executes : Executes (knowledge_of w) one two w.body)
     (sends : Sends (knowledge_of w) two three w.send) where
   stands : IsProcessPlace (knowledge_of w) w.arrays.items (globals w)
@@ -253,7 +263,7 @@ module _ (w : Worker) (one two three : Lines) (remains : KnowsAfter (knowledge_o
 
   module _ (packet : List ℕ) (fits : FitsPlace w.arrays.items w.receive packet) where
     knows_before : KnowsState (knowledge_of w) (globals w) (received w.receive packet (first w))
-    knows_before = received_knows (knowledge_of w) w.arrays.items (globals w) w.receive packet (first w) stands (in_scope w sound) fits (first_knows w bytes)
+    knows_before = received_knows (knowledge_of w) w.arrays.items (globals w) w.receive packet (first w) stands (in_scope w sound) fits (first_knows w (has_bytes w (sound_declared w sound)))
 
     knows_after : KnowsState (knowledge_of w) (globals w) (after w packet)
     knows_after = remains w.arrays.items (globals w) (received w.receive packet (first w)) stands body knows_before
@@ -264,7 +274,7 @@ module _ (w : Worker) (one two three : Lines) (remains : KnowsAfter (knowledge_o
         (λ m end. Matches (knowledge_of w) w.arrays.items (globals w) none_unset (after w packet) end × (end.sent ≡ m.sent))
     does =
         does_both (knowledge_of w).arrays (none_at 0) one two _ _ _ _ _
-        (receives w.arrays.items (globals w) (first w) packet stands (in_scope w sound) fits (first_knows w bytes))
+        (receives w.arrays.items (globals w) (first w) packet stands (in_scope w sound) fits (first_knows w (has_bytes w (sound_declared w sound))))
         (executes w.arrays.items (globals w) none_unset (received w.receive packet (first w)) stands runs knows_before)
         (λ m middle said after. after.0)
         (λ m middle end said after then. (then.0, then.1.sent ∙ after.1))

@@ -1,5 +1,5 @@
 -- What the code of a process does.
-use Rattle.std.specs.Prelude.{◌≡◌, ◌≢◌, ℕ, ◌+◌, ◌*◌, ◌^◌, ◌<◌, ◌≤◌, Bool, true, false, ◌||◌, ◌&&◌, ◌==◌, if◌then◌else◌}
+use Rattle.std.specs.Prelude.{◌≡◌, ◌≢◌, ℕ, ◌+◌, ◌*◌, ◌<◌, ◌≤◌, Bool, true, false, ◌||◌, ◌&&◌, ◌==◌, if◌then◌else◌}
 use Rattle.std.specs.Prelude.{nat_le}
 use Rattle.std.specs.Prelude.{List, [], ◌∷◌, ◌++◌, length, map, replicate, slice_index, slice_get, Some, IsTrue, Box}
 use Rattle.std.specs.Global.{Global}
@@ -8,10 +8,6 @@ use Rattle.tpw_occam_core.specs.declared.worker.Storage.{Storage}
 use Rattle.tpw_occam_core.specs.declared.scope.Entry.{Entry}
 use Rattle.tpw_occam_core.specs.declared.scope.Entry.TheVariants as entry
 use Rattle.tpw_occam_core.specs.declared.expression.Expression.{Expression}
-use Rattle.tpw_occam_core.specs.declared.expression.Expression.TheVariants as expression
-use Rattle.tpw_occam_core.specs.declared.expression.Expression.TheVariants.{Constant, Element', Checked', Binary'}
-use Rattle.tpw_occam_core.specs.declared.expression.Expression.TheVariants.{Complement', Not', LowByte', And', Or'}
-use Rattle.tpw_occam_core.specs.declared.expression.Expression.TheVariants.{Let'}
 use Rattle.tpw_occam_core.specs.declared.process.Target.{Target}
 use Rattle.tpw_occam_core.specs.declared.process.Target.TheVariants as target
 use Rattle.tpw_occam_core.specs.declared.process.Assignment.{Assignment}
@@ -229,25 +225,6 @@ Repeats k old new x start count body = (p : Box (Unit {0}) Global)
     → Executes k old new (process.Repeat' x start count p body)
 
 -- ---- what stays known
-
--- every constant of an expression is a word
-abbrev pub HasWords : Expression → Type 0
-HasWords (Constant c) = c < 2 ^ 32
-HasWords (expression.Variable x) = Unit {0}
-HasWords (Element' a kind p e) = HasWords e
-HasWords (Checked' below p e) = HasWords e
-HasWords (Binary' operator p e q f) = HasWords e × HasWords f
-HasWords (Complement' p e) = HasWords e
-HasWords (Not' p e) = HasWords e
-HasWords (LowByte' p e) = HasWords e
-HasWords (And' p e q f) = HasWords e × HasWords f
-HasWords (Or' p e q f) = HasWords e × HasWords f
-HasWords (Let' x p e q f) = HasWords e × HasWords f
-
--- .. and of each value that is assigned
-abbrev pub HaveWords : List Assignment → Type 0
-HaveWords [] = Unit {0}
-HaveWords (a ∷ more) = HasWords a.value × HaveWords more
 
 -- A state that a process leaves: it is known as before, and names that are no variables keep their values.
 pub record Follows (k : Knowledge) (scope : List Entry) (s t : Store) : Type 0 where

@@ -38,10 +38,6 @@ first_blocks w (Constant c) i = slice_index (to_le_bytes w32 c) i
 first_blocks w (Array a) i = slice_index (slice_index_or (map first_bytes w.arrays.items) a []) i
 first_blocks w item i = 0
 
--- bytes of an array are bytes
-abbrev pub AreBytes : Storage → Type 0
-AreBytes storage = (i : ℕ) → slice_index (first_bytes storage) i < 256
-
 -- ---- packets
 
 pub record FitsPlace (storages : List Storage) (p : Place) (packet : List ℕ) : Type 0 where

@@ -4,7 +4,7 @@ ghost use Rattle.std.specs.Prelude.{◌≡◌, ◌<◌, ◌^◌};
 ghost use Rattle.std.specs.List.{list_any};
 ghost use Rattle.tpw_occam_code.specs.Computing.{reads};
 ghost use Rattle.tpw_occam_code.specs.Executing.{then_first, either_first, first_in, first_in_message, sources_read};
-ghost use Rattle.tpw_occam_code.specs.Executing.{is_target, first_in_assignments, first_use, HasWords, HaveWords};
+ghost use Rattle.tpw_occam_code.specs.Executing.{is_target, first_in_assignments, first_use};
 ghost use Rattle.tpw_occam_code.specs.Assigning.{reads_array, reads_target, are_near};
 
 use tpw_occam_core::{Assignment, Expression, Message, Process, Target};
@@ -255,69 +255,5 @@ pub(crate) fn first_use(p: &Process, x: usize) -> First
         }
         Process::Trace(m) => in_message(m, x),
         Process::At { line: _, body } => first_use(body, x),
-    }
-}
-
-/// A word.
-fn word(c: u32) -> u32
-    ensures same { result ≡ c }
-    ensures small { result < 2 ^ 32 }
-{
-    c
-}
-
-/// Each constant of an expression is a word. It does nothing: its contract says what types say.
-fn law_constants_are_words(e: &Expression)
-    ensures { HasWords e.now }
-{
-    match e {
-        Expression::Constant(c) => {
-            word(*c);
-        }
-        Expression::Variable(_) => {}
-        Expression::Element {
-            array: _,
-            kind: _,
-            subscript,
-        } => law_constants_are_words(subscript),
-        Expression::Checked {
-            below: _,
-            subscript,
-        } => law_constants_are_words(subscript),
-        Expression::Binary {
-            operator: _,
-            left,
-            right,
-        } => {
-            law_constants_are_words(left);
-            law_constants_are_words(right);
-        }
-        Expression::Complement(e) | Expression::Not(e) | Expression::LowByte(e) =>
-            law_constants_are_words(e),
-        Expression::And(left, right) | Expression::Or(left, right) => {
-            law_constants_are_words(left);
-            law_constants_are_words(right);
-        }
-        Expression::Let {
-            name: _,
-            value,
-            within,
-        } => {
-            law_constants_are_words(value);
-            law_constants_are_words(within);
-        }
-    }
-}
-
-/// .. of each value that is assigned.
-pub(crate) fn law_values_are_words(list: &[Assignment])
-    ensures { HaveWords list.now }
-{
-    match list {
-        [] => {}
-        [first, more @ ..] => {
-            law_constants_are_words(&first.value);
-            law_values_are_words(more);
-        }
     }
 }

@@ -1,11 +1,11 @@
 //! From a worker to its program.
 
-ghost use Rattle.std.specs.Prelude.{◌≡◌, ℕ, ◌*◌, ◌<◌, All, IfOk, IsTrue, OnOk, slice_index};
+ghost use Rattle.std.specs.Prelude.{◌≡◌, ◌*◌, IfOk, IsTrue, OnOk};
 ghost use Rattle.tpw_occam_core.specs.Sound.{is_sound};
 ghost use Rattle.tpw_occam_code.specs.Program.{HasLayout, Means, GivesRuled, place_bytes, message_bytes};
 ghost use Rattle.tpw_occam_code.specs.Flowing.{Ends};
 ghost use Rattle.tpw_occam_code.specs.Placing.{AreBetween, IsBuilt};
-ghost use Rattle.tpw_occam_code.specs.Starting.{AreBytes, Works};
+ghost use Rattle.tpw_occam_code.specs.Starting.{Works};
 
 use crate::code::Code;
 use crate::emitter::Emitter;
@@ -35,36 +35,11 @@ pub struct Compiled {
     pub placed: Vec<Placed>,
 }
 
-/// Bytes are below 256. It does nothing: its contract says what types say.
-fn law_bytes(_bytes: &[u8])
-    ensures { (i : ℕ) → slice_index _bytes.now i < 256 }
-{}
-
-/// .. the bytes of an array, ..
-fn law_array(storage: &Storage)
-    ensures { AreBytes storage.now }
-{
-    match storage {
-        Storage::Zeros(_) => {}
-        Storage::Table(bytes) => law_bytes(bytes),
-    }
-}
-
-/// .. and of all arrays.
-fn law_arrays(worker: &Worker)
-    ensures { All AreBytes worker.now.arrays.items }
-{
-    for storage in &worker.arrays {
-        law_array(storage);
-    }
-}
-
 /// The code of a worker.
 fn code_of(alloc: Global, worker: &Worker) -> Result<Code, CodeFault>
     ensures works { IfOk result (λ code. IsTrue (is_sound worker.now) → Works worker.now code) }
     ensures ends { IfOk result (λ code. Ends code) }
 {
-    law_arrays(worker);
     let mut emitter = Emitter::new(alloc, worker)?;
     let mut code = Code::new(alloc);
     emitter.receive(&mut code, worker.receive, worker.receive_line)?;

@@ -14,7 +14,7 @@ ghost use Rattle.tpw_occam_code.specs.Executing.{DeclaresVariable, DeclaresValue
 ghost use Rattle.tpw_occam_code.specs.Executing.{VariableKnown, ValueKnown};
 ghost use Rattle.tpw_occam_code.specs.Moving.{ClearsWords, Moves};
 
-use crate::analysis::{First, first_use, law_values_are_words};
+use crate::analysis::{First, first_use};
 use crate::code::{Code, Step, Turns};
 use crate::emitter::{Emitter, Room, constant, counted, fact_of};
 use crate::fault::CodeFault;
@@ -131,10 +131,7 @@ impl Emitter<'_> {
         match p {
             Process::Skip => Ok(()),
             Process::Stop => code.instr(line, Instr::Seterr),
-            Process::Assign(list) => {
-                law_values_are_words(list);
-                self.assignments(code, list, line)
-            }
+            Process::Assign(list) => self.assignments(code, list, line),
             Process::Copy { to, from } => self.copy(code, *to, *from, line),
             Process::Sequence(first, second) => {
                 self.process(code, first, line)?;

@@ -1,1 +1,2 @@
 pub mod Stores
+mod Tables

@@ -10,7 +10,7 @@ use Rattle.tpw_occam_core.specs.declared.process.Target.TheVariants as target
 use Rattle.tpw_occam_core.specs.declared.process.Assignment.{Assignment}
 use Rattle.tpw_occam_core.specs.declared.process.Process.{Process}
 use Rattle.tpw_occam_core.specs.declared.process.Process.TheVariants as process
-use Rattle.tpw_occam_core.specs.Meaning.{Store, with_value, stored, assigned, turns, chosen, run, value_of, flagged, traced, bytes_of, flag_of, array_of, with_array}
+use Rattle.tpw_occam_core.specs.Meaning.{Store, with_value, stored, assigned, turns, chosen, run, value_of, flagged, bytes_of}
 
 -- a variable that takes a word, and then the one that it had
 pub restored : (values : List ℕ) (x word : ℕ) → set (set values x word) x (get_or values x 0) ≡ values

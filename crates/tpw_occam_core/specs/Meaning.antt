@@ -6,7 +6,7 @@ use Rattle.std.specs.Int.{w32, to_le_bytes}
 use Rattle.tp_decode.specs.Words.{low_word, complement}
 use Rattle.tp_step.specs.Numbers.{truth}
 use Rattle.tpw_occam_core.specs.declared.kind.Kind.{Kind}
-use Rattle.tpw_occam_core.specs.declared.kind.Kind.TheVariants.{Word, Byte}
+use Rattle.tpw_occam_core.specs.declared.kind.Kind.TheVariants.{Word}
 use Rattle.tpw_occam_core.specs.declared.arithmetic.Answer.{Answer}
 use Rattle.tpw_occam_core.specs.declared.expression.Expression.{Expression}
 use Rattle.tpw_occam_core.specs.declared.expression.Expression.TheVariants.{Constant, Variable, Element', Checked'}

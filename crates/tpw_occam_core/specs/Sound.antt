@@ -1,7 +1,7 @@
 -- What the core of a worker owes to whoever compiles it: each name is declared where it is used, once, and used as what
 -- it is; sizes, turns and messages are such as an image can have.
-use Rattle.std.specs.Prelude.{ℕ, ◌+◌, ◌*◌, ◌/◌, ◌%◌, ◌^◌, Bool, true, false, not, ◌&&◌, ◌||◌, ◌==◌, nat_lt, nat_le, pos}
-use Rattle.std.specs.Prelude.{◌+ℤ◌, int_lt, List, [], ◌∷◌, ◌++◌, length, map, slice_index_or, IsTrue}
+use Rattle.std.specs.Prelude.{ℕ, ◌+◌, ◌%◌, ◌^◌, Bool, true, false, not, ◌&&◌, ◌==◌, nat_lt, nat_le, pos}
+use Rattle.std.specs.Prelude.{◌+ℤ◌, int_lt, List, [], ◌∷◌, ◌++◌, length, map, slice_index_or}
 use Rattle.std.specs.List.{list_all, list_any}
 use Rattle.tp_decode.specs.Words.{signed}
 use Rattle.tpw_occam_core.specs.declared.kind.Kind.{Kind}
@@ -83,15 +83,21 @@ is_new_array storages scope a =
 abbrev pub is_message : ℕ → Bool
 is_message bytes = (bytes % 4 == 0) && nat_le 4 bytes && nat_le bytes 256
 
+-- what a table has are bytes
+abbrev pub are_bytes : Storage → Bool
+are_bytes (Zeros n) = true
+are_bytes (Table bytes) = list_all (λ b. nat_lt b 256) bytes.items
+
 -- an array has 1 to 2,048 bytes
 abbrev pub is_sized : Storage → Bool
-is_sized storage = nat_lt 0 (bytes_of storage) && nat_le (bytes_of storage) 2048
+is_sized storage = nat_lt 0 (bytes_of storage) && nat_le (bytes_of storage) 2048 && are_bytes storage
 
 -- ---- expressions
 
--- every name that an expression reads is in scope, every array too, and each name that it declares is new
+-- a constant is a word, every name that an expression reads is in scope, every array too, and each name that it declares
+-- is new
 abbrev pub is_sound_expression : ℕ → List Storage → List Entry → Expression → Bool
-is_sound_expression count storages scope (Constant c) = true
+is_sound_expression count storages scope (Constant c) = nat_lt c (2 ^ 32)
 is_sound_expression count storages scope (Variable x) = list_any (is_name x) scope
 is_sound_expression count storages scope (Element' a kind p e) =
     is_seen storages scope a kind && is_sound_expression count storages scope e

@@ -38,7 +38,6 @@ pub enum Operator {
 }
 
 /// An expression. Variables and arrays are named by numbers.
-#[derive(Debug, Drop)]
 pub enum Expression {
     Constant(u32),
     Variable(usize),
@@ -74,4 +73,37 @@ pub enum Expression {
         value: Box<Expression>,
         within: Box<Expression>,
     },
+}
+
+// Written out, since a derived destructor of a recursive type is proved anew by each crate that drops one.
+impl Drop for Expression {
+    fn drop(self) {
+        match self {
+            Expression::Constant(_) | Expression::Variable(_) => {}
+            Expression::Element {
+                array: _,
+                kind: _,
+                subscript: _only,
+            }
+            | Expression::Checked {
+                below: _,
+                subscript: _only,
+            }
+            | Expression::Complement(_only)
+            | Expression::Not(_only)
+            | Expression::LowByte(_only) => {}
+            Expression::Binary {
+                operator: _,
+                left: _one,
+                right: _other,
+            }
+            | Expression::And(_one, _other)
+            | Expression::Or(_one, _other)
+            | Expression::Let {
+                name: _,
+                value: _one,
+                within: _other,
+            } => {}
+        }
+    }
 }

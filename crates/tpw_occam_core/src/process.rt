@@ -4,7 +4,7 @@ use crate::expression::Expression;
 use crate::kind::Kind;
 
 /// What is assigned to.
-#[derive(Debug, Drop)]
+#[derive(Drop)]
 pub enum Target {
     Variable(usize),
     Element {
@@ -15,14 +15,14 @@ pub enum Target {
 }
 
 /// A target and its value.
-#[derive(Debug, Drop)]
+#[derive(Drop)]
 pub struct Assignment {
     pub target: Target,
     pub value: Expression,
 }
 
 /// What is sent.
-#[derive(Debug, Drop)]
+#[derive(Drop)]
 pub enum Message {
     Value(Expression),
     Array(usize),
@@ -30,7 +30,6 @@ pub enum Message {
 
 /// A process. A SEQ is a tree of pairs, to be built balanced, and an IF a chain: a guard, what it leads to, and the
 /// rest of the IF, which ends in STOP.
-#[derive(Debug, Drop)]
 pub enum Process {
     Skip,
     Stop,
@@ -76,4 +75,44 @@ pub enum Process {
         line: u32,
         body: Box<Process>,
     },
+}
+
+// Written out, as that of expressions.
+impl Drop for Process {
+    fn drop(self) {
+        match self {
+            Process::Skip | Process::Stop | Process::Copy { to: _, from: _ } => {}
+            Process::Assign(_list) => {}
+            Process::Trace(_message) => {}
+            Process::Sequence(_first, _second) => {}
+            Process::If {
+                guard: _guard,
+                guarded: _first,
+                rest: _second,
+            } => {}
+            Process::Value {
+                name: _,
+                value: _value,
+                body: _body,
+            } => {}
+            Process::Repeat {
+                index: _,
+                start: _,
+                count: _,
+                body: _body,
+            }
+            | Process::Variable {
+                name: _,
+                body: _body,
+            }
+            | Process::Array {
+                name: _,
+                body: _body,
+            }
+            | Process::At {
+                line: _,
+                body: _body,
+            } => {}
+        }
+    }
 }

@@ -1,6 +1,6 @@
 //! Whether a worker is such that it can be compiled.
 
-ghost use Rattle.std.specs.Prelude.{◌≡◌, ◌++◌, ◌∷◌, [], nat_lt, IfOk, OnOk};
+ghost use Rattle.std.specs.Prelude.{◌≡◌, ◌&&◌, ◌++◌, ◌∷◌, [], nat_lt, nat_le, length, IfOk, OnOk};
 ghost use Rattle.std.specs.List.{list_all};
 ghost use Rattle.tpw_occam_core.specs.Sound.{storage_of, bytes_of, is_table, is_seen, is_written, is_new_array};
 ghost use Rattle.tpw_occam_core.specs.Sound.{is_message, is_sized, are_turns, is_word, is_sound_expression};
@@ -78,7 +78,11 @@ fn is_sound_expression(
     ensures same { OnOk result (scope.new.items ≡ scope.old.items) }
 {
     match e {
-        Expression::Constant(_) => Ok(true),
+        Expression::Constant(c) => {
+            // A u32 that is read is known to be a word.
+            let _word = *c;
+            Ok(true)
+        }
         Expression::Variable(x) => Ok(has_name(scope, *x)),
         Expression::Element {
             array,
@@ -307,12 +311,20 @@ fn is_word(kind: Kind) -> bool
     }
 }
 
+/// Whether a table has a size that an array can have. That its items are bytes follows from their type.
+fn is_sized_table(bytes: &[u8]) -> bool
+    ensures { result ≡ (nat_lt 0 (length bytes.now) && nat_le (length bytes.now) 2048
+        && list_all (λ b. nat_lt b 256) bytes.now) }
+{
+    !bytes.is_empty() && bytes.len() <= 2048
+}
+
 fn is_sized(storage: &Storage) -> bool
     ensures { result ≡ is_sized storage.now }
 {
     match storage {
         Storage::Zeros(count) => *count > 0 && *count <= 2048,
-        Storage::Table(bytes) => !bytes.is_empty() && bytes.len() <= 2048,
+        Storage::Table(bytes) => is_sized_table(bytes),
     }
 }
 

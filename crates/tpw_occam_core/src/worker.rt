@@ -4,7 +4,7 @@ use crate::kind::Kind;
 use crate::process::{Message, Process};
 
 /// What an array is at first.
-#[derive(Debug, Drop)]
+#[derive(Drop)]
 pub enum Storage {
     /// So many bytes, which are 0.
     Zeros(u32),
@@ -30,7 +30,7 @@ pub enum Place {
 }
 
 /// A worker: the kind of each variable, by its number, each array likewise, and what is done.
-#[derive(Debug, Drop)]
+#[derive(Drop)]
 pub struct Worker {
     pub variables: Vec<Kind>,
     pub arrays: Vec<Storage>,

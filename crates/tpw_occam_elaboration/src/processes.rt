@@ -187,8 +187,8 @@ impl<'a> Elaborator<'a> {
             let value = Atom::Word(word);
             return Ok((Selector { of, value }, None));
         }
-        if let Expression::Variable(x) = typed.value {
-            let value = Atom::Name(x);
+        if let Expression::Variable(x) = &typed.value {
+            let value = Atom::Name(*x);
             return Ok((Selector { of, value }, None));
         }
         let name = Name {

@@ -2,10 +2,12 @@
 //! not be written.
 #![tactic(auto)]
 
+mod debug_info;
 mod fault;
 mod report;
 mod source;
 
+pub use debug_info::DebugInfo;
 pub use fault::ShowFault;
 pub use report::{Reported, Spot, write_report};
 pub use source::{Indexed, Label, LoopName, Named, Names, SourceText, Statement, WordName};

@@ -1,7 +1,6 @@
-use Rattle.std.proofs.Common.{◌≡◌, ◌<◌, length, Err, rules, arith}
+use Rattle.std.proofs.Common.{◌<◌, length, rules, arith}
 use Rattle.std.specs.Prelude.{pos, ◌+ℤ◌}
 use Rattle.tp_decode.specs.Words.{low_word}
-use Rattle.tpw_occam_core.specs.declared.running.Halt.TheVariants as halt
 use Rattle.tpw_occam_core.specs.Meaning.{run, turns, with_value, most_traced}
 use Rattle.tpw_occam_core.proofs.Stores.{lost_before, lost_turn}
 use Rattle.tpw_occam_core.proofs.running.+run.Goals as goal

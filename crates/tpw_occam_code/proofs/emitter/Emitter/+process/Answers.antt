@@ -5,7 +5,7 @@ use Rattle.tpw_occam_code.specs.Agreement.{with_fact, fact_at, fact_of_kind}
 use Rattle.tpw_occam_code.specs.declared.code.Turns.{Turns}
 use Rattle.tpw_occam_code.specs.Code.{none_at, place_behind, joined}
 use Rattle.tpw_occam_code.specs.Computing.{Decides, Binds, ComputesBinding}
-use Rattle.tpw_occam_code.specs.Executing.{DeclaresVariable, DeclaresValue, VariableKnown, ValueKnown, Executes, Chooses, Repeats, Remains, ChoosesKnown, RepeatsKnown, HaveWords, Assigns}
+use Rattle.tpw_occam_code.specs.Executing.{DeclaresVariable, DeclaresValue, VariableKnown, ValueKnown, Executes, Chooses, Repeats, Remains, ChoosesKnown, RepeatsKnown, Assigns}
 use Rattle.tpw_occam_code.proofs.Standing.{place_of}
 use Rattle.tpw_occam_code.proofs.Naming.{restored}
 use Rattle.tpw_occam_code.proofs.Executing.{skip_executes, stop_executes, sequence_executes, value_executes, variable_executes, array_executes}
@@ -89,12 +89,12 @@ process-returns-in-Stop-clause-executes t c =
 pub process-returns-in-Assign-clause-executes : goal.process-returns-in-Assign-clause-executes
 process-returns-in-Assign-clause-executes t c =
     on_ok_weaker c.assignments.result (λ assigns.
-    rw c.in-Assign.is (subst (λ all. Assigns c.args.self.now c.args.code.now c.assignments.new.code all) c.deref-in-Assign.ensures.value assigns)) c.assignments.ensures.assigns
+    rw c.in-Assign.is (subst (λ all. Assigns c.args.self.now c.args.code.now c.assignments.new.code all) c.deref.ensures.value assigns)) c.assignments.ensures.assigns
 
 pub process-returns-in-Assign-clause-remains : goal.process-returns-in-Assign-clause-remains
 process-returns-in-Assign-clause-remains t c =
     on_ok_weaker c.assignments.result (λ assigns.
-    rw c.in-Assign.is (assign_remains c.args.self.now c.in-Assign.list.items (subst HaveWords c.deref.ensures.value c.law_values_are_words.ensures))) c.assignments.ensures.assigns
+    rw c.in-Assign.is (assign_remains c.args.self.now c.in-Assign.list.items)) c.assignments.ensures.assigns
 
 pub process-returns-in-Copy-clause-executes : goal.process-returns-in-Copy-clause-executes
 process-returns-in-Copy-clause-executes t c = on_ok_weaker c.copy.result (λ executes. rw c.in-Copy.is executes) c.copy.ensures

@@ -1,6 +1,6 @@
 use Rattle.std.proofs.Common.{◌∙◌, ap}
 use Rattle.std.proofs.lemmas.List.{map-set}
-use Rattle.tpw_occam_core.specs.Meaning.{Store, with_array}
+use Rattle.tpw_occam_core.specs.Meaning.{with_array}
 use Rattle.tpw_occam_core.proofs.state.State.set_array.Goals as goal
 
 pub returns-then-a-len : goal.returns-then-a-len

@@ -1,8 +1,8 @@
-use Rattle.std.proofs.Common.{◌≡◌, ◌<◌, ◌∙◌, ap, sym, List, ℕ, [], length, set, map, arith}
+use Rattle.std.proofs.Common.{◌<◌, ◌∙◌, ap, sym, [], length, set, map, arith}
 use Rattle.std.proofs.lemmas.List.{map-set, with_items_is, get_or-map}
 use Rattle.std.specs.Vec.{with_items}
 use Rattle.tpw_occam_core.specs.Arrays.{with_element}
-use Rattle.tpw_occam_core.specs.Meaning.{Store, with_array, array_of}
+use Rattle.tpw_occam_core.specs.Meaning.{with_array, array_of}
 use Rattle.tpw_occam_core.proofs.state.State.set_element.Goals as goal
 
 pub returns-then-a-len : goal.returns-then-a-len

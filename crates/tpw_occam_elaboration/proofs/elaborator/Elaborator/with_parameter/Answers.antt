@@ -11,7 +11,7 @@ returns-clause-grows c = declared_grows c.args.self.now _ _ c.in_ok-scope.ensure
 pub returns-clause-declares : goal.returns-clause-declares
 returns-clause-declares c =
     record {
-      bindings = elim c.match-passed-4.branch [
+      bindings = elim c.match-passed-3.branch [
         | in-Some+in_ok-push w ↦
             (let pushed : w.push.new.self.items ≡ c.args.bound.bindings.items ++ (w.in-Some.binding ∷ []) = search rules in
             ap (λ v. v.items) w.bindings-is ∙ pushed

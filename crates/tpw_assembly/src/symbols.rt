@@ -1,0 +1,84 @@
+//! What an assembly text says of its code, by address and by word.
+
+use std::alloc::Global;
+use tpw_asm::addresses;
+use tpw_files::{Failure, Input};
+use tpw_source::{DebugInfo, Label, Named, Statement};
+use tpw_text::{Local, Position, Source, statement_of};
+
+/// The statements of a text, each at the address of an instruction that it says.
+fn statements_of<'a>(
+    alloc: Global,
+    text: &'a str,
+    positions: &[Position],
+    places: &[u32],
+) -> Result<Vec<Statement<'a>>, Failure> {
+    let mut lines = Vec::new(alloc);
+    for line in text.lines() {
+        lines.push(line)?;
+    }
+    let mut statements = Vec::new(alloc);
+    for (position, place) in positions.iter().zip(places) {
+        if let Some(line) = lines.get(position.line.saturating_sub(1)) {
+            statements.push(Statement {
+                at: *place as usize,
+                line: position.line,
+                column: position.column,
+                text: statement_of(alloc, *line)?,
+            })?;
+        }
+    }
+    Ok(statements)
+}
+
+/// The labels of a text, each at its address.
+fn labels_of<'a>(
+    alloc: Global,
+    source: &Source<'a>,
+    places: &[u32],
+) -> Result<Vec<Label<'a>>, Failure> {
+    let mut labels = Vec::new(alloc);
+    for label in &source.labels {
+        if let Some(at) = places.get(label.place) {
+            labels.push(Label {
+                at: *at as usize,
+                name: label.name,
+            })?;
+        }
+    }
+    Ok(labels)
+}
+
+/// The names of local words, as names of workspace words.
+fn words_of<'a>(alloc: Global, source: &Source<'a>) -> Result<Vec<Named<'a>>, Failure> {
+    let start = source.program.start as usize;
+    let mut words = Vec::new(alloc);
+    for Local {
+        name,
+        first,
+        words: size,
+    } in &source.locals {
+        words.push(Named {
+            first: start.saturating_add(*first),
+            words: *size,
+            name: *name,
+        })?;
+    }
+    Ok(words)
+}
+
+/// What the text of an input says of its code.
+pub fn debug_info<'a>(
+    alloc: Global,
+    input: &Input,
+    text: &'a str,
+    source: &Source<'a>,
+) -> Result<DebugInfo<'a>, Failure> {
+    let places = addresses(alloc, &source.program)?;
+    Ok(DebugInfo {
+        name: format!(in alloc; "{input}")?,
+        statements: statements_of(alloc, text, &source.positions, &places)?,
+        labels: labels_of(alloc, source, &places)?,
+        words: words_of(alloc, source)?,
+    })
+}

@@ -1,0 +1,142 @@
+//! What a command line asks for.
+
+use crate::arguments::showing;
+use crate::assembler::{ASM, line_name};
+use crate::command_line::matches_of;
+use crate::disassembler::DIS;
+use crate::ending::Ending;
+use crate::evaluator::EVAL;
+use crate::explainer::WHY;
+use crate::lister::LIST;
+use crate::options::{FILE, IN_OCCAM};
+use crate::profiler::{PROFILE, Profiling, profiling_of};
+use crate::refusal::Refusal;
+use crate::runner::{RUN, Running, running_of};
+use crate::showing::Showing;
+use crate::stepper::{STEP, Stepping, stepping_of};
+use crate::translator::OCCAM;
+use clap::ArgMatches;
+use std::alloc::Global;
+use std::convert::AsStr;
+use tpw_files::{Input, Language};
+
+/// What a command line asks for: a task, where its text is read, and what that is written in.
+#[derive(Drop)]
+pub struct Asked {
+    pub task: Task,
+    pub input: Input,
+    pub language: Language,
+}
+
+/// What is to be done with a text.
+#[derive(Drop)]
+pub enum Task {
+    Work(Work),
+    /// An image of a text, behind a name where one is given.
+    Assemble(Option<String>),
+    /// An assembly text of one in occam.
+    Translate,
+    /// What a text in occam means by packets.
+    Evaluate(Showing),
+    Disassemble,
+}
+
+/// How a verdict is written.
+#[derive(Clone, Copy, Debug, PartialEq, Eq)]
+pub enum Report {
+    /// With what a refusal means, what is known there, and what helps.
+    Why,
+    /// With the code, and what each instruction costs.
+    List,
+}
+
+/// What is to be done with a worker.
+#[derive(Drop)]
+pub enum Work {
+    Run(Running),
+    Profile(Profiling),
+    Step(Stepping),
+    /// The verdict on an image.
+    Judge(Report),
+}
+
+/// Where a command reads.
+fn input_of(alloc: Global, matches: &ArgMatches<'_>) -> Result<Input, Ending> {
+    match matches.get_str(FILE) {
+        Some(name) => Ok(Input::named(alloc, name)?),
+        None => Ok(Input::Standard),
+    }
+}
+
+/// What the worker of a command is written in, where it reads one.
+fn language_of(matches: &ArgMatches<'_>, task: &Task, input: &Input) -> Language {
+    match task {
+        Task::Translate | Task::Evaluate(_) => Language::Occam,
+        Task::Disassemble => Language::Assembly,
+        Task::Work(_) | Task::Assemble(_) if matches.get_flag(IN_OCCAM) => Language::Occam,
+        Task::Work(_) | Task::Assemble(_) => Language::of(input),
+    }
+}
+
+/// Refuses a task with an input where standard input is named for more than one of them.
+fn check_standard(task: &Task, input: &Input) -> Result<(), Refusal> {
+    let (packets, expected) = match task {
+        Task::Work(Work::Run(Running { showing, .. })) | Task::Evaluate(showing) => {
+            (showing.asking.is_standard(), showing.is_standard())
+        }
+        Task::Work(Work::Profile(profiling)) => (profiling.asking.is_standard(), false),
+        Task::Work(Work::Step(stepping)) => (stepping.is_standard(), false),
+        Task::Work(Work::Judge(_)) | Task::Assemble(_) | Task::Translate | Task::Disassemble => {
+            (false, false)
+        }
+    };
+    let worker = matches!(input, Input::Standard);
+    if (worker && (packets || expected)) || (packets && expected) {
+        return Err(Refusal::StandardTwice);
+    }
+    Ok(())
+}
+
+/// Refuses a check of a worker that is not in occam.
+fn check_language(task: &Task, language: Language) -> Result<(), Refusal> {
+    match task {
+        Task::Work(Work::Run(running)) if running.check && language != Language::Occam => {
+            Err(Refusal::NoCheck)
+        }
+        _ => Ok(()),
+    }
+}
+
+/// What a command by its name is to do, with what is given for it.
+fn task_of(alloc: Global, name: &str, matches: &ArgMatches<'_>) -> Result<Task, Ending> {
+    Ok(match name {
+        PROFILE => Task::Work(Work::Profile(profiling_of(alloc, matches)?)),
+        RUN => Task::Work(Work::Run(running_of(alloc, matches)?)),
+        STEP => Task::Work(Work::Step(stepping_of(alloc, matches)?)),
+        LIST => Task::Work(Work::Judge(Report::List)),
+        WHY => Task::Work(Work::Judge(Report::Why)),
+        ASM => Task::Assemble(line_name(alloc, matches)?),
+        OCCAM => Task::Translate,
+        EVAL => Task::Evaluate(showing(alloc, matches)?),
+        DIS => Task::Disassemble,
+        _ => return Err(Ending::Refused(Refusal::NoCommand)),
+    })
+}
+
+/// What words ask for, the first of which names the program.
+pub fn asked_by<S: AsStr>(alloc: Global, words: &[S]) -> Result<Asked, Ending> {
+    let matches = matches_of(alloc, words)?;
+    let Some((name, found)) = matches.subcommand() else {
+        return Err(Ending::Refused(Refusal::NoCommand));
+    };
+    let task = task_of(alloc, name, found)?;
+    let input = input_of(alloc, found)?;
+    let language = language_of(found, &task, &input);
+    check_standard(&task, &input)?;
+    check_language(&task, language)?;
+    Ok(Asked {
+        task,
+        input,
+        language,
+    })
+}

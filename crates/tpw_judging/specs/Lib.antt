@@ -1,0 +1,2 @@
+-- What a reader must believe: clauses of public calls cite it.
+pub mod Programs

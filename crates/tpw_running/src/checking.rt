@@ -1,0 +1,156 @@
+//! `run --check`: what packets' runs give, beside what the text in occam means by the packets.
+
+ghost use Rattle.std.specs.Prelude.{◌≡◌, ◌++◌, Some, OnOk};
+ghost use Rattle.std.specs.Option.{option_map};
+ghost use Rattle.tpw_running.specs.Checks.{given_value, is_for_trace, is_meant, other_text, other_numbers};
+ghost use Rattle.tpw_running.specs.Checks.{IsNothingChecked};
+ghost use Rattle.tp_collect.specs.declared.collected.Entry.TheVariants as became;
+
+use crate::meaning::Meant;
+use std::alloc::{AllocError, Global};
+use std::io::Write;
+use tp_collect::{Done, Entry, LostCause};
+use tp_link::{DeviceFault, Link, LinkFault};
+use tpw_files::Failure;
+use tpw_occam_core::{Given, Worker};
+use tpw_runs::{Form, Report, Style, Tally, write_whole_line};
+
+/// Compares what becomes of packets with what a text in occam means by them, and shows where they differ.
+#[derive(Drop)]
+pub struct Checking<'a> {
+    alloc: Global,
+    worker: &'a Worker,
+    style: Style,
+    /// The budget of the worker's image.
+    budget: u32,
+    pub tally: Tally,
+    /// The numbers of the packets that have something else than the text means.
+    pub others: Vec<usize>,
+}
+
+impl<'a> Checking<'a> {
+    /// Nothing yet.
+    pub fn new(alloc: Global, worker: &'a Worker, style: Style, budget: u32) -> Checking<'a>
+        ensures { IsNothingChecked worker.now style budget result }
+    {
+        Checking {
+            alloc,
+            worker,
+            style,
+            budget,
+            tally: Tally::new(),
+            others: Vec::new(alloc),
+        }
+    }
+}
+
+/// Whether a packet was lost for its trace.
+fn is_for_trace(cause: LostCause) -> bool
+    ensures { result ≡ is_for_trace cause }
+{
+    match cause {
+        LostCause::Link(
+            LinkFault {
+                link: Link::Trace,
+                code: DeviceFault::Full,
+            },
+        ) => true,
+        LostCause::Link(_) | LostCause::Stopped => false,
+    }
+}
+
+/// Whether a run's result is the one that is meant.
+fn is_given(done: &Done, given: &Given) -> bool
+    ensures { result ≡ is_meant (became.Done done.now) (Some (given_value given.now)) }
+{
+    done.result.as_slice() == given.result.as_slice()
+        && u8::from(done.error) == u8::from(given.flag)
+        && done.trace.as_slice() == given.traced.as_slice()
+}
+
+/// Whether a run gives what is meant.
+fn is_meant(entry: &Entry, meant: &Meant) -> bool
+    ensures { result ≡ is_meant entry.now (option_map given_value meant.now.given) }
+{
+    match (entry, &meant.given) {
+        (Entry::Done(done), Some(given)) => is_given(done, given),
+        (Entry::Lost(cause), None) => is_for_trace(*cause),
+        _ => false,
+    }
+}
+
+/// Writes what a run gives and what is meant, where these differ.
+fn write_other(
+    out: &mut Vec<u8>,
+    style: Style,
+    budget: u32,
+    number: usize,
+    entry: &Entry,
+    meant: &Meant,
+) -> Result<(), AllocError>
+    ensures { OnOk result (out.new.items ≡ out.old.items
+        ++ other_text style budget number entry.now (option_map given_value meant.now.given)) }
+{
+    if is_meant(entry, meant) {
+        return Ok(());
+    }
+    write_whole_line(out, style, budget, number, entry)?;
+    out.extend_from_slice(b"  the text means\n")?;
+    meant.write_lines(out, style, number)
+}
+
+/// Appends the number of a packet, where what a run gives differs from what is meant.
+fn push_other(
+    others: &mut Vec<usize>,
+    number: usize,
+    entry: &Entry,
+    meant: &Meant,
+) -> Result<(), AllocError>
+    ensures { OnOk result (others.new.items ≡ others.old.items
+        ++ other_numbers number entry.now (option_map given_value meant.now.given)) }
+{
+    if is_meant(entry, meant) {
+        return Ok(());
+    }
+    others.push(number)?;
+    Ok(())
+}
+
+impl Report for Checking<'_> {
+    ghost use Rattle.tpw_running.specs.Checks.{checked_count, checked_text, CheckedNext};
+
+    ghost count = { checked_count };
+
+    ghost text = { checked_text };
+
+    ghost becomes = { CheckedNext };
+
+    fn show(&mut self, out: &mut Vec<u8>, packet: &[u8], entry: &Entry) -> Result<(), AllocError> {
+        let number = self.tally.packets();
+        let meant = Meant::of(self.alloc, self.worker, packet)?;
+        write_other(out, self.style, self.budget, number, entry, &meant)?;
+        push_other(&mut self.others, number, entry, &meant)?;
+        self.tally.add_entry(Form::Lines(self.style), entry);
+        Ok(())
+    }
+}
+
+/// Writes the last line of a check: of how many packets the run has made another result than the text means.
+pub fn write_checked<W: Write>(
+    writer: &mut W,
+    packets: usize,
+    others: usize,
+) -> Result<(), Failure> {
+    let written = if others == 0 {
+        write!(writer, "checked {packets}, each is what the text means\n")
+    } else {
+        write!(
+            writer,
+            "checked {packets}, {others} differ: a fault of the compiler; please report it, with the text\n"
+        )
+    };
+    match written.and_then(|()| writer.flush()) {
+        Ok(()) => Ok(()),
+        Err(_) => Err(Failure::Write),
+    }
+}

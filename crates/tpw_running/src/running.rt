@@ -1,0 +1,210 @@
+//! Packets, run on an accepted worker.
+
+ghost use Rattle.std.specs.Prelude.{◌≡◌, ◌≤◌, ◌*◌, All, IfOk, length, map};
+ghost use Rattle.tpw_runs.specs.Results.{HasShown};
+ghost use Rattle.tpw_running.specs.Checks.{HasChecked};
+
+use crate::checking::{Checking, write_checked};
+use crate::summary::{is_as_expected, write_summary};
+use std::alloc::Global;
+use std::io::{Eprint, Write};
+use std::sync::Wait;
+use std::thread::Threads;
+use std::time::Clock;
+use tp_accept::Accepted;
+use tpw_command_line::{Following, Running};
+use tpw_files::{Failure, Input, Language, Outcome, Terminal};
+use tpw_occam_core::Worker;
+use tpw_runs::{
+    Expected, Form, Progress, RunFault, Shown, Style, Tally, members_for, run_in_form,
+    run_on_members, write_loss,
+};
+
+/// Why a batch of runs fails.
+fn failure_of_run(fault: RunFault) -> Failure {
+    match fault {
+        RunFault::Thread => Failure::Thread,
+        RunFault::Memory => Failure::Memory,
+        RunFault::Write => Failure::Write,
+    }
+}
+
+/// What is run: packets on an accepted worker, and the results that are expected, where they are asked for.
+#[derive(Drop)]
+pub struct Prepared {
+    pub image: Accepted,
+    pub packets: Vec<Vec<u8>>,
+    pub expected: Option<Vec<Expected>>,
+}
+
+/// Writes how to follow the first packet that has another result than the one that is expected, if there is one.
+fn write_following<W: Write>(
+    writer: &mut W,
+    asked: &Running,
+    input: &Input,
+    language: Language,
+    tally: &Tally,
+) -> Result<(), Failure> {
+    let Some(number) = tally.first else {
+        return Ok(());
+    };
+    let following = Following {
+        asking: &asked.showing.asking,
+        input,
+        language,
+        number,
+        packets: tally.packets(),
+    };
+    match write!(writer, "follow packet {number} by: {following}\n") {
+        Ok(()) => Ok(()),
+        Err(_) => Err(Failure::Write),
+    }
+}
+
+/// Runs packets on an accepted image, and shows their results in a form, and progress where somebody waits for it.
+fn run_shown<'e, T, W: Write>(
+    rt: &T,
+    alloc: Global,
+    prepared: &Prepared,
+    members: usize,
+    form: Form<'e>,
+    writer: &mut W,
+    is_terminal: bool,
+) -> Result<Shown<'e>, Failure>
+where
+    T: Threads + Wait + Clock + Eprint + Sync,
+    requires { All (λ p. length p.items ≡ 4 * prepared.now.image.image.packet) prepared.now.packets.items }
+    ensures { IfOk result (HasShown prepared.now.image form.entry (map (λ p. p.items) prepared.now.packets.items)
+        (W.contents writer.old) (W.contents writer.new)) }
+{
+    let image = &prepared.image;
+    let packets = &prepared.packets;
+    let progress = Progress::new(rt, packets.len(), is_terminal);
+    let members = members_for(members, packets.len());
+    let ran = run_in_form(rt, alloc, image, packets, members, &progress, form, writer);
+    progress.clear();
+    match ran {
+        Ok(shown) => Ok(shown),
+        Err(fault) => Err(failure_of_run(fault)),
+    }
+}
+
+/// Runs packets on an accepted image, and shows where what becomes of them is not what a worker means, and progress
+/// where somebody waits for it.
+fn run_checked<'m, T, W: Write>(
+    rt: &T,
+    alloc: Global,
+    prepared: &Prepared,
+    members: usize,
+    meaning: &'m Worker,
+    style: Style,
+    writer: &mut W,
+    is_terminal: bool,
+) -> Result<Checking<'m>, Failure>
+where
+    T: Threads + Wait + Clock + Eprint + Sync,
+    requires { All (λ p. length p.items ≡ 4 * prepared.now.image.image.packet) prepared.now.packets.items }
+    ensures { IfOk result (HasChecked prepared.now.image meaning.now style
+        (map (λ p. p.items) prepared.now.packets.items) (W.contents writer.old) (W.contents writer.new)) }
+{
+    let image = &prepared.image;
+    let packets = &prepared.packets;
+    let progress = Progress::new(rt, packets.len(), is_terminal);
+    let members = members_for(members, packets.len());
+    let mut checking = Checking::new(alloc, meaning, style, image.budget());
+    let ran = run_on_members(
+        rt,
+        alloc,
+        image,
+        packets,
+        members,
+        &progress,
+        &mut checking,
+        writer,
+    );
+    progress.clear();
+    match ran {
+        Ok(()) => Ok(checking),
+        Err(fault) => Err(failure_of_run(fault)),
+    }
+}
+
+/// Runs what is prepared, and writes what becomes of each packet.
+pub fn write_run<T, W: Write, E: Write>(
+    rt: &T,
+    alloc: Global,
+    prepared: &Prepared,
+    asked: &Running,
+    input: &Input,
+    language: Language,
+    writer: &mut W,
+    terminal: &mut Terminal<'_, E>,
+) -> Result<Outcome, Failure>
+where
+    T: Threads + Wait + Clock + Eprint + Sync,
+    requires { All (λ p. length p.items ≡ 4 * prepared.now.image.image.packet) prepared.now.packets.items }
+{
+    let form = asked.showing.form(&prepared.expected);
+    let budget = Some(prepared.image.budget());
+    let is_terminal = terminal.is_terminal;
+    let Shown { tally, unshown, .. } = run_shown(
+        rt,
+        alloc,
+        prepared,
+        asked.members,
+        form,
+        writer,
+        is_terminal,
+    )?;
+    match form {
+        // A picture or a pipe has the results alone.
+        Form::Raw if tally.lost == 0 => {}
+        Form::Raw => {
+            for loss in &unshown {
+                write_loss(terminal.errors, loss.number, loss.cause);
+            }
+            write_summary(terminal.errors, budget, &tally, form)?
+        }
+        Form::Lines(_) | Form::Differences(_, _) => {
+            write_following(writer, asked, input, language, &tally)?;
+            write_summary(writer, budget, &tally, form)?
+        }
+    }
+    Ok(Outcome::of(is_as_expected(&tally, form)))
+}
+
+/// Runs what is prepared, and writes each packet of which something else is made than the worker means.
+pub fn write_check<T, W: Write, E: Write>(
+    rt: &T,
+    alloc: Global,
+    prepared: &Prepared,
+    asked: &Running,
+    meaning: &Worker,
+    writer: &mut W,
+    terminal: &mut Terminal<'_, E>,
+) -> Result<Outcome, Failure>
+where
+    T: Threads + Wait + Clock + Eprint + Sync,
+    requires { All (λ p. length p.items ≡ 4 * prepared.now.image.image.packet) prepared.now.packets.items }
+{
+    let style = Style {
+        trace: true,
+        ..asked.showing.style
+    };
+    let budget = prepared.image.budget();
+    let is_terminal = terminal.is_terminal;
+    let checking = run_checked(
+        rt,
+        alloc,
+        prepared,
+        asked.members,
+        meaning,
+        style,
+        writer,
+        is_terminal,
+    )?;
+    let others = checking.others.len();
+    write_summary(writer, Some(budget), &checking.tally, Form::Lines(style))?;
+    write_checked(writer, prepared.packets.len(), others)?;
+    Ok(Outcome::of(others == 0))
+}
