@@ -480,11 +480,15 @@ class Maker:
         self.line('IF')
         self.indent += 1
         self.line(f'(INT {packet}) > 20' if self.packet_of == BYTE else f'{packet} > 20')
-        self.line(f'  SEQ i = 0 FOR {MAX_TRACED // size + 1}')
-        self.line(f'    trace ! {"i" if self.trace_size is None else self.table(self.trace_of, self.trace_size)}')
+        self.indent += 1
+        self.line(f'SEQ i = 0 FOR {MAX_TRACED // size + 1}')
+        self.indent += 1
+        self.line(f'trace ! {"i" if self.trace_size is None else self.table(self.trace_of, self.trace_size)}')
+        self.indent -= 2
         self.line('TRUE')
-        self.line('  SKIP')
-        self.indent -= 1
+        self.indent += 1
+        self.line('SKIP')
+        self.indent -= 2
 
     def replicated(self, depth):
         count = self.random.choice([0, 1, 1, 2, 3, 4, 7])
