@@ -4,7 +4,7 @@ ghost use Rattle.std.specs.Prelude.{◌≡◌, ◌≤◌, nat_lt, length, IsTrue
 ghost use Rattle.std.specs.List.{list_all};
 ghost use Rattle.tp_requests.specs.Spelling.{bytes_spelled};
 ghost use Rattle.tp_decode.specs.Cutting.{cutting};
-ghost use Rattle.tp_collect.specs.DoneValue.{most_message};
+ghost use Rattle.tp_collect.specs.DoneValue.{most_message_bytes};
 ghost use Rattle.tp_answers.specs.Sessions.{session_named, is_full, without_session};
 ghost use Rattle.tp_answers.specs.Rules.{IsVerdict};
 ghost use Rattle.tp_answers.specs.Answers.{IsAnswerToList, IsAnswerToImage, IsAfterImage, answer_to_packet};
@@ -80,7 +80,7 @@ pub fn open(
 
 /// The packet of the bytes that are spelled, which are decoded into it.
 fn packet_of(bytes: &Spelled<'_>) -> Packet
-    requires { length (bytes_spelled bytes.now) ≤ most_message }
+    requires { length (bytes_spelled bytes.now) ≤ most_message_bytes }
     ensures items { result.items ≡ bytes_spelled bytes.now }
     ensures bytes { IsTrue (list_all (λ b. nat_lt b 256) result.items) }
 {

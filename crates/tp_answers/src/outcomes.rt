@@ -19,14 +19,14 @@ pub(crate) struct PacketRun {
 
 impl Model for PacketRun {
     ghost use Rattle.std.specs.Prelude.{◌≤◌, length};
-    ghost use Rattle.tp_collect.specs.DoneValue.{most_message, most_trace};
+    ghost use Rattle.tp_collect.specs.DoneValue.{most_message_bytes, most_trace};
     ghost use Rattle.tp_answers.specs.Results.{RunResult, run_result};
 
     ghost Value = { RunResult };
 
     ghost view = { λ run. run_result run.result.items run.error run.steps run.trace.items };
 
-    ghost invariant = { λ run. (length run.result.items ≤ most_message) × (length run.trace.items ≤ most_trace) };
+    ghost invariant = { λ run. (length run.result.items ≤ most_message_bytes) × (length run.trace.items ≤ most_trace) };
 }
 
 impl PacketRun {

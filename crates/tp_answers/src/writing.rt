@@ -4,7 +4,7 @@ ghost use Rattle.std.specs.Prelude.{◌≡◌, ◌++◌, ◌≤◌, codes, decim
 ghost use Rattle.std.specs.List.{flat_map};
 ghost use Rattle.hex.specs.Hex.{encode_lower};
 ghost use Rattle.tp_decode.specs.Lines.{lines_from};
-ghost use Rattle.tp_collect.specs.DoneValue.{most_message, most_trace};
+ghost use Rattle.tp_collect.specs.DoneValue.{most_message_bytes, most_trace};
 ghost use Rattle.tp_answers.specs.Texts.{text_line, done_line, result_line, trace_text, trace_line, outcome_lines};
 ghost use Rattle.tp_answers.specs.Texts.{outcomes_lines, run_lines, session_lines, answer_text};
 
@@ -17,7 +17,7 @@ use tp_decode::Listing;
 
 /// Writes bytes in hexadecimal.
 fn write_hex(out: &mut Vec<u8>, bytes: &[u8]) -> Result<(), AllocError>
-    requires { length bytes.now ≤ most_message }
+    requires { length bytes.now ≤ most_message_bytes }
     ensures { OnOk result (out.new.items ≡ out.old.items ++ encode_lower bytes.now) }
 {
     let start = out.len();

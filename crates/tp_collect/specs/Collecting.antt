@@ -10,10 +10,6 @@ use Rattle.tp_collect.specs.declared.fault.PutFault.TheVariants.{Filed, NoPacket
 use Rattle.tp_collect.specs.DoneValue.{DoneValue}
 use Rattle.tp_collect.specs.Collected.{JobValue}
 
--- the most packets of a batch
-abbrev pub most_packets : ℕ
-most_packets = 1024
-
 -- a collector: the batch, and the entries so far
 pub record Collection : Type 0 where
   pub batch : JobValue

@@ -1,6 +1,7 @@
 -- What a result says, and of which run it is the result.
-use Rattle.std.specs.Prelude.{ℕ, ◌≤◌, Bool, List, length}
+use Rattle.std.specs.Prelude.{ℕ, ◌*◌, ◌≤◌, Bool, List, length}
 use Rattle.tp_image.specs.Image.{ImageValue}
+use Rattle.tp_image.specs.Limits.{most_message}
 use Rattle.tp_step.specs.Runs.{Run, RunsAlone}
 
 pub record DoneValue : Type 0 where
@@ -34,9 +35,9 @@ done_of_run run batch packet image bytes = record {
   bytes = bytes;
 }
 
--- the most bytes of a packet, and of a result
-abbrev pub most_message : ℕ
-most_message = 256
+-- the most bytes of a packet, and of a result: those of the most words
+abbrev pub most_message_bytes : ℕ
+most_message_bytes = 4 * most_message
 
 -- the most bytes of a packet's trace
 abbrev pub most_trace : ℕ

@@ -1,9 +1,10 @@
 //! Filing results by number.
 
 ghost use Rattle.std.specs.Prelude.{◌≡◌, ◌<◌, ◌≤◌, length, map, replicate, IfOk, slice_set, vec_len};
+ghost use Rattle.tp_board.specs.Limits.{most_packets};
 ghost use Rattle.tp_collect.specs.declared.collected.Entry.TheVariants as entry;
 ghost use Rattle.tp_collect.specs.Collected.{IsCollected, Names, job_of_parts};
-ghost use Rattle.tp_collect.specs.Collecting.{most_packets, collection, vacant, is_vacant, loss_by};
+ghost use Rattle.tp_collect.specs.Collecting.{collection, vacant, is_vacant, loss_by};
 ghost use Rattle.tp_collect.specs.Collecting.{number_fault, put_fault, collection_with, put_answer, lose_answer};
 
 use crate::collected::{Collected, Entry, LostCause};

@@ -2,7 +2,7 @@
 
 ghost use Rattle.std.specs.Prelude.{◌≡◌, ◌≤◌, length};
 ghost use Rattle.tp_step.specs.Runs.{RunsAlone};
-ghost use Rattle.tp_collect.specs.DoneValue.{run_of_parts, done_of_run, most_message, most_trace};
+ghost use Rattle.tp_collect.specs.DoneValue.{run_of_parts, done_of_run, most_message_bytes, most_trace};
 
 use crate::limits::MAX_MESSAGE;
 use arrayvec::ArrayVec;
@@ -47,7 +47,7 @@ impl Model for Done {
 // Inlined, as what makes a `Done` is: else each packet's result is copied twice more on its way to where it is filed.
 #[inline(always)]
 fn message(bytes: &[u8]) -> ArrayVec<u8, MAX_MESSAGE>
-    requires { length bytes.now ≤ most_message }
+    requires { length bytes.now ≤ most_message_bytes }
     ensures { result.items ≡ bytes.now }
 {
     let mut message = ArrayVec::new();
@@ -97,7 +97,7 @@ impl Done {
         steps: u32,
         trace: &[u8],
     ) -> Done
-        requires result { length result_bytes.now ≤ most_message }
+        requires result { length result_bytes.now ≤ most_message_bytes }
         requires trace { length trace.now ≤ most_trace }
         requires alone { RunsAlone image.now bytes.now.items (run_of_parts result_bytes.now error steps trace.now) }
         ensures { result ≡

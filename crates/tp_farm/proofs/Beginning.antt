@@ -10,8 +10,7 @@ use Rattle.std.proofs.lemmas.Bool.Decides.{nat_tests}
 use Rattle.tp_collect.specs.Collected.{JobValue}
 use Rattle.tp_farm.specs.declared.fault.FarmFault.TheVariants.{Members, Packets, Length}
 use Rattle.tp_farm.specs.Jobs.{AreWhole}
-use Rattle.tp_collect.specs.Collecting.{most_packets}
-use Rattle.tp_board.specs.Limits.{most_members}
+use Rattle.tp_board.specs.Limits.{most_packets, most_members}
 use Rattle.tp_farm.specs.Refused.{job_fault, first_other, Begins}
 
 module _ {X Y : Type 0} (f : X → Y) (p : Y → Bool) where

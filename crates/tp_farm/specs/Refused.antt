@@ -1,9 +1,8 @@
 -- Why a batch gives nothing.
 use Rattle.std.specs.Prelude.{ℕ, ◌*◌, ◌<◌, ◌≤◌, ◌==◌, not, ◌||◌, nat_lt, if◌then◌else◌, length, position, Option, Some}
 use Rattle.std.specs.Option.{option_map}
-use Rattle.tp_board.specs.Limits.{most_members}
+use Rattle.tp_board.specs.Limits.{most_packets, most_members}
 use Rattle.tp_collect.specs.Collected.{JobValue}
-use Rattle.tp_collect.specs.Collecting.{most_packets}
 use Rattle.tp_farm.specs.Jobs.{AreWhole}
 use Rattle.tp_farm.specs.declared.fault.FarmFault.{FarmFault}
 use Rattle.tp_farm.specs.declared.fault.FarmFault.TheVariants.{Members, Packets, Length, Thread, Memory}

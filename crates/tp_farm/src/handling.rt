@@ -6,7 +6,7 @@ ghost use Rattle.tp_link.specs.Device.{failures};
 ghost use Rattle.tp_image.specs.Image.{ImageValue};
 ghost use Rattle.tp_outcome.specs.Devices.{devices_of};
 ghost use Rattle.tp_collect.specs.Collected.{IsResult};
-ghost use Rattle.tp_collect.specs.DoneValue.{most_message, most_trace};
+ghost use Rattle.tp_collect.specs.DoneValue.{most_message_bytes, most_trace};
 ghost use Rattle.tp_farm.specs.Settings.{SameDevice, SameSettings};
 ghost use Rattle.tp_farm.specs.Losses.{HasCause};
 ghost use Rattle.tp_farm.specs.Stages.{IsReady, HasGiven, HasTraced};
@@ -117,7 +117,7 @@ fn receive_held<D: LinkDevice>(
     into: &mut [u8; MAX_MESSAGE],
 ) -> Result<(), DeviceFault>
     requires count { n ≡ length (D.state device.old).held }
-    requires most { n ≤ most_message }
+    requires most { n ≤ most_message_bytes }
     ensures settings { SameDevice (D.state device.old) (D.state device.new) }
     ensures rises { (D.state device.new).faults ≡ (D.state device.old).faults + failures result }
     ensures bytes { OnOk result (take n into.new ≡ (D.state device.old).held) }
