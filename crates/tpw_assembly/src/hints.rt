@@ -23,7 +23,7 @@ impl Hint<'static> {
 }
 
 /// The first words of statements.
-const FIRST_WORDS: [&str; 59] = [
+const FIRST_WORDS: [&str; 58] = [
     "packet",
     "result",
     "start",
@@ -82,11 +82,10 @@ const FIRST_WORDS: [&str; 59] = [
     "or",
     "sum",
     "mul",
-    "mod",
 ];
 
 /// How the statement of each is written.
-const FORMS: [&str; 59] = [
+const FORMS: [&str; 58] = [
     "packet N",
     "result N",
     "start N",
@@ -145,7 +144,6 @@ const FORMS: [&str; 59] = [
     "or, without an operand",
     "sum, without an operand",
     "mul, without an operand",
-    "rem gives the remainder",
 ];
 
 /// How a statement is written that begins with a word, if one does.
@@ -170,11 +168,8 @@ fn form_in(line: &str) -> Option<&'static str> {
 }
 
 /// What is said of the first word of a statement that is no instruction.
-fn of_unknown(text: &str, line: &str, fault: SourceFault) -> Option<&'static str> {
+fn of_unknown(line: &str, fault: SourceFault) -> Option<&'static str> {
     let word = word_at(line, fault.column);
-    if fault.line == 1 && text.starts_with('\u{FEFF}') {
-        return Some("the text begins with a byte order mark, U+FEFF: save it without one");
-    }
     if fault.line == 1 && (line.starts_with("YES ") || line.starts_with("NO ")) {
         return Some("a listing of tpw, which is not read back: give the worker's text or image");
     }
@@ -183,9 +178,6 @@ fn of_unknown(text: &str, line: &str, fault: SourceFault) -> Option<&'static str
     }
     if word.starts_with('#') || word.starts_with("//") || word.starts_with('/') {
         return Some("a comment begins with --");
-    }
-    if word.eq_ignore_ascii_case("mod") {
-        return form_of("mod");
     }
     let behind = line
         .get(fault.column.saturating_sub(1)..)
@@ -243,13 +235,12 @@ fn of_number(line: &str) -> Option<&'static str> {
 
 /// What is expected, and what helps, at a word of a line that has a fault.
 fn help_of(
-    text: &str,
     line: &str,
     word: &str,
     fault: SourceFault,
 ) -> (Option<&'static str>, Option<&'static str>) {
     match fault.fault {
-        TextFault::Unknown => (None, of_unknown(text, line, fault)),
+        TextFault::Unknown => (None, of_unknown(line, fault)),
         TextFault::Missing | TextFault::Unexpected | TextFault::Extra => (form_in(line), None),
         TextFault::NoNumber => (of_number(line), of_name(word)),
         TextFault::NoLocal | TextFault::NoLabel | TextFault::NoLoop => (None, of_name(word)),
@@ -290,7 +281,7 @@ pub fn hint_of<'a>(
 ) -> Result<Hint<'a>, AllocError> {
     let line = line_of(text, fault.line);
     let word = word_at(line, fault.column);
-    let (expected, help) = help_of(text, line, word, fault);
+    let (expected, help) = help_of(line, word, fault);
     let near = near_to(alloc, word, fault.fault, names)?;
     // Where help is given, or the name itself is of another kind, no name is near.
     let nearest = match (help, near) {

@@ -3,7 +3,7 @@
 use std::alloc::Global;
 use tpw_asm::addresses;
 use tpw_files::{Failure, Input};
-use tpw_source::{DebugInfo, Label, Named, Statement};
+use tpw_source::{DebugInfo, Label, Named, Printable, Statement};
 use tpw_text::{Local, Position, Source, statement_of};
 
 /// The statements of a text, each at the address of an instruction that it says.
@@ -24,7 +24,7 @@ fn statements_of<'a>(
                 at: *place as usize,
                 line: position.line,
                 column: position.column,
-                text: statement_of(alloc, *line)?,
+                text: Printable(statement_of(alloc, *line)?),
             })?;
         }
     }

@@ -10,7 +10,7 @@ use crate::refusal::Refusal;
 use std::alloc::Global;
 use std::io::Read;
 use std::rt::Files;
-use tpw_files::{Failure, Input, InputFault, Inputs, is_standard, text_of};
+use tpw_files::{Failure, Input, Inputs, is_standard, text_of};
 use tpw_runs::{Expected, Notation, PacketFault, fields_of, packet_of, packets_of, results_of};
 use tpw_text::Position;
 
@@ -87,15 +87,6 @@ fn packets_of_words(
     Ok(packets)
 }
 
-/// The text of a file of messages.
-fn messages_in(text: &[u8]) -> Result<&str, Failure> {
-    let text = text_of(text)?;
-    if text.starts_with('\u{FEFF}') {
-        return Err(Failure::Input(InputFault::ByteOrderMark));
-    }
-    Ok(text)
-}
-
 /// The failure of a file, which is named in it.
 fn in_file(alloc: Global, name: &str, failure: Failure) -> Ending {
     match failure.in_file(alloc, name) {
@@ -138,7 +129,7 @@ fn packets_in<T: Files, R: Read>(
         × (packets_said notation bytes text ≡ Some (map (λ p. p.items) packets.items))) }
 {
     let file = bytes_in(alloc, inputs, name)?;
-    match messages_in(&file) {
+    match text_of(&file) {
         Ok(text) => match packets_of(alloc, text, bytes, notation) {
             Ok(packets) => Ok(packets),
             Err(fault) => Err(no_messages(alloc, name, fault)),
@@ -244,7 +235,7 @@ impl Expecting {
     {
         let name = self.name.as_str();
         let file = bytes_in(alloc, inputs, name)?;
-        match messages_in(&file) {
+        match text_of(&file) {
             Ok(text) => match results_of(alloc, text, bytes, self.notation) {
                 Ok(results) => Ok(results),
                 Err(fault) => Err(no_messages(alloc, name, fault)),

@@ -3,6 +3,7 @@
 ghost use Rattle.std.specs.Prelude.{◌≡◌, ◌≤◌, ◌*◌, All, IfOk, IfErr, length};
 ghost use Rattle.tp_image.specs.Text.{IsTextOf};
 ghost use Rattle.tpw_command_line.specs.Endings.{status_of};
+ghost use Rattle.tpw_occam.specs.Compilation.{IsCompiled};
 
 use std::alloc::Global;
 use std::io::{Eprint, Read, Write};
@@ -15,7 +16,7 @@ use tp_image::layout::WORD_BYTES;
 use tpw_command_line::{
     Asked, Asking, Ending, Profiling, Report, Running, Showing, Stepping, Work,
 };
-use tpw_files::{Failure, Inputs, Outcome, Terminal};
+use tpw_files::{Failure, Input, Inputs, Outcome, Terminal};
 use tpw_inputs::{Occam, Worker};
 use tpw_judging::{accepted_of, write_list, write_why};
 use tpw_running::{Prepared, evaluate_packets, write_check, write_run};
@@ -39,6 +40,20 @@ fn prepare_run<T: Files, R: Read>(
     })
 }
 
+/// The image of a worker, where it is accepted. Where it is refused, `errors` has the fault of the text in occam, or of
+/// any other worker the explanation of `why`.
+fn accepted_worker<E: Write>(
+    alloc: Global,
+    worker: &Worker<'_>,
+    errors: &mut E,
+    input: &Input,
+) -> Result<Option<Accepted>, Failure> {
+    match &worker.occam {
+        Some(occam) => Ok(Some(occam.accepted(alloc, errors, input, &worker.bytes)?)),
+        None => accepted_of(alloc, &worker.bytes, worker.source_text(), errors),
+    }
+}
+
 /// Runs the packets that are asked for on a worker, where it is accepted, and writes what becomes of each.
 fn run_worker<T, R: Read, W: Write, E: Write>(
     rt: &T,
@@ -54,14 +69,19 @@ where
     T: Files + Threads + Wait + Clock + Eprint + Sync,
     ensures { IfErr result (λ e. status_of e ≡ 2 → W.contents writer.new ≡ W.contents writer.old) }
 {
-    let source = worker.source_text();
-    let Some(image) = accepted_of(alloc, &worker.bytes, source, terminal.errors)? else {
+    let Some(image) = accepted_worker(alloc, worker, terminal.errors, &asked.input)? else {
         return Ok(Outcome::Bad);
     };
     let prepared = prepare_run(alloc, inputs, image, &running.showing)?;
-    match &worker.meaning {
-        Some(meaning) if running.check => Ok(write_check(
-            rt, alloc, &prepared, running, meaning, writer, terminal,
+    match &worker.occam {
+        Some(occam) if running.check => Ok(write_check(
+            rt,
+            alloc,
+            &prepared,
+            running,
+            &occam.compiled.worker,
+            writer,
+            terminal,
         )?),
         _ => Ok(write_run(
             rt,
@@ -186,13 +206,13 @@ pub fn evaluate_text<T: Files, R: Read, W: Write, E: Write>(
     terminal: &mut Terminal<'_, E>,
     showing: &Showing,
 ) -> Result<Outcome, Ending>
+    requires { IsCompiled occam.now.text.now occam.now.compiled }
     ensures { IfErr result (λ e. status_of e ≡ 2 → W.contents writer.new ≡ W.contents writer.old) }
 {
-    let image = occam.image(alloc)?;
     let packets = showing
         .asking
-        .packets(alloc, inputs, WORD_BYTES * image.packet as usize)?;
-    let expected = showing.expected(alloc, inputs, WORD_BYTES * image.result as usize)?;
+        .packets(alloc, inputs, occam.packet_bytes())?;
+    let expected = showing.expected(alloc, inputs, occam.result_bytes())?;
     let form = showing.form(&expected);
     let worker = &occam.compiled.worker;
     Ok(evaluate_packets(alloc, worker, &packets, form, writer, terminal.errors)?)

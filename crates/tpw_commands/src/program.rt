@@ -41,7 +41,9 @@ fn assemble<W: Write, E: Write>(
         }
         Language::Occam => {
             let occam = read_occam(alloc, terminal.errors, input, text)?;
-            write_image(alloc, &occam.bytes, writer, name)
+            let bytes = occam.assembled(alloc, terminal.errors, input)?;
+            occam.accepted(alloc, terminal.errors, input, &bytes)?;
+            write_image(alloc, &bytes, writer, name)
         }
     }
 }

@@ -5,6 +5,7 @@ use std::io::Write;
 use tpw_files::{Failure, Outcome, write_line};
 use tpw_inputs::Occam;
 use tpw_occam::Located;
+use tpw_source::Printable;
 use tpw_text::{Position, read_source, source_text};
 
 /// Appends the names of local words, each a comment. The local word 0 is this word of the workspace.
@@ -26,7 +27,7 @@ fn put_source(text: &mut String, lines: &[&str], number: u32) -> Result<(), Allo
     let line = lines
         .get((number as usize).saturating_sub(1))
         .unwrap_or(&"");
-    let said = line.trim_ascii();
+    let said = Printable(line.trim_ascii());
     write!(text, "-- line {number}: {said}\n")
 }
 

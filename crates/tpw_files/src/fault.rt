@@ -19,7 +19,7 @@ pub enum InputFault {
     /// It is empty, where a worker is wanted.
     #[error(": it is empty: a worker is wanted")]
     Empty,
-    /// It begins with a byte order mark, where messages are wanted.
+    /// It begins with a byte order mark, where a text is wanted.
     #[error(":1:1: it begins with a byte order mark, U+FEFF: save it without one")]
     ByteOrderMark,
     /// Its lines end with carriage returns alone.

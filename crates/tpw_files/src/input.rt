@@ -127,11 +127,17 @@ fn utf8(bytes: &[u8]) -> Result<&str, Failure>
     }
 }
 
-/// The text that bytes are, whose lines do not end with carriage returns alone.
+/// A byte order mark, U+FEFF, in UTF-8.
+const MARK: [u8; 3] = [0xEF, 0xBB, 0xBF];
+
+/// The text that bytes are. It begins with no byte order mark, and its lines do not end with carriage returns alone.
 pub fn text_of(bytes: &[u8]) -> Result<&str, Failure>
     ensures text { IfOk result (λ text. text.now ≡ bytes.now) }
     ensures fault { IfErr result (IsNoText bytes.now) }
 {
+    if bytes.starts_with(&MARK) {
+        return Err(Failure::Input(InputFault::ByteOrderMark));
+    }
     if bytes.trim_ascii_end().contains(&b'\r') && !bytes.contains(&b'\n') {
         return Err(Failure::Input(InputFault::CarriageReturns));
     }

@@ -3,17 +3,9 @@ use Rattle.std.specs.Prelude.{◌≡◌, ℕ, ◌*◌, List}
 use Rattle.tp_image.specs.Image.{ImageValue}
 use Rattle.tp_image.specs.Text.{IsTextOf}
 use Rattle.tp_step.specs.Runs.{Run, RunsAlone}
-use Rattle.tp_accept.specs.Acceptance.{IsAcceptable}
 use Rattle.tpw_occam_core.specs.declared.worker.Worker.{Worker}
 use Rattle.tpw_occam_core.specs.Meaning.{meaning}
 use Rattle.tpw_occam_code.specs.Program.{IsPacket, GivesMeaning, place_bytes, message_bytes}
-
--- the verifier accepts the image that these bytes spell
-pub record AreAccepted (bytes : List ℕ) : Type 0 where
-  pub image : ImageValue
-  pub read : IsTextOf bytes image
-  pub budget : ℕ
-  pub acceptable : IsAcceptable image budget
 
 -- An image does what a worker means: its packets and results have the worker's sizes, and where it runs alone on a
 -- packet, the run gives what the worker makes of the packet.
@@ -23,7 +15,8 @@ pub record DoesWhatIsMeant (worker : Worker) (image : ImageValue) : Type 0 where
   pub runs : (bytes : List ℕ) (run : Run) → IsPacket image bytes → RunsAlone image bytes run
       → GivesMeaning run (meaning worker bytes)
 
--- the image that bytes spell is one that the verifier accepts, and does what a worker means
+-- the image that bytes spell does what a worker means
 pub record AreImageOfWorker (worker : Worker) (bytes : List ℕ) : Type 0 where
-  pub accepted : AreAccepted bytes
-  pub does : DoesWhatIsMeant worker accepted.image
+  pub image : ImageValue
+  pub read : IsTextOf bytes image
+  pub does : DoesWhatIsMeant worker image

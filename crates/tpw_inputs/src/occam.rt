@@ -1,8 +1,7 @@
-//! Workers in occam: their texts compiled to images, which the verifier judges.
+//! Workers in occam: their texts, compiled. Their images are made and judged where a command asks for that.
 
-ghost use Rattle.std.specs.Prelude.{◌≡◌, ◌≤◌, IfOk, OnOk, true};
-ghost use Rattle.tpw_occam_core.specs.Sound.{is_sound};
-ghost use Rattle.tpw_inputs.specs.Meanings.{AreAccepted, AreImageOfWorker};
+ghost use Rattle.std.specs.Prelude.{◌≡◌, ◌*◌, ◌≤◌, IfOk};
+ghost use Rattle.tp_image.specs.Text.{IsTextOf};
 ghost use Rattle.tpw_assembly.specs.Programs.{AreImageOf};
 ghost use Rattle.tpw_occam.specs.Compilation.{IsCompiled};
 
@@ -10,27 +9,82 @@ use crate::budget::over_budget;
 use crate::refused::{CompilerFault, report_compiler, report_messages, report_refusal};
 use std::alloc::Global;
 use std::io::Write;
-use tp_accept::{Refusal, RefusalCode, accept};
-use tp_image::{Image, read_image, write_image};
-use tpw_asm::{AssemblyFault, Program, assemble};
+use tp_accept::{Accepted, Refusal, RefusalCode, accept};
+use tp_image::layout::WORD_BYTES;
+use tp_image::write_image;
+use tpw_asm::{AssemblyFault, assemble};
 use tpw_files::{Failure, Input, InputFault, text_of};
 use tpw_occam::{CompiledText, Defect, Message, compile_text};
 
-/// A text in occam, what it is compiled to, and the bytes of its image, which is accepted.
+/// A text in occam, and what it is compiled to.
 #[derive(Drop)]
 pub struct Occam<'a> {
     pub text: &'a str,
     pub compiled: CompiledText<'a>,
-    pub bytes: Vec<u8>,
 }
 
 impl Occam<'_> {
-    /// The image that its bytes say.
-    pub fn image(&self, alloc: Global) -> Result<Image, Failure>
-        ensures packet { IfOk result (λ image. image.packet ≤ 64) }
-        ensures output { IfOk result (λ image. image.result ≤ 64) }
+    /// How many bytes a packet has.
+    pub fn packet_bytes(&self) -> usize
+        requires { IsCompiled self.now.text.now self.now.compiled }
+        ensures value { result ≡ 4 * self.now.compiled.program.packet }
+        ensures most { result ≤ 256 }
     {
-        Ok(read_image(alloc, &self.bytes)?)
+        WORD_BYTES * self.compiled.program.packet as usize
+    }
+
+    /// How many bytes a result has.
+    pub fn result_bytes(&self) -> usize
+        requires { IsCompiled self.now.text.now self.now.compiled }
+        ensures value { result ≡ 4 * self.now.compiled.program.result }
+        ensures most { result ≤ 256 }
+    {
+        WORD_BYTES * self.compiled.program.result as usize
+    }
+
+    /// Assembles its program. Returns the bytes of the image, accepted or not.
+    pub fn assembled<E: Write>(
+        &self,
+        alloc: Global,
+        errors: &mut E,
+        input: &Input,
+    ) -> Result<Vec<u8>, Failure>
+        ensures { IfOk result (λ bytes. AreImageOf self.now.compiled.program bytes.items) }
+    {
+        match assemble(alloc, &self.compiled.program) {
+            Ok(image) => Ok(write_image(alloc, &image)?),
+            Err(AssemblyFault::Memory) => Err(Failure::Memory),
+            Err(fault) => {
+                let fault = CompilerFault::Made(Defect::Program(fault));
+                Err(report_compiler(errors, input, fault))
+            }
+        }
+    }
+
+    /// Judges the bytes of its image. Where the verifier refuses them for a budget that is too large, the fault is the
+    /// text's, else the compiler's: it is reported.
+    pub fn accepted<E: Write>(
+        &self,
+        alloc: Global,
+        errors: &mut E,
+        input: &Input,
+        bytes: &[u8],
+    ) -> Result<Accepted, Failure>
+        ensures { IfOk result (λ accepted. IsTextOf bytes.now accepted.image) }
+    {
+        let copy = Vec::from_slice(alloc, bytes)?;
+        let (code, place) = match accept(alloc, copy) {
+            Ok(accepted) => return Ok(accepted),
+            Err(Refusal::Memory) => return Err(Failure::Memory),
+            Err(Refusal::Refused { code, place }) => (code, place),
+        };
+        if code == RefusalCode::B1 {
+            if let Some(message) = over_budget(alloc, self.text, &self.compiled, bytes)? {
+                return Err(report_messages(alloc, errors, input, self.text, &[message]));
+            }
+        }
+        let fault = CompilerFault::Refused { code, place };
+        Err(report_compiler(errors, input, fault))
     }
 }
 
@@ -59,65 +113,18 @@ fn compiled_from<'a, E: Write>(
     }
 }
 
-/// The bytes of the image of a program that was compiled.
-fn image_of<E: Write>(
-    alloc: Global,
-    errors: &mut E,
-    input: &Input,
-    program: &Program,
-) -> Result<Vec<u8>, Failure>
-    ensures { IfOk result (λ bytes. AreImageOf program.now bytes.items) }
-{
-    match assemble(alloc, program) {
-        Ok(image) => Ok(write_image(alloc, &image)?),
-        Err(AssemblyFault::Memory) => Err(Failure::Memory),
-        Err(fault) => {
-            let fault = CompilerFault::Made(Defect::Program(fault));
-            Err(report_compiler(errors, input, fault))
-        }
-    }
-}
-
-/// Refuses a text whose image the verifier refuses: of one whose budget is too large that is the text's fault, else the
-/// compiler's. It is reported.
-fn check_accepted<E: Write>(
-    alloc: Global,
-    errors: &mut E,
-    input: &Input,
-    text: &str,
-    compiled: &CompiledText<'_>,
-    bytes: &[u8],
-) -> Result<(), Failure>
-    ensures { OnOk result (AreAccepted bytes.now) }
-{
-    let copy = Vec::from_slice(alloc, bytes)?;
-    let (code, place) = match accept(alloc, copy) {
-        Ok(_) => return Ok(()),
-        Err(Refusal::Memory) => return Err(Failure::Memory),
-        Err(Refusal::Refused { code, place }) => (code, place),
-    };
-    if code == RefusalCode::B1 {
-        if let Some(message) = over_budget(alloc, text, compiled, bytes)? {
-            return Err(report_messages(alloc, errors, input, text, &[message]));
-        }
-    }
-    let fault = CompilerFault::Refused { code, place };
-    Err(report_compiler(errors, input, fault))
-}
-
 /// Reads a worker in occam. What may not be meant in it goes to `errors`, and so does why it says none
-/// (`Failure::Reported`).
+/// (`Failure::Reported`). Nothing of it is assembled, and nothing judged.
 ///
-/// What the text means is `compiled.worker`: its packets' meanings are what the farm computes of the bytes.
+/// What the text means is `compiled.worker`.
 pub fn read_occam<'a, E: Write>(
     alloc: Global,
     errors: &mut E,
     input: &Input,
     text: &'a [u8],
 ) -> Result<Occam<'a>, Failure>
-    ensures sound { IfOk result (λ occam. is_sound occam.compiled.worker ≡ true) }
-    ensures program { IfOk result (λ occam. AreImageOf occam.compiled.program occam.bytes.items) }
-    ensures worker { IfOk result (λ occam. AreImageOfWorker occam.compiled.worker occam.bytes.items) }
+    ensures text { IfOk result (λ occam. occam.text.now ≡ text.now) }
+    ensures compiled { IfOk result (λ occam. IsCompiled occam.text.now occam.compiled) }
 {
     if text.trim_ascii().is_empty() {
         return Err(Failure::Input(InputFault::Empty));
@@ -125,11 +132,5 @@ pub fn read_occam<'a, E: Write>(
     let text = text_of(text)?;
     let compiled = compiled_from(alloc, errors, input, text)?;
     write_notes(errors, input, &compiled.notes);
-    let bytes = image_of(alloc, errors, input, &compiled.program)?;
-    check_accepted(alloc, errors, input, text, &compiled, &bytes)?;
-    Ok(Occam {
-        text,
-        compiled,
-        bytes,
-    })
+    Ok(Occam { text, compiled })
 }

@@ -4,7 +4,7 @@ use std::alloc::Global;
 use tpw_asm::addresses;
 use tpw_files::{Failure, Input};
 use tpw_occam::{CompiledText, Located};
-use tpw_source::{DebugInfo, Named, Statement};
+use tpw_source::{DebugInfo, Named, Printable, Statement};
 
 /// The lines of a text in occam, each at the addresses of the instructions that come from it.
 fn statements_of<'a>(
@@ -23,7 +23,7 @@ fn statements_of<'a>(
                 at: *place as usize,
                 line,
                 column: said.len().saturating_sub(statement.len()).saturating_add(1),
-                text: statement.trim_ascii_end(),
+                text: Printable(statement.trim_ascii_end()),
             })?;
         }
     }

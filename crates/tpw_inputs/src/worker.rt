@@ -11,15 +11,15 @@ use std::io::Write;
 use tp_image::{Image, read_image};
 use tpw_assembly::{assembled_text, note_source};
 use tpw_files::{Failure, Input, InputFault, Language, TextFault, bytes_of, text_of};
-use tpw_occam_core::Worker as Meaning;
 use tpw_source::{DebugInfo, SourceText};
 use tpw_text::read_source;
 
-/// A worker: the bytes of its image, accepted or not, what its text says of its code, and in occam what it means.
+/// A worker: the bytes of its image, accepted or not, its text where that is in occam, and what its text says of its
+/// code.
 #[derive(Drop)]
 pub struct Worker<'a> {
     pub bytes: Vec<u8>,
-    pub meaning: Option<Meaning>,
+    pub occam: Option<Occam<'a>>,
     debug: Option<DebugInfo<'a>>,
 }
 
@@ -48,7 +48,7 @@ fn read_assembly<'a, E: Write>(
     input: &Input,
     text: &'a str,
 ) -> Result<Worker<'a>, Failure>
-    ensures { IfOk result (λ worker. worker.meaning ≡ None) }
+    ensures { IfOk result (λ worker. worker.occam ≡ None) }
 {
     let source = read_source(alloc, text)?;
     note_source(alloc, errors, input, text, &source)?;
@@ -56,7 +56,7 @@ fn read_assembly<'a, E: Write>(
     let debug = tpw_assembly::debug_info(alloc, input, text, &source)?;
     Ok(Worker {
         bytes,
-        meaning: None,
+        occam: None,
         debug: Some(debug),
     })
 }
@@ -68,17 +68,15 @@ fn read_compiled<'a, E: Write>(
     input: &Input,
     text: &'a [u8],
 ) -> Result<Worker<'a>, Failure>
-    ensures { IfOk result (λ worker. IfSome worker.meaning (λ meant. AreImageOfWorker meant worker.bytes.items)) }
+    ensures { IfOk result (λ worker. IfSome worker.occam
+        (λ occam. AreImageOfWorker occam.compiled.worker worker.bytes.items)) }
 {
-    let Occam {
-        text,
-        compiled,
-        bytes,
-    } = read_occam(alloc, errors, input, text)?;
-    let debug = debug_info(alloc, input, text, &compiled)?;
+    let occam = read_occam(alloc, errors, input, text)?;
+    let bytes = occam.assembled(alloc, errors, input)?;
+    let debug = debug_info(alloc, input, occam.text, &occam.compiled)?;
     Ok(Worker {
         bytes,
-        meaning: Some(compiled.worker),
+        occam: Some(occam),
         debug: Some(debug),
     })
 }
@@ -90,7 +88,7 @@ fn read_assembled<'a, E: Write>(
     input: &Input,
     text: &'a [u8],
 ) -> Result<Worker<'a>, Failure>
-    ensures { IfOk result (λ worker. worker.meaning ≡ None) }
+    ensures { IfOk result (λ worker. worker.occam ≡ None) }
 {
     if text.trim_ascii().is_empty() {
         return Err(Failure::Input(InputFault::Empty));
@@ -98,7 +96,7 @@ fn read_assembled<'a, E: Write>(
     match bytes_of(alloc, text) {
         Ok(bytes) => Ok(Worker {
             bytes,
-            meaning: None,
+            occam: None,
             debug: None,
         }),
         Err(TextFault::Memory) => Err(Failure::Memory),
@@ -116,7 +114,8 @@ pub fn read_worker<'a, E: Write>(
     language: Language,
     text: &'a [u8],
 ) -> Result<Worker<'a>, Failure>
-    ensures { IfOk result (λ worker. IfSome worker.meaning (λ meant. AreImageOfWorker meant worker.bytes.items)) }
+    ensures { IfOk result (λ worker. IfSome worker.occam
+        (λ occam. AreImageOfWorker occam.compiled.worker worker.bytes.items)) }
 {
     match language {
         Language::Assembly => read_assembled(alloc, errors, input, text),

@@ -4,8 +4,8 @@ ghost use Rattle.std.specs.Prelude.{◌≤◌, All, IfOk, length};
 ghost use Rattle.tpw_occam_tree.specs.Places.{LiesIn};
 
 use std::alloc::{AllocError, Global};
-use tpw_occam_elaboration::{Fault, Note};
-use tpw_occam_tree::{Span, placed};
+use tpw_occam_elaboration::{Fault, FaultKind, Note};
+use tpw_occam_tree::{FaultKind as SyntaxFault, Span, Wanted, placed};
 
 /// The most messages that a text is refused with.
 const MAX_MESSAGES: usize = 20;
@@ -15,6 +15,23 @@ const MAX_MESSAGES: usize = 20;
 pub struct Message {
     pub span: Span,
     pub text: String,
+}
+
+/// What is said of a fault. Where an operator is wanted, the token is named that stands in its place.
+fn said_of(alloc: Global, text: &str, fault: &Fault<'_>) -> Result<String, AllocError> {
+    let kind = fault.kind;
+    let token = token_at(text, fault.span);
+    if kind == FaultKind::Syntax(SyntaxFault::Wanted(Wanted::Operator)) && !token.is_empty() {
+        return format!(in alloc; "{kind}: in front of `{token}`");
+    }
+    format!(in alloc; "{kind}")
+}
+
+/// What stands at a span of a text.
+fn token_at(text: &str, span: Span) -> &str {
+    let line = text.lines().nth(span.line.saturating_sub(1)).unwrap_or("");
+    let start = span.column.saturating_sub(1);
+    line.get(start..start.saturating_add(span.width)).unwrap_or("")
 }
 
 /// What is wrong with a text, as far as it is told.
@@ -31,10 +48,9 @@ pub(crate) fn messages_of(
         if messages.len() >= MAX_MESSAGES {
             break;
         }
-        let kind = fault.kind;
         messages.push(Message {
             span: placed(text, fault.span),
-            text: format!(in alloc; "{kind}")?,
+            text: said_of(alloc, text, fault)?,
         })?;
     }
     Ok(messages)

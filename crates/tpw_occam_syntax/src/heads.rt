@@ -6,10 +6,12 @@ use crate::layout::Block;
 use crate::phrases::{
     around, keyword_of, name, name_of, position_of, position_of_keyword, symbol_of,
 };
-use crate::reading::{ListKind, MAX_DEPTH, listed, place, span_of, trees_behind, wanted};
+use crate::reading::{
+    ListKind, MAX_DEPTH, listed, place, span_of, trees_behind, up_to_comma, wanted,
+};
 use crate::stop::Stop;
 use crate::symbol::Symbol;
-use crate::token::Tree;
+use crate::token::{Bracket, Tree};
 use std::alloc::{AllocError, Global};
 use tpw_occam_tree::{
     Declaration, Dyadic, Expression, Fault, FaultKind, Name, Parameters, Process, Span,
@@ -133,6 +135,14 @@ fn assignment<'a>(
     })
 }
 
+/// That one message alone stands behind `?` or `!`.
+fn one_message(trees: &[Tree<'_>]) -> Result<(), Stop> {
+    match trees.get(up_to_comma(trees)) {
+        Some(comma) => wanted(Wanted::OneMessage, span_of(comma)),
+        None => Ok(()),
+    }
+}
+
 /// `c ? x`, where `?` stands.
 fn receive<'a>(
     alloc: Global,
@@ -142,6 +152,7 @@ fn receive<'a>(
 ) -> Result<Process<'a>, Stop> {
     let (front, behind) = around(trees, at);
     let channel = name(front, place(trees_behind(trees, at), block.end))?;
+    one_message(behind)?;
     let target = value(alloc, behind, block.end)?;
     variable(&target)?;
     Ok(Process::Receive {
@@ -159,8 +170,10 @@ fn send<'a>(
     block: &Block<'a>,
 ) -> Result<Process<'a>, Stop> {
     let (front, behind) = around(trees, at);
+    let channel = name(front, place(trees_behind(trees, at), block.end))?;
+    one_message(behind)?;
     Ok(Process::Send {
-        channel: name(front, place(trees_behind(trees, at), block.end))?,
+        channel,
         value: value(alloc, behind, block.end)?,
         span: block.span,
     })
@@ -187,6 +200,21 @@ fn call<'a>(alloc: Global, block: &Block<'a>) -> Result<Process<'a>, Stop> {
     }
 }
 
+/// A keyword in small letters that a line begins with, where it is no name that is called.
+fn small_keyword(trees: &[Tree<'_>]) -> Option<Span> {
+    let name = name_of(trees.first()?)?;
+    let is_called = matches!(
+        trees.get(1),
+        Some(
+            Tree::Group {
+                bracket: Bracket::Round,
+                ..
+            },
+        )
+    );
+    (Keyword::is_small(name.text) && !is_called).then_some(name.span)
+}
+
 /// A process of one line that begins with no keyword: an assignment, a message or a call.
 fn simple<'a>(alloc: Global, block: &Block<'a>) -> Result<Process<'a>, Stop> {
     let trees = &block.trees;
@@ -199,7 +227,10 @@ fn simple<'a>(alloc: Global, block: &Block<'a>) -> Result<Process<'a>, Stop> {
     if let Some(at) = position_of(trees, Symbol::Send) {
         return send(alloc, trees, at, block);
     }
-    call(alloc, block)
+    match small_keyword(trees) {
+        Some(span) => wanted(Wanted::Capitals, span),
+        None => call(alloc, block),
+    }
 }
 
 /// That nothing stands behind a keyword.

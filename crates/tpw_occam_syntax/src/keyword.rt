@@ -128,6 +128,13 @@ impl Keyword {
         None
     }
 
+    /// Whether a word is a keyword but for its capitals.
+    pub fn is_small(word: &str) -> bool {
+        KEYWORDS
+            .iter()
+            .any(|(spelling, _)| spelling.eq_ignore_ascii_case(word))
+    }
+
     /// Whether a line may go on behind it on the next line: operators, and `IS`.
     pub fn is_open(self) -> bool {
         matches!(

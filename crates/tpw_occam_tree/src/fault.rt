@@ -56,6 +56,10 @@ pub enum Wanted {
     True,
     /// No second `ELSE`.
     OneElse,
+    /// A keyword's capitals.
+    Capitals,
+    /// No second value in a message.
+    OneMessage,
 }
 
 impl Wanted {
@@ -122,6 +126,8 @@ impl fmt::Display for Wanted {
                 "outside a PROC stand declarations alone: put processes into the worker's PROC",
             Wanted::True => "the last guard of an IF is TRUE: ELSE belongs to CASE",
             Wanted::OneElse => "a CASE has one ELSE",
+            Wanted::Capitals => "keywords are in capitals",
+            Wanted::OneMessage => "a message is one value or one array: put several values into an array",
         })
     }
 }

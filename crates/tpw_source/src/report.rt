@@ -1,6 +1,7 @@
 //! Faults of a text, as they are reported: each with its line.
 
 use crate::fault::ShowFault;
+use crate::printable::{Printable, is_numbered};
 use std::io::Write;
 
 /// The longest line that is quoted, in bytes.
@@ -27,10 +28,14 @@ pub struct Reported<'a> {
     pub nearest: Option<&'a str>,
 }
 
-/// Writes white space of the width of a text, and tabs where that has them.
+/// Writes white space of the width that a text is printed in, and tabs where it has them.
 fn write_margin<W: Write>(before: &str, writer: &mut W) -> Result<(), ShowFault> {
     for c in before.chars() {
-        let space = if c == '\t' { "\t" } else { " " };
+        let space = match c {
+            '\t' => "\t",
+            _ if is_numbered(c) => "    ",
+            _ => " ",
+        };
         write!(writer, "{space}").map_err(|_| ShowFault::Write)?;
     }
     Ok(())
@@ -39,7 +44,8 @@ fn write_margin<W: Write>(before: &str, writer: &mut W) -> Result<(), ShowFault>
 /// Writes a line of a text, and a caret below each byte of a spot.
 fn write_quoted<W: Write>(line: &str, spot: Spot, writer: &mut W) -> Result<(), ShowFault> {
     let number = spot.line;
-    writeln!(writer, "{number:>5} | {line}").map_err(|_| ShowFault::Write)?;
+    let printed = Printable(line);
+    writeln!(writer, "{number:>5} | {printed}").map_err(|_| ShowFault::Write)?;
     write!(writer, "      | ").map_err(|_| ShowFault::Write)?;
     let before = line.get(..spot.column.saturating_sub(1)).unwrap_or("");
     write_margin(before, writer)?;
@@ -65,6 +71,7 @@ pub fn write_report<W: Write>(
         nearest,
     } = *fault;
     let Spot { line, column, .. } = spot;
+    let message = Printable(message);
     write!(writer, "{name}:{line}:{column}: {message}").map_err(|_| ShowFault::Write)?;
     if let Some(expected) = expected {
         write!(writer, "; expected {expected}").map_err(|_| ShowFault::Write)?;

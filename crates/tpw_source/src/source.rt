@@ -3,6 +3,7 @@
 ghost use Rattle.std.specs.Prelude.{◌≡◌, option_map};
 ghost use Rattle.tpw_source.specs.Said.{statement_at, line_before, is_word_of, named, named_from};
 
+use crate::printable::Printable;
 use std::fmt;
 use tp_image::LoopRow;
 
@@ -13,7 +14,7 @@ pub struct Statement<'a> {
     /// The line of the text and the column of the statement, counted from 1.
     pub line: usize,
     pub column: usize,
-    pub text: &'a str,
+    pub text: Printable<'a>,
 }
 
 /// A label of a text, and its address.
