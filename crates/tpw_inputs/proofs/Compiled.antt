@@ -5,7 +5,7 @@ use Rattle.tp_image.proofs.Unique.{one_image}
 use Rattle.tpw_asm.specs.declared.program.Program.{Program}
 use Rattle.tpw_asm.specs.Assembly.{IsAssembly}
 use Rattle.tpw_occam_core.specs.declared.worker.Worker.{Worker}
-use Rattle.tpw_occam_code.specs.Program.{Means}
+use Rattle.tpw_occam_symbolic.specs.Program.{Means}
 use Rattle.tpw_assembly.specs.Programs.{AreImageOf}
 use Rattle.tpw_inputs.specs.Meanings.{AreAccepted, AreImageOfWorker, DoesWhatIsMeant}
 

@@ -6,7 +6,7 @@ use Rattle.tp_step.specs.Runs.{Run, RunsAlone}
 use Rattle.tp_accept.specs.Acceptance.{IsAcceptable}
 use Rattle.tpw_occam_core.specs.declared.worker.Worker.{Worker}
 use Rattle.tpw_occam_core.specs.Meaning.{meaning}
-use Rattle.tpw_occam_code.specs.Program.{IsPacket, GivesMeaning, place_bytes, message_bytes}
+use Rattle.tpw_occam_symbolic.specs.Program.{IsPacket, GivesMeaning, place_bytes, message_bytes}
 
 -- the verifier accepts the image that these bytes spell
 pub record AreAccepted (bytes : List ℕ) : Type 0 where

@@ -1,7 +1,7 @@
 use Rattle.std.proofs.Common.{subst}
-use Rattle.tpw_occam_code.specs.Flowing.{AreFewAround}
+use Rattle.tpw_occam_symbolic.specs.Flowing.{AreFewAround}
 use Rattle.tpw_occam_code.proofs.Starting.{built_means}
-use Rattle.tpw_occam_code.proofs.KeepingRules.{built_keeps}
+use Rattle.tpw_occam_symbolic.proofs.KeepingRules.{built_keeps}
 use Rattle.tpw_occam_code.proofs.compiled.compile.Goals as goal
 
 pub returns-clause-means : goal.returns-clause-means
