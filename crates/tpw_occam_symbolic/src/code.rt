@@ -179,12 +179,7 @@ impl Code {
     }
 
     /// Appends code that is passed over, by a `cj` before it, where Areg is 0. It must have been made for its place.
-    pub fn branch(
-        &mut self,
-        alloc: Global,
-        source: u32,
-        more: &Code,
-    ) -> Result<(), CodeFault>
+    pub fn branch(&mut self, alloc: Global, source: u32, more: &Code) -> Result<(), CodeFault>
         ensures { OnOk result (self.new
             ≡ joined (followed_by self.old (line_of source (CjTo (place_behind more.now)) ∷ [])) more.now) }
     {
@@ -228,12 +223,7 @@ impl Code {
 
     /// Appends the code of a turn and the end of its loop, and adds the loop. The turn must have been made for its
     /// place, behind some code.
-    pub fn end_loop(
-        &mut self,
-        alloc: Global,
-        turn: &Code,
-        turns: Turns,
-    ) -> Result<(), CodeFault>
+    pub fn end_loop(&mut self, alloc: Global, turn: &Code, turns: Turns) -> Result<(), CodeFault>
         ensures { OnOk result (self.new ≡ turned_lines self.old turn.now turns) }
     {
         let source = turns.source;
