@@ -10,8 +10,8 @@ use Rattle.tpw_occam_core.specs.declared.worker.Place.{Place}
 use Rattle.tpw_occam_core.specs.declared.worker.Place.TheVariants as place
 use Rattle.tpw_occam_core.specs.declared.worker.Worker.{Worker}
 use Rattle.tpw_occam_core.specs.Sound.{is_sound, is_sound_place, is_sound_message, are_declared, globals}
-use Rattle.tpw_occam_code.specs.Program.{Means, place_bytes, message_bytes}
-use Rattle.tpw_occam_code.proofs.Standing.{and_first, and_second}
+use Rattle.tpw_occam_symbolic.specs.Program.{Means, place_bytes, message_bytes}
+use Rattle.tpw_occam_symbolic.proofs.Sizes.{and_first, and_second}
 use Rattle.tpw_assembly.specs.Programs.{AreImageOf}
 use Rattle.tpw_inputs.specs.Meanings.{AreImageOfWorker, DoesWhatIsMeant}
 

@@ -5,7 +5,7 @@ use Rattle.tp_image.specs.Text.{IsTextOf}
 use Rattle.tp_step.specs.Runs.{Run, RunsAlone}
 use Rattle.tpw_occam_core.specs.declared.worker.Worker.{Worker}
 use Rattle.tpw_occam_core.specs.Meaning.{meaning}
-use Rattle.tpw_occam_code.specs.Program.{IsPacket, GivesMeaning, place_bytes, message_bytes}
+use Rattle.tpw_occam_symbolic.specs.Program.{IsPacket, GivesMeaning, place_bytes, message_bytes}
 
 -- An image does what a worker means: its packets and results have the worker's sizes, and where it runs alone on a
 -- packet, the run gives what the worker makes of the packet.

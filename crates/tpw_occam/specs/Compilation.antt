@@ -2,7 +2,7 @@
 -- verifier on fields, instructions, loops and jumps; or messages whose places lie in the text.
 use Rattle.std.specs.Prelude.{◌≡◌, ◌≤◌, ℕ, true, List, Result, Ok, Err, All, length, ⊤}
 use Rattle.tpw_occam_core.specs.Sound.{is_sound}
-use Rattle.tpw_occam_code.specs.Program.{HasLayout, Means, GivesRuled}
+use Rattle.tpw_occam_symbolic.specs.Program.{HasLayout, Means, GivesRuled}
 use Rattle.tpw_occam_tree.specs.Places.{LiesIn}
 use Rattle.tpw_occam.specs.declared.message.Message.{Message}
 use Rattle.tpw_occam.specs.declared.compiling.CompiledText.{CompiledText}

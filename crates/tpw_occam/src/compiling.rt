@@ -10,9 +10,10 @@ use crate::message::{Message, message_at, messages_of, notes_of};
 use crate::names::{Located, located_in};
 use std::alloc::{AllocError, Global};
 use tpw_asm::Program;
-use tpw_occam_code::{CodeFault, Compiled, compile};
+use tpw_occam_code::compile;
 use tpw_occam_core::Worker;
 use tpw_occam_elaboration::{Elaborated, ElaborationError, Fault, FaultKind, elaborate};
+use tpw_occam_symbolic::{CodeFault, Compiled};
 use tpw_occam_syntax::parse;
 use tpw_occam_tree::Source;
 

@@ -1,8 +1,8 @@
 //! Names of a text, and the workspace words that they have.
 
 use std::alloc::{AllocError, Global};
-use tpw_occam_code::{Item, Placed, START};
 use tpw_occam_elaboration::Named;
+use tpw_occam_symbolic::{Item, Placed, START};
 use tpw_occam_tree::Span;
 
 /// A name of a variable or of an array, and its words of the workspace.

@@ -6,15 +6,15 @@ use Rattle.tp_decode.specs.declared.instr.Instr.{Instr}
 use Rattle.tp_decode.specs.declared.instr.Instr.TheVariants.{Csub0}
 use Rattle.tpw_occam_core.specs.declared.arithmetic.Answer.{Answer}
 use Rattle.tpw_occam_core.specs.Arithmetic.{answer, plain}
-use Rattle.tpw_occam_code.specs.declared.code.Step.TheVariants.{Plain}
-use Rattle.tpw_occam_code.specs.Code.{Lines, followed_by, line_of, place_behind}
-use Rattle.tpw_occam_code.specs.Symbolic.{Machine, pair_answer, effect, performed, at_place, number, push, pop, raised}
-use Rattle.tpw_occam_code.specs.Leading.{Makes, HasConstants}
+use Rattle.tpw_occam_symbolic.specs.declared.code.Step.TheVariants.{Plain}
+use Rattle.tpw_occam_symbolic.specs.Code.{Lines, followed_by, line_of, place_behind}
+use Rattle.tpw_occam_symbolic.specs.Symbolic.{Machine, pair_answer, effect, performed, at_place, number, push, pop, raised}
+use Rattle.tpw_occam_symbolic.specs.Leading.{Makes, HasConstants}
 use Rattle.tpw_occam_core.specs.declared.expression.Operator.{Operator}
 use Rattle.tpw_occam_core.specs.declared.expression.Operator.TheVariants.{ShiftLeft, ShiftRight}
 use Rattle.tpw_occam_code.specs.Computing.{IsNoShift}
 use Rattle.tpw_occam_code.specs.Values.{HasCount, HasOperands, HasNumber, Replaces, Answers, answered}
-use Rattle.tpw_occam_code.proofs.Leading.{does_step, does_both, does_less, does_nothing}
+use Rattle.tpw_occam_symbolic.proofs.Leading.{does_step, does_both, does_less, does_nothing}
 use Rattle.tpw_occam_code.proofs.Machines.{makes_pair}
 
 -- one answer after another

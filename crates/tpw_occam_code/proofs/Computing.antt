@@ -11,13 +11,13 @@ use Rattle.tpw_occam_core.specs.declared.scope.Entry.{Entry}
 use Rattle.tpw_occam_core.specs.Arithmetic.{answer, plain}
 use Rattle.tpw_occam_core.specs.Meaning.{Store}
 use Rattle.tpw_occam_core.specs.Sound.{is_name}
-use Rattle.tpw_occam_code.specs.declared.items.Item.{Item}
-use Rattle.tpw_occam_code.specs.declared.items.Item.TheVariants.{Variable, Constant, Array}
-use Rattle.tpw_occam_code.specs.declared.code.Step.TheVariants.{Load}
-use Rattle.tpw_occam_code.specs.Code.{Lines, followed_by, line_of, place_behind}
-use Rattle.tpw_occam_code.specs.Blocks.{Blocks, bytes_at, word_at}
-use Rattle.tpw_occam_code.specs.Symbolic.{Machine, performed, at_place, number, push}
-use Rattle.tpw_occam_code.specs.Leading.{Does, HasConstants, HasWord, Makes}
+use Rattle.tpw_occam_symbolic.specs.declared.items.Item.{Item}
+use Rattle.tpw_occam_symbolic.specs.declared.items.Item.TheVariants.{Variable, Constant, Array}
+use Rattle.tpw_occam_symbolic.specs.declared.code.Step.TheVariants.{Load}
+use Rattle.tpw_occam_symbolic.specs.Code.{Lines, followed_by, line_of, place_behind}
+use Rattle.tpw_occam_symbolic.specs.Blocks.{Blocks, bytes_at, word_at}
+use Rattle.tpw_occam_symbolic.specs.Symbolic.{Machine, performed, at_place, number, push}
+use Rattle.tpw_occam_symbolic.specs.Leading.{Does, HasConstants, HasWord, Makes}
 use Rattle.tpw_occam_code.specs.Values.{Holds, Replaces, Pushes, PushesAlone, Answers}
 use Rattle.tpw_occam_core.specs.declared.worker.Storage.{Storage}
 use Rattle.tpw_occam_core.specs.declared.expression.Expression.TheVariants as expression
@@ -25,7 +25,7 @@ use Rattle.tpw_occam_code.specs.declared.expressions.Value.{Value}
 use Rattle.tpw_occam_code.specs.Ranges.{Contains}
 use Rattle.tpw_occam_code.specs.Computing.{Computes, IsKnown, MayStand}
 use Rattle.tpw_occam_code.specs.Agreement.{Knowledge, fact_at, Agrees, LeavesItems}
-use Rattle.tpw_occam_code.proofs.Leading.{does_both, does_less, does_step}
+use Rattle.tpw_occam_symbolic.proofs.Leading.{does_both, does_less, does_step}
 use Rattle.tpw_occam_code.proofs.Elements.{pushes_alone}
 
 true_false : ◌≡◌ {A = Bool} true false → ⊥

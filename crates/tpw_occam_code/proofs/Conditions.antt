@@ -18,22 +18,23 @@ use Rattle.tpw_occam_core.specs.declared.expression.Expression.{Expression}
 use Rattle.tpw_occam_core.specs.declared.expression.Expression.TheVariants.{Binary', Not', And', Or'}
 use Rattle.tpw_occam_core.specs.Arithmetic.{answer, plain, applied}
 use Rattle.tpw_occam_core.specs.Meaning.{Store, followed, value_of, both, either}
-use Rattle.tpw_occam_code.specs.declared.code.Step.TheVariants.{Plain, CjTo}
-use Rattle.tpw_occam_code.specs.declared.code.CodeLine.{CodeLine}
+use Rattle.tpw_occam_symbolic.specs.declared.code.Step.TheVariants.{Plain, CjTo}
+use Rattle.tpw_occam_symbolic.specs.declared.code.CodeLine.{CodeLine}
 use Rattle.tpw_occam_code.specs.declared.expressions.Value.{Value}
-use Rattle.tpw_occam_code.specs.Code.{Lines, none_at, followed_by, joined, line_of, place_behind}
-use Rattle.tpw_occam_code.specs.Symbolic.{Machine, nowhere, onward, effect, performed, at_place, number, pop, set_areg}
-use Rattle.tpw_occam_code.specs.Leading.{Does, IsBefore, Arrives, HasLines}
+use Rattle.tpw_occam_symbolic.specs.Code.{Lines, none_at, followed_by, joined, line_of, place_behind}
+use Rattle.tpw_occam_symbolic.specs.Symbolic.{Machine, nowhere, onward, effect, performed, at_place, number, pop, set_areg}
+use Rattle.tpw_occam_symbolic.specs.Leading.{Does, IsBefore, Arrives, HasLines}
 use Rattle.tpw_occam_code.specs.Values.{Holds, HasNumber, Pushes, Answers}
 use Rattle.tpw_occam_code.specs.Agreement.{Knowledge, constant_in, Agrees, LeavesItems}
 use Rattle.tpw_occam_code.specs.Computing.{MayStand, Suffices, Computes, ComputesTo, IsKnown, IsKnownOf, inverse_of, applied_last, applied_first, is_simple, is_immediate, has_immediate, IsSuccessor, IsPredecessor, IsNoShift}
-use Rattle.tpw_occam_code.proofs.Leading.{does_less, does_step, step_is, leads_then, has_first}
+use Rattle.tpw_occam_symbolic.proofs.Leading.{does_less, does_step, step_is, leads_then, has_first}
 use Rattle.tpw_occam_code.proofs.Elements.{replaces_set}
 use Rattle.tpw_occam_code.proofs.Inverses.{greater_inverse, less_inverse}
-use Rattle.tpw_occam_code.proofs.Words.{zero_read}
+use Rattle.tpw_occam_symbolic.proofs.Words.{zero_read}
 use Rattle.tpw_occam_code.proofs.Computing.{agrees_after}
 use Rattle.tpw_occam_code.proofs.Constructs.{computes_then, goes_by, constant_value}
-use Rattle.tpw_occam_code.proofs.Standing.{Place, stand_binary, stand_not, stand_and, stand_or, suffices_two, suffices_part, and_first, and_second}
+use Rattle.tpw_occam_code.proofs.Standing.{Place, stand_binary, stand_not, stand_and, stand_or, suffices_two, suffices_part}
+use Rattle.tpw_occam_symbolic.proofs.Sizes.{and_first, and_second}
 
 false_true : ◌≡◌ {A = Bool} false true → ⊥
 false_true e = cc

@@ -26,22 +26,23 @@ use Rattle.tpw_occam_core.specs.Arithmetic.{answer, plain, checked, wrapped, app
 use Rattle.tpw_occam_core.specs.Arrays.{size, element}
 use Rattle.tpw_occam_core.specs.Meaning.{Store, followed, value_of, array_of, element_at}
 use Rattle.tpw_occam_core.specs.Sound.{is_name, is_array, is_seen, bytes_of, storage_of}
-use Rattle.tpw_occam_code.specs.declared.code.Step.TheVariants.{Plain}
+use Rattle.tpw_occam_symbolic.specs.declared.code.Step.TheVariants.{Plain}
 use Rattle.tpw_occam_code.specs.declared.expressions.Value.{Value}
-use Rattle.tpw_occam_code.specs.Code.{Lines, followed_by, line_of, place_behind}
-use Rattle.tpw_occam_code.specs.Symbolic.{Machine, effect, performed, number, push, set_areg}
-use Rattle.tpw_occam_code.specs.declared.items.Item.TheVariants as item
+use Rattle.tpw_occam_symbolic.specs.Code.{Lines, followed_by, line_of, place_behind}
+use Rattle.tpw_occam_symbolic.specs.Symbolic.{Machine, effect, performed, number, push, set_areg}
+use Rattle.tpw_occam_symbolic.specs.declared.items.Item.TheVariants as item
 use Rattle.tpw_occam_code.specs.Ranges.{ContainsAllOf, from_to}
-use Rattle.tpw_occam_code.specs.Leading.{Does, HasConstants, HasArray, HasWord, Makes}
+use Rattle.tpw_occam_symbolic.specs.Leading.{Does, HasConstants, HasArray, HasWord, Makes}
 use Rattle.tpw_occam_code.specs.Values.{Holds, HasNumber, Replaces, Pushes, PushesAlone, PushesOver, Answers}
 use Rattle.tpw_occam_code.specs.Agreement.{Knowledge, elements_of, constant_in, fact_at, Knows, Agrees, LeavesItems}
 use Rattle.tpw_occam_code.specs.Computing.{IsPlace, MayStand, Suffices, Computes, ComputesTo, ComputesBoth, IsKnown, IsKnownOf, IsKnownOfBoth, inverse_of, subscript_value, applied_value, applied_last, applied_first, IsConstantBelow, IsByteVariable, IsSimplePair, HasImmediate, IsNoShift, IsFixed, IsOffset, has_immediate, is_immediate}
-use Rattle.tpw_occam_code.proofs.Leading.{does_both, does_less, does_step}
+use Rattle.tpw_occam_symbolic.proofs.Leading.{does_both, does_less, does_step}
 use Rattle.std.proofs.lemmas.Option.{same_Some}
 use Rattle.tpw_occam_code.proofs.Indexing.{subscript_below, subscript_word_below, byte_small}
 use Rattle.tpw_occam_code.proofs.Elements.{pushes_alone, replaces_set}
 use Rattle.tpw_occam_code.proofs.Computing.{in_scope, set_name, agrees_after, alone_pushes, replaces_pushed, replaces_more}
-use Rattle.tpw_occam_code.proofs.Standing.{Place, and_first, and_second, stand_checked, stand_element, stand_binary, stand_complement, stand_not, stand_low_byte, two_registers, suffices_two, suffices_part}
+use Rattle.tpw_occam_code.proofs.Standing.{Place, stand_checked, stand_element, stand_binary, stand_complement, stand_not, stand_low_byte, two_registers, suffices_two, suffices_part}
+use Rattle.tpw_occam_symbolic.proofs.Sizes.{and_first, and_second}
 
 -- what is done with a value that was pushed
 pub record Goes (k : Knowledge) (scope : List Entry) (unset : ℕ → Bool) (s : Store) (between new : Lines) (registers few : ℕ)

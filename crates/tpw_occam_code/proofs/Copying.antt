@@ -14,20 +14,21 @@ use Rattle.tpw_occam_core.specs.declared.scope.Entry.TheVariants as entry
 use Rattle.tpw_occam_core.specs.declared.process.Process.TheVariants as process
 use Rattle.tpw_occam_core.specs.Meaning.{Store, array_of, with_array}
 use Rattle.tpw_occam_core.specs.Sound.{is_name, is_array, is_written, is_new_array, is_sized, bytes_of, storage_of, is_table}
-use Rattle.tpw_occam_code.specs.declared.items.Item.{Item}
-use Rattle.tpw_occam_code.specs.declared.items.Item.TheVariants.{Variable, Constant, Array, Zeros}
-use Rattle.tpw_occam_code.specs.Code.{Lines}
-use Rattle.tpw_occam_code.specs.Blocks.{is_item, bytes_at}
-use Rattle.tpw_occam_code.specs.Symbolic.{Machine}
-use Rattle.tpw_occam_code.specs.Leading.{HasArray, word_bytes}
+use Rattle.tpw_occam_symbolic.specs.declared.items.Item.{Item}
+use Rattle.tpw_occam_symbolic.specs.declared.items.Item.TheVariants.{Variable, Constant, Array, Zeros}
+use Rattle.tpw_occam_symbolic.specs.Code.{Lines}
+use Rattle.tpw_occam_symbolic.specs.Blocks.{is_item, bytes_at}
+use Rattle.tpw_occam_symbolic.specs.Symbolic.{Machine}
+use Rattle.tpw_occam_symbolic.specs.Leading.{HasArray, word_bytes}
 use Rattle.tpw_occam_code.specs.Agreement.{Knowledge}
-use Rattle.tpw_occam_code.specs.Executing.{IsProcessPlace, KnowsState, Matches, LeavesCounts, Clears, Executes, cleared_bytes}
+use Rattle.tpw_occam_code.specs.Executing.{IsProcessPlace, KnowsState, Matches, LeavesCounts, Clears, Executes}
+use Rattle.tpw_occam_symbolic.specs.Leading.{cleared_bytes}
 use Rattle.tpw_occam_code.specs.Moving.{Moves, ClearsWords}
-use Rattle.tpw_occam_code.proofs.Leading.{does_within, does_less, does_nothing}
+use Rattle.tpw_occam_symbolic.proofs.Leading.{does_within, does_less, does_nothing}
 use Rattle.tpw_occam_code.proofs.Keeping.{other_item}
 use Rattle.tpw_occam_code.proofs.Moving.{written, length_bytes_at, index_bytes_at, constants_stay}
 use Rattle.tpw_occam_code.proofs.Computing.{bytes_same}
-use Rattle.tpw_occam_code.proofs.Standing.{and_first, and_second}
+use Rattle.tpw_occam_symbolic.proofs.Sizes.{and_first, and_second}
 use Rattle.tpw_occam_code.proofs.Knowing.{matches_fewer}
 
 -- ---- sizes

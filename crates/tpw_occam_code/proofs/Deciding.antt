@@ -13,17 +13,17 @@ use Rattle.tpw_occam_core.specs.declared.expression.Expression.{Expression}
 use Rattle.tpw_occam_core.specs.declared.expression.Expression.TheVariants.{Binary', Not'}
 use Rattle.tpw_occam_core.specs.Arithmetic.{plain, applied}
 use Rattle.tpw_occam_core.specs.Meaning.{value_of}
-use Rattle.tpw_occam_code.specs.declared.code.Step.TheVariants.{Plain}
+use Rattle.tpw_occam_symbolic.specs.declared.code.Step.TheVariants.{Plain}
 use Rattle.tpw_occam_code.specs.declared.expressions.Value.{Value}
-use Rattle.tpw_occam_code.specs.Code.{Lines, followed_by, line_of}
-use Rattle.tpw_occam_code.specs.Symbolic.{Machine, number}
-use Rattle.tpw_occam_code.specs.Leading.{Does}
+use Rattle.tpw_occam_symbolic.specs.Code.{Lines, followed_by, line_of}
+use Rattle.tpw_occam_symbolic.specs.Symbolic.{Machine, number}
+use Rattle.tpw_occam_symbolic.specs.Leading.{Does}
 use Rattle.tpw_occam_code.specs.Values.{HasOperands}
 use Rattle.tpw_occam_code.specs.Agreement.{Knowledge, constant_in}
 use Rattle.tpw_occam_code.specs.Computing.{Computes, ComputesTwo, IsKnown, Decides, DecidesUnequal}
-use Rattle.tpw_occam_code.proofs.Leading.{does_both, does_less}
+use Rattle.tpw_occam_symbolic.proofs.Leading.{does_both, does_less}
 use Rattle.tpw_occam_code.proofs.Machines.{makes_pair}
-use Rattle.tpw_occam_code.proofs.Words.{difference_zero, zero_read}
+use Rattle.tpw_occam_symbolic.proofs.Words.{difference_zero, zero_read}
 use Rattle.tpw_occam_code.proofs.Constructs.{constant_value}
 use Rattle.tpw_occam_code.proofs.Standing.{Place, stand_not, stand_binary, suffices_two}
 

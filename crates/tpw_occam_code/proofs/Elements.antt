@@ -12,15 +12,15 @@ use Rattle.tpw_occam_core.specs.declared.kind.Kind.{Kind}
 use Rattle.tpw_occam_core.specs.declared.kind.Kind.TheVariants.{Word, Byte}
 use Rattle.tpw_occam_core.specs.Arithmetic.{plain}
 use Rattle.tpw_occam_core.specs.Arrays.{size, element}
-use Rattle.tpw_occam_code.specs.declared.items.Item.{Item}
-use Rattle.tpw_occam_code.specs.declared.items.Item.TheVariants.{Array, Variable}
-use Rattle.tpw_occam_code.specs.declared.code.Step.TheVariants.{Plain, Load, Pointer}
-use Rattle.tpw_occam_code.specs.Code.{Lines, followed_by, line_of, place_behind}
-use Rattle.tpw_occam_code.specs.Blocks.{bytes_at, word_at}
-use Rattle.tpw_occam_code.specs.Symbolic.{Machine, effect, performed, at_place, number, address, push, set_areg, replace_pair}
-use Rattle.tpw_occam_code.specs.Leading.{Does, HasArray, HasWord, word_bytes}
+use Rattle.tpw_occam_symbolic.specs.declared.items.Item.{Item}
+use Rattle.tpw_occam_symbolic.specs.declared.items.Item.TheVariants.{Array, Variable}
+use Rattle.tpw_occam_symbolic.specs.declared.code.Step.TheVariants.{Plain, Load, Pointer}
+use Rattle.tpw_occam_symbolic.specs.Code.{Lines, followed_by, line_of, place_behind}
+use Rattle.tpw_occam_symbolic.specs.Blocks.{bytes_at, word_at}
+use Rattle.tpw_occam_symbolic.specs.Symbolic.{Machine, effect, performed, at_place, number, address, push, set_areg, replace_pair}
+use Rattle.tpw_occam_symbolic.specs.Leading.{Does, HasArray, HasWord, word_bytes}
 use Rattle.tpw_occam_code.specs.Values.{HasNumber, Replaces, PushesAlone, PushesOver, PushesAddress, HasAddress, IsAtElement, scaled}
-use Rattle.tpw_occam_code.proofs.Leading.{does_step, does_served, does_both, does_less}
+use Rattle.tpw_occam_symbolic.proofs.Leading.{does_step, does_served, does_both, does_less}
 
 four : {a a' b b' c c' d d' : ℕ} → a ≡ a' → b ≡ b' → c ≡ c' → d ≡ d'
     → from_le_bytes w32 (a ∷ b ∷ c ∷ d ∷ []) ≡ from_le_bytes w32 (a' ∷ b' ∷ c' ∷ d' ∷ [])

@@ -16,15 +16,16 @@ use Rattle.tp_step.specs.Numbers.{truth}
 use Rattle.tpw_occam_core.specs.Arithmetic.{checked, applied}
 use Rattle.tpw_occam_core.specs.declared.expression.Operator.{Operator}
 use Rattle.tpw_occam_core.specs.declared.expression.Operator.TheVariants.{Add, Subtract, Plus, Minus, Equal}
-use Rattle.tpw_occam_code.specs.declared.code.Step.TheVariants.{Plain}
-use Rattle.tpw_occam_code.specs.Code.{Lines, followed_by, line_of}
-use Rattle.tpw_occam_code.specs.Symbolic.{effect, performed, at_place, number, set_areg}
-use Rattle.tpw_occam_code.specs.Computing.{immediate_of, operand_of, is_short}
+use Rattle.tpw_occam_symbolic.specs.declared.code.Step.TheVariants.{Plain}
+use Rattle.tpw_occam_symbolic.specs.Code.{Lines, followed_by, line_of}
+use Rattle.tpw_occam_symbolic.specs.Symbolic.{effect, performed, at_place, number, set_areg}
+use Rattle.tpw_occam_code.specs.Computing.{immediate_of, operand_of}
+use Rattle.tpw_occam_symbolic.specs.Code.{is_short}
 use Rattle.tpw_occam_code.specs.Values.{HasNumber, WorksOn, Answers, answered_one}
-use Rattle.tpw_occam_code.proofs.Words.{signed_high}
+use Rattle.tpw_occam_symbolic.proofs.Words.{signed_high}
 use Rattle.tpw_occam_code.proofs.Computing.{replaces_more}
 use Rattle.tpw_occam_core.specs.declared.arithmetic.Answer.{Answer}
-use Rattle.tpw_occam_code.proofs.Leading.{does_step, does_less}
+use Rattle.tpw_occam_symbolic.proofs.Leading.{does_step, does_less}
 
 -- the operator that may set the flag, and the one that wraps, make the same
 abbrev pub HasTwin : Operator → ℕ → ℕ → Type 0

@@ -5,7 +5,7 @@ use Rattle.std.proofs.lemmas.Int.{ints, to_z_pos}
 use Rattle.std.proofs.lemmas.Bool.{cases_lt}
 use Rattle.tp_decode.specs.Words.{signed}
 use Rattle.tp_step.specs.Numbers.{truth}
-use Rattle.tpw_occam_code.proofs.Words.{signed_high}
+use Rattle.tpw_occam_symbolic.proofs.Words.{signed_high}
 
 pub not_truth : (t : Bool) → truth (truth t == 0) ≡ truth (not t)
 not_truth true = refl

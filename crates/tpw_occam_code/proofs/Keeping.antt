@@ -1,24 +1,22 @@
 -- Words that are written, kept and read again.
 use Rattle.std.proofs.Common.{◌≡◌, ◌+◌, ◌^◌, ◌<◌, [], ◌∷◌, ℕ, List, Some, Bool, false, true, nat_eq, refl, ap, ◌∙◌, arith, w32}
 use Rattle.std.specs.Int.{to_le_bytes}
-use Rattle.std.proofs.lemmas.Bool.{le-leb, eq-eqb, eqb-true}
+use Rattle.std.proofs.lemmas.Bool.{le-leb, eqb-true}
 use Rattle.tpw_occam_core.specs.declared.scope.Entry.{Entry}
 use Rattle.tpw_occam_core.specs.Arithmetic.{plain}
-use Rattle.tpw_occam_code.specs.declared.items.Item.{Item}
-use Rattle.tpw_occam_code.specs.declared.items.Item.TheVariants.{Variable, Temporary, Constant, Array, Zeros}
-use Rattle.tpw_occam_code.specs.declared.code.Step.TheVariants.{Load, Store}
-use Rattle.tpw_occam_code.specs.Code.{Lines, followed_by, line_of, place_behind}
-use Rattle.tpw_occam_code.specs.Blocks.{Blocks, is_item, sort_of, number_of, with_bytes, bytes_at, with_word}
-use Rattle.tpw_occam_code.specs.Symbolic.{Machine, performed, at_place, number, push, pop, with_blocks}
-use Rattle.tpw_occam_code.specs.Leading.{Does, HasWord}
+use Rattle.tpw_occam_symbolic.specs.declared.items.Item.{Item}
+use Rattle.tpw_occam_symbolic.specs.declared.items.Item.TheVariants.{Variable, Temporary, Constant, Array, Zeros}
+use Rattle.tpw_occam_symbolic.specs.declared.code.Step.TheVariants.{Load, Store}
+use Rattle.tpw_occam_symbolic.specs.Code.{Lines, followed_by, line_of, place_behind}
+use Rattle.tpw_occam_symbolic.specs.Blocks.{Blocks, is_item, with_bytes, bytes_at, with_word}
+use Rattle.tpw_occam_symbolic.specs.Symbolic.{Machine, performed, at_place, number, push, pop, with_blocks}
+use Rattle.tpw_occam_symbolic.specs.Leading.{Does, HasWord}
 use Rattle.tpw_occam_code.specs.Values.{HasNumber, PushesAlone}
 use Rattle.tpw_occam_code.specs.Agreement.{LeavesItems, Stays}
-use Rattle.tpw_occam_code.proofs.Leading.{does_step, does_less}
+use Rattle.tpw_occam_symbolic.proofs.Leading.{does_step, does_less}
+use Rattle.tpw_occam_symbolic.proofs.Carrying.{is_item-self}
 use Rattle.tpw_occam_code.proofs.Elements.{pushes_alone}
 use Rattle.tpw_occam_code.proofs.Computing.{word_there}
-
-pub is_item-self : (i : Item) → is_item i i ≡ true
-is_item-self i = rw (eq-eqb (sort_of i) (sort_of i) refl) (eq-eqb (number_of i) (number_of i) refl)
 
 -- what is written to one item leaves another
 pub other_item : (i other : Item) (at k : ℕ) (bytes : List ℕ) (blocks : Blocks) → is_item i other ≡ false

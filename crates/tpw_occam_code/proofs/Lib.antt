@@ -1,6 +1,3 @@
-pub mod Leading
-pub mod Flowing
-pub mod Words
 pub mod Machines
 pub mod Answering
 pub mod Indexing
@@ -26,18 +23,6 @@ pub mod Assigning
 pub mod Matching
 pub mod Reading
 pub mod KeptParts
-pub mod Carrying
-pub mod CarryingNumbers
-pub mod CarryingMemory
-pub mod CarryingControl
-pub mod CarryingTurns
-pub mod CarryingSteps
-pub mod CarryingRuns
-pub mod CarryingCode
-pub mod CarryingImage
-pub mod CarryingStart
-pub mod CarryingPlaces
-pub mod CarryingWhole
 pub mod Starting
 pub mod Working
 pub mod Receiving
@@ -48,7 +33,3 @@ pub mod Ordering
 pub mod Remaining
 pub mod Settling
 pub mod Registers
-pub mod Accepting
-pub mod CutPlaces
-pub mod Nesting
-pub mod KeepingRules

@@ -3,10 +3,10 @@ use Rattle.std.proofs.Common.{◌≡◌, ◌+◌, ◌<◌, [], ◌∷◌, ℕ, S
 use Rattle.tp_decode.specs.declared.instr.Instr.{Instr}
 use Rattle.tp_decode.specs.declared.instr.Instr.TheVariants.{Eqc, Diff, Add, Prod, Gt, Sub, Rem, Div, BitXor, Shr, Shl, BitAnd, BitOr, Sum, Mul}
 use Rattle.tpw_occam_core.specs.declared.arithmetic.Answer.{Answer}
-use Rattle.tpw_occam_code.specs.declared.code.Step.TheVariants.{Plain}
-use Rattle.tpw_occam_code.specs.Code.{Lines, followed_by, line_of, place_behind}
-use Rattle.tpw_occam_code.specs.Symbolic.{Machine, pair_answer, pair_effect, effect, performed, at_place, number, set_areg}
-use Rattle.tpw_occam_code.specs.Leading.{Makes}
+use Rattle.tpw_occam_symbolic.specs.declared.code.Step.TheVariants.{Plain}
+use Rattle.tpw_occam_symbolic.specs.Code.{Lines, followed_by, line_of, place_behind}
+use Rattle.tpw_occam_symbolic.specs.Symbolic.{Machine, pair_answer, pair_effect, effect, performed, at_place, number, set_areg}
+use Rattle.tpw_occam_symbolic.specs.Leading.{Makes}
 use Rattle.tpw_occam_code.specs.Values.{HasOperands, HasNumber, answered, working}
 use Rattle.tpw_occam_core.specs.Arithmetic.{plain, applied}
 use Rattle.tpw_occam_core.specs.declared.expression.Operator.{Operator}
@@ -15,8 +15,8 @@ use Rattle.tp_step.specs.Numbers.{truth}
 use Rattle.tp_decode.specs.Words.{signed}
 use Rattle.std.specs.Ordering.{int_eq}
 use Rattle.std.specs.Prelude.{ℤ, pos, ◌^◌}
-use Rattle.tpw_occam_code.proofs.Leading.{does_step, makes_both}
-use Rattle.tpw_occam_code.proofs.Words.{difference_zero}
+use Rattle.tpw_occam_symbolic.proofs.Leading.{does_step, makes_both}
+use Rattle.tpw_occam_symbolic.proofs.Words.{difference_zero}
 
 effect_pair : (instr : Instr) (m : Machine) (b a : ℕ) (made : Answer) → pair_answer instr b a ≡ Some made
     → effect instr m ≡ pair_effect instr m

@@ -19,24 +19,25 @@ use Rattle.tpw_occam_core.specs.Arrays.{size, kept, with_element}
 use Rattle.tpw_occam_core.specs.Meaning.{Store, value_of, array_of, with_value, with_array, kind_of, subscript_of, stored, flagged}
 use Rattle.tpw_occam_core.specs.Sound.{is_name, is_array, is_seen, is_sound_target}
 use Rattle.tpw_occam_code.specs.declared.analysis.First.TheVariants.{Nothing, Assigned, Read}
-use Rattle.tpw_occam_code.specs.declared.items.Item.{Item}
-use Rattle.tpw_occam_code.specs.declared.items.Item.TheVariants as item
-use Rattle.tpw_occam_code.specs.declared.code.Step.TheVariants.{Load}
-use Rattle.tpw_occam_code.specs.Code.{Lines, followed_by, line_of}
-use Rattle.tpw_occam_code.specs.Blocks.{Blocks, with_bytes, with_word, bytes_at}
-use Rattle.tpw_occam_code.specs.Symbolic.{Machine}
-use Rattle.tpw_occam_code.specs.Leading.{HasWord, HasArray}
+use Rattle.tpw_occam_symbolic.specs.declared.items.Item.{Item}
+use Rattle.tpw_occam_symbolic.specs.declared.items.Item.TheVariants as item
+use Rattle.tpw_occam_symbolic.specs.declared.code.Step.TheVariants.{Load}
+use Rattle.tpw_occam_symbolic.specs.Code.{Lines, followed_by, line_of}
+use Rattle.tpw_occam_symbolic.specs.Blocks.{Blocks, with_bytes, with_word, bytes_at}
+use Rattle.tpw_occam_symbolic.specs.Symbolic.{Machine}
+use Rattle.tpw_occam_symbolic.specs.Leading.{HasWord, HasArray}
 use Rattle.tpw_occam_code.specs.Values.{scaled}
 use Rattle.tpw_occam_code.specs.Agreement.{Knowledge, fact_at, Knows, Agrees}
 use Rattle.tpw_occam_code.specs.Computing.{IsPlace, MayStand, ComputesTo, reads}
 use Rattle.tpw_occam_code.specs.Executing.{sources_read, is_target, first_in_assignments, is_nothing, unset_after, IsProcessPlace, MayRun, none_unset, KnowsState, Matches, Assigns}
 use Rattle.tpw_occam_code.specs.Assigning.{HasShape, IsInside, taken, taken_value, element_bytes, item_of, place_of, held_bytes, unset_but, Stores, MayTake, StoresIn, HasSmallValue, MayMake, LeavesKept, MakesOne}
-use Rattle.tpw_occam_code.proofs.Leading.{does_both, does_less, does_kept}
+use Rattle.tpw_occam_symbolic.proofs.Leading.{does_both, does_less, does_kept}
 use Rattle.tpw_occam_code.proofs.Computing.{agrees_after, bytes_same, word_same}
 use Rattle.tpw_occam_code.proofs.Keeping.{word_written, other_item, does_recall}
 use Rattle.tpw_occam_code.proofs.Indexing.{subscript_word_below}
 use Rattle.tpw_occam_code.proofs.Naming.{slice_same, slice_other}
-use Rattle.tpw_occam_code.proofs.Standing.{and_first, and_second, or_first, or_second, suffices_two}
+use Rattle.tpw_occam_symbolic.proofs.Sizes.{and_first, and_second}
+use Rattle.tpw_occam_code.proofs.Standing.{or_first, or_second, suffices_two}
 use Rattle.tpw_occam_code.proofs.Constructs.{seen_array, seen_size, size_is}
 use Rattle.tpw_occam_code.proofs.Storing.{leaves_stores, behind_written, array_written, element_written, written_length}
 use Rattle.tpw_occam_code.proofs.Knowing.{matches_fewer}

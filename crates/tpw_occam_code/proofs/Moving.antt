@@ -5,18 +5,21 @@ use Rattle.std.specs.Int.{to_le_bytes}
 use Rattle.std.proofs.Math.Nat.{min-eq_left, min-eq_right}
 use Rattle.std.proofs.lemmas.Bool.{le-leb, lt-leb, lt-ltb, cases_lt}
 use Rattle.tp_decode.specs.declared.instr.Instr.TheVariants.{MoveBytes}
-use Rattle.tpw_occam_code.specs.declared.items.Item.{Item}
-use Rattle.tpw_occam_code.specs.declared.items.Item.TheVariants.{Constant, Array, Zeros}
-use Rattle.tpw_occam_code.specs.declared.code.Step.{Step}
-use Rattle.tpw_occam_code.specs.declared.code.Step.TheVariants.{Plain, Pointer}
-use Rattle.tpw_occam_code.specs.Code.{Lines, followed_by, line_of, place_behind}
-use Rattle.tpw_occam_code.specs.Blocks.{Blocks, with_bytes, bytes_at, with_word}
-use Rattle.tpw_occam_code.specs.Symbolic.{Machine, Contents, effect, performed, at_place, number, address, push, with_blocks}
-use Rattle.tpw_occam_code.specs.Leading.{Does, Makes, HasConstants, word_bytes}
-use Rattle.tpw_occam_code.specs.Executing.{cleared_bytes, with_item_word}
-use Rattle.tpw_occam_code.specs.Moving.{HasStep, Provides, Writes, Moves, HasCleared, ClearsWords}
-use Rattle.tpw_occam_code.proofs.Leading.{does_placed, does_within, does_step, does_both, does_less, does_nothing}
-use Rattle.tpw_occam_code.proofs.Keeping.{is_item-self, other_item}
+use Rattle.tpw_occam_symbolic.specs.declared.items.Item.{Item}
+use Rattle.tpw_occam_symbolic.specs.declared.items.Item.TheVariants.{Constant, Array, Zeros}
+use Rattle.tpw_occam_symbolic.specs.declared.code.Step.{Step}
+use Rattle.tpw_occam_symbolic.specs.declared.code.Step.TheVariants.{Plain, Pointer}
+use Rattle.tpw_occam_symbolic.specs.Code.{Lines, followed_by, line_of, place_behind}
+use Rattle.tpw_occam_symbolic.specs.Blocks.{Blocks, with_bytes, bytes_at, with_word}
+use Rattle.tpw_occam_symbolic.specs.Symbolic.{Machine, Contents, effect, performed, at_place, number, address, push, with_blocks}
+use Rattle.tpw_occam_symbolic.specs.Leading.{Does, Makes, HasConstants, word_bytes}
+use Rattle.tpw_occam_symbolic.specs.Leading.{cleared_bytes}
+use Rattle.tpw_occam_code.specs.Executing.{with_item_word}
+use Rattle.tpw_occam_symbolic.specs.Leading.{HasStep}
+use Rattle.tpw_occam_code.specs.Moving.{Provides, Writes, Moves, HasCleared, ClearsWords}
+use Rattle.tpw_occam_symbolic.proofs.Leading.{does_placed, does_within, does_step, does_both, does_less, does_nothing}
+use Rattle.tpw_occam_symbolic.proofs.Carrying.{is_item-self}
+use Rattle.tpw_occam_code.proofs.Keeping.{other_item}
 use Rattle.tpw_occam_code.proofs.Computing.{word_same}
 
 -- ---- bytes that are written

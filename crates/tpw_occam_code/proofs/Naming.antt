@@ -16,24 +16,25 @@ use Rattle.tpw_occam_core.specs.declared.expression.Expression.TheVariants.{Let'
 use Rattle.tpw_occam_core.specs.Arithmetic.{plain}
 use Rattle.tpw_occam_core.specs.Meaning.{Store, value_of, with_value}
 use Rattle.tpw_occam_core.specs.Sound.{is_name, is_array, is_new_name, is_sound_expression}
-use Rattle.tpw_occam_code.specs.declared.items.Item.{Item}
-use Rattle.tpw_occam_code.specs.declared.items.Item.TheVariants as item
-use Rattle.tpw_occam_code.specs.declared.code.Step.TheVariants.{Store as StoreTo}
+use Rattle.tpw_occam_symbolic.specs.declared.items.Item.{Item}
+use Rattle.tpw_occam_symbolic.specs.declared.items.Item.TheVariants as item
+use Rattle.tpw_occam_symbolic.specs.declared.code.Step.TheVariants.{Store as StoreTo}
 use Rattle.tpw_occam_code.specs.declared.emitter.Fact.{Fact}
 use Rattle.tpw_occam_code.specs.declared.expressions.Value.{Value}
-use Rattle.tpw_occam_code.specs.Code.{Lines, followed_by, line_of}
-use Rattle.tpw_occam_code.specs.Blocks.{is_item, bytes_at, with_word}
-use Rattle.tpw_occam_code.specs.Symbolic.{Machine, performed, pop, with_blocks}
-use Rattle.tpw_occam_code.specs.Leading.{Does, HasWord}
+use Rattle.tpw_occam_symbolic.specs.Code.{Lines, followed_by, line_of}
+use Rattle.tpw_occam_symbolic.specs.Blocks.{is_item, bytes_at, with_word}
+use Rattle.tpw_occam_symbolic.specs.Symbolic.{Machine, performed, pop, with_blocks}
+use Rattle.tpw_occam_symbolic.specs.Leading.{Does, HasWord}
 use Rattle.tpw_occam_code.specs.Values.{Holds, HasNumber, Pushes}
 use Rattle.tpw_occam_code.specs.Agreement.{Knowledge, any_word, fact_at, with_fact, constant_in, constant_fact, valued_fact, FitsFact, Knows, Agrees, LeavesItems, Stays}
 use Rattle.tpw_occam_code.specs.Computing.{IsPlace, MayStand, reads, Computes, IsKnown, Binds, ComputesBinding}
 use Rattle.tpw_occam_code.proofs.Ranges.{full_contains}
-use Rattle.tpw_occam_code.proofs.Leading.{does_both, does_less, does_step, does_nothing}
+use Rattle.tpw_occam_symbolic.proofs.Leading.{does_both, does_less, does_step, does_nothing}
 use Rattle.tpw_occam_code.proofs.Keeping.{word_written, word_elsewhere}
 use Rattle.tpw_occam_code.proofs.Computing.{agrees_after, leaves_then}
 use Rattle.tpw_occam_code.proofs.Constructs.{constant_value}
-use Rattle.tpw_occam_code.proofs.Standing.{Place, and_first, and_second, or_first, or_second, two_registers, suffices_two}
+use Rattle.tpw_occam_code.proofs.Standing.{Place, or_first, or_second, two_registers, suffices_two}
+use Rattle.tpw_occam_symbolic.proofs.Sizes.{and_first, and_second}
 
 false_true : ◌≡◌ {A = Bool} false true → ⊥
 false_true e = cc

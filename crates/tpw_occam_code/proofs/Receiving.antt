@@ -17,22 +17,24 @@ use Rattle.tpw_occam_core.specs.declared.kind.Kind.TheVariants.{Word}
 use Rattle.tpw_occam_core.specs.Arrays.{element}
 use Rattle.tpw_occam_core.specs.Meaning.{Store, with_value, with_array}
 use Rattle.tpw_occam_core.specs.Sound.{is_name, is_array, is_new_array, storage_of, bytes_of as size_of}
-use Rattle.tpw_occam_code.specs.declared.items.Item.{Item}
-use Rattle.tpw_occam_code.specs.declared.items.Item.TheVariants.{Variable, Constant, Array, Zeros}
-use Rattle.tpw_occam_code.specs.declared.code.CodeLine.{CodeLine}
-use Rattle.tpw_occam_code.specs.declared.code.Step.TheVariants.{Plain, Pointer}
-use Rattle.tpw_occam_code.specs.Code.{Lines, followed_by, line_of, place_behind}
-use Rattle.tpw_occam_code.specs.Blocks.{Blocks, is_item, with_bytes, bytes_at}
-use Rattle.tpw_occam_code.specs.Symbolic.{Machine, number, address, push, with_blocks, at_place, performed, effect, nowhere, onward}
-use Rattle.tpw_occam_code.specs.Leading.{Serves, HasConstants, HasArray, HasWord, Makes}
+use Rattle.tpw_occam_symbolic.specs.declared.items.Item.{Item}
+use Rattle.tpw_occam_symbolic.specs.declared.items.Item.TheVariants.{Variable, Constant, Array, Zeros}
+use Rattle.tpw_occam_symbolic.specs.declared.code.CodeLine.{CodeLine}
+use Rattle.tpw_occam_symbolic.specs.declared.code.Step.TheVariants.{Plain, Pointer}
+use Rattle.tpw_occam_symbolic.specs.Code.{Lines, followed_by, line_of, place_behind}
+use Rattle.tpw_occam_symbolic.specs.Blocks.{Blocks, is_item, with_bytes, bytes_at}
+use Rattle.tpw_occam_symbolic.specs.Symbolic.{Machine, number, address, push, with_blocks, at_place, performed, effect, nowhere, onward}
+use Rattle.tpw_occam_symbolic.specs.Leading.{Serves, HasConstants, HasArray, HasWord, Makes}
 use Rattle.tpw_occam_code.specs.Agreement.{Knowledge, fact_at}
-use Rattle.tpw_occam_code.specs.Executing.{Matches, none_unset, cleared_bytes}
+use Rattle.tpw_occam_code.specs.Executing.{Matches, none_unset}
+use Rattle.tpw_occam_symbolic.specs.Leading.{cleared_bytes}
 use Rattle.tpw_occam_code.specs.Starting.{IsInput, Inputs, Receives, Outputs, Sends}
-use Rattle.tpw_occam_code.proofs.Keeping.{is_item-self, other_item}
+use Rattle.tpw_occam_symbolic.proofs.Carrying.{is_item-self}
+use Rattle.tpw_occam_code.proofs.Keeping.{other_item}
 use Rattle.tpw_occam_code.proofs.Computing.{bytes_same, word_same}
-use Rattle.tpw_occam_code.proofs.Starting.{size_at}
+use Rattle.tpw_occam_symbolic.proofs.Sizes.{size_at}
 use Rattle.tpw_occam_code.proofs.Working.{packet_byte}
-use Rattle.tpw_occam_code.proofs.Leading.{leads_then, has_first, get_last, step_is, does_step, does_served, does_both, does_less, makes_both}
+use Rattle.tpw_occam_symbolic.proofs.Leading.{leads_then, has_first, get_last, step_is, does_step, does_served, does_both, does_less, makes_both}
 
 -- ---- an input
 

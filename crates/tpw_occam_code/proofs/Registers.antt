@@ -16,19 +16,20 @@ use Rattle.tpw_occam_core.specs.Arithmetic.{plain, subscript}
 use Rattle.tpw_occam_core.specs.Arrays.{size, kept}
 use Rattle.tpw_occam_core.specs.Meaning.{Store, value_of, followed, array_of, kind_of, subscript_of, stored, flagged, assigned}
 use Rattle.tpw_occam_core.specs.Sound.{is_sound_assignment}
-use Rattle.tpw_occam_code.specs.declared.items.Item.TheVariants as item
-use Rattle.tpw_occam_code.specs.Code.{Lines}
-use Rattle.tpw_occam_code.specs.Symbolic.{Machine, number}
-use Rattle.tpw_occam_code.specs.Leading.{Does}
+use Rattle.tpw_occam_symbolic.specs.declared.items.Item.TheVariants as item
+use Rattle.tpw_occam_symbolic.specs.Code.{Lines}
+use Rattle.tpw_occam_symbolic.specs.Symbolic.{Machine, number}
+use Rattle.tpw_occam_symbolic.specs.Leading.{Does}
 use Rattle.tpw_occam_code.specs.Values.{HasNumber}
 use Rattle.tpw_occam_code.specs.Agreement.{Knowledge, Knows}
 use Rattle.tpw_occam_code.specs.Computing.{IsPlace, Computes, IsFixed}
 use Rattle.tpw_occam_code.specs.Executing.{sources_read, is_target, Matches, LeavesCounts, Assigns}
 use Rattle.tpw_occam_code.specs.Assigning.{IsInside, taken, unset_but, unset_by, Stores, WritesPopped, MayTake, MayMake, MayMakeAll, HasSmallValue}
 use Rattle.tpw_occam_code.specs.Registers.{IsWordTarget, FitAll, KeepsRegisters, StoresWord, AssignsBelow}
-use Rattle.tpw_occam_code.proofs.Leading.{does_both, does_less, does_nothing, does_kept}
+use Rattle.tpw_occam_symbolic.proofs.Leading.{does_both, does_less, does_nothing, does_kept}
 use Rattle.tpw_occam_code.proofs.Indexing.{subscript_below}
-use Rattle.tpw_occam_code.proofs.Standing.{and_first, and_second, or_first, or_second}
+use Rattle.tpw_occam_symbolic.proofs.Sizes.{and_first, and_second}
+use Rattle.tpw_occam_code.proofs.Standing.{or_first, or_second}
 use Rattle.tpw_occam_code.proofs.Constructs.{constant_value, seen_array, size_is}
 use Rattle.tpw_occam_code.proofs.Storing.{leaves_self, writes_stores}
 use Rattle.tpw_occam_code.proofs.Assigning.{take_element}

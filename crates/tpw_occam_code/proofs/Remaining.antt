@@ -32,11 +32,12 @@ use Rattle.tpw_occam_code.specs.Ranges.{Contains}
 use Rattle.tpw_occam_code.specs.Agreement.{Knowledge, fact_at, with_fact, fact_of_kind, constant_fact, counted_fact, constant_in, FitsFact}
 use Rattle.tpw_occam_code.specs.Computing.{Binds}
 use Rattle.tpw_occam_code.specs.Executing.{IsProcessPlace, none_unset, KnowsState, Follows, Remains, ChoosesKnown, RepeatsKnown, cleared, is_skip}
-use Rattle.tpw_occam_code.proofs.Words.{applied_small}
+use Rattle.tpw_occam_symbolic.proofs.Words.{applied_small}
 use Rattle.tpw_occam_code.proofs.Ranges.{full_contains, byte_contains}
 use Rattle.tpw_occam_code.proofs.Constructs.{constant_value}
 use Rattle.tpw_occam_code.proofs.Naming.{new_name, slice_same, slice_other, slice_length, constant_fits}
-use Rattle.tpw_occam_code.proofs.Standing.{Place, and_first, and_second}
+use Rattle.tpw_occam_code.proofs.Standing.{Place}
+use Rattle.tpw_occam_symbolic.proofs.Sizes.{and_first, and_second}
 use Rattle.tpw_occam_code.proofs.Knowing.{knows_flagged, in_longer, same_any, name_either, Takes, value_takes, variable_takes, place_taken, knows_taken, knows_outside, zero_fits, length_at, knows_bytes, knows_array, place_array, value_declares, set_holds}
 use Rattle.tpw_occam_code.proofs.Executing.{false_true}
 use Rattle.tpw_occam_code.proofs.Choosing.{chosen_some, chosen_none, not_zero, skip_runs}

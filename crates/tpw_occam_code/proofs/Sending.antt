@@ -14,28 +14,31 @@ use Rattle.tpw_occam_core.specs.declared.process.Message.{Message}
 use Rattle.tpw_occam_core.specs.declared.process.Message.TheVariants as message
 use Rattle.tpw_occam_core.specs.Meaning.{Store, value_of, flagged, array_of, bytes_of, flag_of}
 use Rattle.tpw_occam_core.specs.Sound.{is_array, is_sound_message}
-use Rattle.tpw_occam_code.specs.declared.items.Item.{Item}
-use Rattle.tpw_occam_code.specs.declared.items.Item.TheVariants.{Variable, Temporary, Constant, Array, Zeros}
+use Rattle.tpw_occam_symbolic.specs.declared.items.Item.{Item}
+use Rattle.tpw_occam_symbolic.specs.declared.items.Item.TheVariants.{Variable, Temporary, Constant, Array, Zeros}
 use Rattle.tpw_occam_code.specs.declared.messages.Channel.{Channel}
 use Rattle.tpw_occam_code.specs.declared.messages.Channel.TheVariants.{Result, Trace}
 use Rattle.tpw_occam_code.specs.declared.analysis.First.TheVariants.{Nothing, Read}
-use Rattle.tpw_occam_code.specs.declared.code.Step.{Step}
-use Rattle.tpw_occam_code.specs.declared.code.Step.TheVariants.{Plain, Store as StoreTo, Pointer}
-use Rattle.tpw_occam_code.specs.Code.{Lines, followed_by, line_of, place_behind}
-use Rattle.tpw_occam_code.specs.Blocks.{Blocks, bytes_at, word_at}
-use Rattle.tpw_occam_code.specs.Symbolic.{Machine, Contents, effect, performed, at_place, number, address, push}
-use Rattle.tpw_occam_code.specs.Leading.{Does, Makes, HasConstants, HasWord}
+use Rattle.tpw_occam_symbolic.specs.declared.code.Step.{Step}
+use Rattle.tpw_occam_symbolic.specs.declared.code.Step.TheVariants.{Plain, Store as StoreTo, Pointer}
+use Rattle.tpw_occam_symbolic.specs.Code.{Lines, followed_by, line_of, place_behind}
+use Rattle.tpw_occam_symbolic.specs.Blocks.{Blocks, bytes_at, word_at}
+use Rattle.tpw_occam_symbolic.specs.Symbolic.{Machine, Contents, effect, performed, at_place, number, address, push}
+use Rattle.tpw_occam_symbolic.specs.Leading.{Does, Makes, HasConstants, HasWord}
 use Rattle.tpw_occam_code.specs.Agreement.{Knowledge, fact_at, Knows, Agrees, LeavesItems}
 use Rattle.tpw_occam_code.specs.Computing.{MayStand, Computes, reads}
-use Rattle.tpw_occam_code.specs.Executing.{MayRun, Matches, LeavesCounts, none_unset, first_in, first_in_message, unset_after, is_nothing, cleared_bytes}
-use Rattle.tpw_occam_code.specs.Moving.{HasStep, Provides}
+use Rattle.tpw_occam_code.specs.Executing.{MayRun, Matches, LeavesCounts, none_unset, first_in, first_in_message, unset_after, is_nothing}
+use Rattle.tpw_occam_symbolic.specs.Leading.{cleared_bytes}
+use Rattle.tpw_occam_symbolic.specs.Leading.{HasStep}
+use Rattle.tpw_occam_code.specs.Moving.{Provides}
 use Rattle.tpw_occam_code.specs.Sending.{sent_with, traced_with, HasSent, SendsBytes, KeepsValue, HasSentMessage, SendsMessage, HasRoom, address_of}
 use Rattle.tpw_occam_code.specs.Executing.{Traces}
 use Rattle.tpw_occam_code.specs.Starting.{Outputs}
-use Rattle.tpw_occam_code.proofs.Leading.{does_placed, does_within, does_step, does_both, does_less, does_nothing}
+use Rattle.tpw_occam_symbolic.proofs.Leading.{does_placed, does_within, does_step, does_both, does_less, does_nothing}
 use Rattle.tpw_occam_code.proofs.Computing.{agrees_after, leaves_then, in_scope, set_name}
 use Rattle.tpw_occam_code.proofs.Keeping.{does_save}
-use Rattle.tpw_occam_code.proofs.Standing.{and_first, suffices_two}
+use Rattle.tpw_occam_symbolic.proofs.Sizes.{and_first}
+use Rattle.tpw_occam_code.proofs.Standing.{suffices_two}
 use Rattle.tpw_occam_code.proofs.Copying.{array_long}
 use Rattle.tpw_occam_code.proofs.Knowing.{matches_fewer}
 

@@ -1,5 +1,5 @@
 -- Where an expression may stand its parts may.
-use Rattle.std.proofs.Common.{Option, Some, None, Result, Ok, Err, OnOk, ◌≡◌, ◌⊎◌, inl, inr, Box, Global, ◌≤◌, ◌<◌, ◌^◌, ℕ, List, Bool, false, true, ◌&&◌, ◌||◌, refl, sym, ◌∙◌, arith}
+use Rattle.std.proofs.Common.{Option, Some, None, Result, Ok, Err, OnOk, ◌≡◌, ◌⊎◌, inl, inr, Box, Global, ◌≤◌, ◌<◌, ◌^◌, ℕ, List, Bool, false, true, ◌||◌, refl, sym, ◌∙◌, arith}
 use Rattle.std.specs.Prelude.{IsTrue}
 use Rattle.std.proofs.lemmas.Bool.{ltb-true, leb-true, cases_lt}
 use Rattle.tpw_occam_core.specs.declared.worker.Storage.{Storage}
@@ -9,16 +9,9 @@ use Rattle.tpw_occam_core.specs.declared.expression.Operator.{Operator}
 use Rattle.tpw_occam_core.specs.declared.expression.Expression.{Expression}
 use Rattle.tpw_occam_core.specs.declared.expression.Expression.TheVariants.{Element', Checked', Binary', Complement', Not', LowByte', And', Or'}
 use Rattle.tpw_occam_core.specs.Sound.{is_seen}
+use Rattle.tpw_occam_symbolic.proofs.Sizes.{and_first, and_second}
 use Rattle.tpw_occam_code.specs.Agreement.{Knowledge}
 use Rattle.tpw_occam_code.specs.Computing.{MayStand, Suffices, is_simple, reads}
-
-pub and_first : (a b : Bool) → (a && b) ≡ true → a ≡ true
-and_first true b e = refl
-and_first false b e = e
-
-pub and_second : (a b : Bool) → (a && b) ≡ true → b ≡ true
-and_second true b e = e
-and_second false b e = cc
 
 pub or_first : (a b : Bool) → (a || b) ≡ false → a ≡ false
 or_first true b e = e

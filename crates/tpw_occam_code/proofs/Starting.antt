@@ -1,226 +1,32 @@
 -- A program that is made of a worker's code means what the worker does.
-use Rattle.std.proofs.Common.{◌≡◌, ℕ, zero, suc, ◌+◌, ◌-◌, ◌*◌, ◌/◌, ◌%◌, ◌<◌, ◌^◌, Bool, true, false, List, [], ◌∷◌, ◌++◌, length, map}
-use Rattle.std.proofs.Common.{replicate, slice_get, Some, None, refl, ap, sym, subst, ◌∙◌, arith, w32}
-use Rattle.std.specs.Prelude.{slice_index, flat_map, All, IsTrue, ◌&&◌, if◌then◌else◌, nat_lt, nat_le}
+use Rattle.std.proofs.Common.{◌≡◌, ℕ, ◌+◌, ◌-◌, ◌*◌, ◌<◌, ◌^◌, Bool, true, false, List, [], ◌++◌, length}
+use Rattle.std.proofs.Common.{slice_get, Some, None, refl, ap, sym, subst, ◌∙◌, arith, w32}
+use Rattle.std.specs.Prelude.{slice_index, IsTrue, if◌then◌else◌, nat_lt}
 use Rattle.std.specs.Int.{to_le_bytes}
-use Rattle.std.proofs.lemmas.Bool.{ltb-true, leb-true, eqb-true}
-use Rattle.std.proofs.lemmas.Option.{same_Some}
+use Rattle.std.proofs.lemmas.Bool.{ltb-true}
 use Rattle.std.proofs.lemmas.Nat.{from_le_bytes-to_le_bytes_4}
-use Rattle.std.proofs.lemmas.List.Elements.{All-head, All-tail}
 use Rattle.tp_image.specs.Image.{ImageValue}
 use Rattle.tp_step.specs.State.{mem_start}
-use Rattle.tp_step.specs.Runs.{first_words, Run, RunsAlone}
+use Rattle.tp_step.specs.Runs.{Run, RunsAlone}
 use Rattle.tpw_asm.specs.declared.program.Program.{Program}
-use Rattle.tpw_asm.specs.declared.program.Line.TheVariants.{Spelled}
 use Rattle.tpw_asm.specs.Layout.{addresses_from}
 use Rattle.tpw_asm.specs.Assembly.{IsAssembly}
-use Rattle.std.specs.List.{list_all, list_any}
-use Rattle.tpw_occam_core.specs.declared.worker.Storage.{Storage}
 use Rattle.tpw_occam_core.specs.declared.worker.Worker.{Worker}
-use Rattle.tpw_occam_core.specs.declared.process.Message.TheVariants as message
 use Rattle.tpw_occam_core.specs.Meaning.{meaning, meant, most_traced, first, after, bytes_of}
-use Rattle.tpw_occam_core.specs.Sound.{is_sound, is_sound_message, is_sound_place, is_sound_process, is_array, storage_of, are_declared, is_sized, globals, bytes_of as size_of}
-use Rattle.tpw_occam_code.specs.declared.items.Item.{Item}
-use Rattle.tpw_occam_code.specs.declared.items.Item.TheVariants.{Variable, Constant}
-use Rattle.tpw_occam_code.specs.declared.items.Placed.{Placed}
-use Rattle.tpw_occam_code.specs.declared.code.Step.{Step}
-use Rattle.tpw_occam_code.specs.declared.code.Step.TheVariants.{Plain, Load, Store, Pointer, JumpTo, CjTo, Distance}
-use Rattle.tpw_occam_code.specs.declared.code.CodeLine.{CodeLine}
-use Rattle.tpw_occam_code.specs.Code.{Lines}
-use Rattle.tpw_occam_code.specs.Blocks.{Blocks, is_item, bytes_at, word_at}
-use Rattle.tpw_occam_code.specs.Symbolic.{Machine, number}
-use Rattle.tpw_occam_code.specs.Carried.{Site, base_of, operation_of}
-use Rattle.tpw_occam_code.specs.Placing.{words_at, local_at, site_of, places, line_at, HasOperand, HoldsFirst, IsPlaced, IsBuilt}
-use Rattle.tpw_occam_code.specs.Program.{IsPacket, GivesMeaning, Means}
-use Rattle.tpw_occam_code.specs.Starting.{first_blocks, Begins, IsSent, Works}
-use Rattle.tpw_occam_code.proofs.Standing.{and_first, and_second}
-use Rattle.tpw_occam_code.proofs.Carrying.{same_item}
-use Rattle.tpw_occam_code.proofs.CarryingImage.{IsMadeOf, workspace_most}
-use Rattle.tpw_occam_code.proofs.CarryingStart.{first_bytes, IsFirst, Gives}
-use Rattle.tpw_occam_code.proofs.CarryingWhole.{site, starts_first, program_carries}
-
--- ---- lists
-
-pub all_get : {A : Type 0} (P : A → Type 0) (xs : List A) (k : ℕ) (x : A) → All P xs → slice_get xs k ≡ Some x → P x
-all_get P [] k x all is = cc
-all_get P (y ∷ xs) zero x all is = subst P (same_Some _ _ is) (All-head P y xs all)
-all_get P (y ∷ xs) (suc k) x all is = all_get P xs k x (All-tail P y xs all) is
-
-pub index_zeros : (n k : ℕ) → slice_index (replicate n 0) k ≡ 0
-index_zeros zero k = refl
-index_zeros (suc n) zero = refl
-index_zeros (suc n) (suc k) = index_zeros n k
-
-index_more_zeros : (xs : List ℕ) (n k : ℕ) → slice_index (xs ++ replicate n 0) k ≡ slice_index xs k
-index_more_zeros [] n k = index_zeros n k
-index_more_zeros (x ∷ xs) n zero = refl
-index_more_zeros (x ∷ xs) n (suc k) = index_more_zeros xs n k
-
-index_next : (x : ℕ) (xs : List ℕ) (i j : ℕ) → i ≡ suc j → slice_index (x ∷ xs) i ≡ slice_index xs j
-index_next x xs i j e = ap (slice_index (x ∷ xs)) e
-
-index_behind_front : (xs ys : List ℕ) (k : ℕ) → slice_index (xs ++ ys) (length xs + k) ≡ slice_index ys k
-index_behind_front [] ys k = ap (slice_index ys) (omega arith)
-index_behind_front (x ∷ xs) ys k = index_next x (xs ++ ys) (length (x ∷ xs) + k) (length xs + k) (omega arith) ∙ index_behind_front xs ys k
-
--- ---- what is sound
-
-pub sound_declared : (w : Worker) → IsTrue (is_sound w) → IsTrue (are_declared w)
-sound_declared w sound = and_first (are_declared w) _ (and_first _ _ (and_first _ _ sound))
-
-pub sound_message : (w : Worker) → IsTrue (is_sound w)
-    → IsTrue (is_sound_message (length w.variables.items) w.arrays.items (globals w) w.send)
-sound_message w sound =
-    and_second
-    (are_declared w && is_sound_place w w.receive && is_sound_process (length w.variables.items) w.arrays.items (globals w) w.body) _ sound
-
--- ---- arrays
-
--- arrays are short
-pub declared_small : (w : Worker) (a : ℕ) → IsTrue (are_declared w) → slice_index (map size_of w.arrays.items) a < 2 ^ 32
-declared_small w a declared = sized_small w.arrays.items a (and_first _ _ (and_first _ _ declared))
-  where
-    sized_small : (storages : List Storage) (a : ℕ) → IsTrue (list_all is_sized storages) → slice_index (map size_of storages) a < 2 ^ 32
-    sized_small [] a sized = omega arith
-    sized_small (one ∷ storages) zero sized = omega (
-      arith,
-      leb-true (size_of one) 2048
-          (and_second _ _ (and_first (nat_lt 0 (size_of one) && nat_le (size_of one) 2048) _ (and_first (is_sized one) _ sized))),
-    )
-    sized_small (one ∷ storages) (suc a) sized = sized_small storages a (and_second (is_sized one) _ sized)
-
--- the size of an array that is a message
-pub size_at : (storages : List Storage) (a : ℕ) → slice_index (map size_of storages) a ≡ size_of (storage_of storages a)
-size_at [] a = refl
-size_at (one ∷ storages) zero = refl
-size_at (one ∷ storages) (suc a) = size_at storages a
-
-pub result_size : (w : Worker) (a bytes : ℕ) → IsTrue (is_sound w) → w.send ≡ message.Array a
-    → (slice_index (map size_of w.arrays.items) a < 2 ^ 32 → bytes ≡ slice_index (map size_of w.arrays.items) a)
-    → 4 * (bytes / 4) ≡ size_of (storage_of w.arrays.items a)
-result_size w a bytes sound is same =
-    omega (arith, same (declared_small w a (sound_declared w sound)), size_at w.arrays.items a, whole)
-  where
-    array : IsTrue (is_sound_message (length w.variables.items) w.arrays.items (globals w) (message.Array a))
-    array = subst (λ m. IsTrue (is_sound_message (length w.variables.items) w.arrays.items (globals w) m)) is (sound_message w sound)
-
-    whole : size_of (storage_of w.arrays.items a) % 4 ≡ 0
-    whole = eqb-true (size_of (storage_of w.arrays.items a) % 4) 0 (and_first _ _ (and_first _ _ (and_second (list_any (is_array a) (globals w)) _ array)))
-
--- ---- words
-
--- a byte of the bytes of words
-byte_of_words : (words : List ℕ) (n k : ℕ) → k < 4
-    → slice_index (flat_map (to_le_bytes w32) words) (4 * n + k) ≡ slice_index (to_le_bytes w32 (slice_index words n)) k
-byte_of_words [] n zero h = refl
-byte_of_words [] n (suc zero) h = refl
-byte_of_words [] n (suc (suc zero)) h = refl
-byte_of_words [] n (suc (suc (suc zero))) h = refl
-byte_of_words [] n (suc (suc (suc (suc k)))) h = absurd (omega (arith, h))
-byte_of_words (x ∷ words) zero zero h = refl
-byte_of_words (x ∷ words) zero (suc zero) h = refl
-byte_of_words (x ∷ words) zero (suc (suc zero)) h = refl
-byte_of_words (x ∷ words) zero (suc (suc (suc zero))) h = refl
-byte_of_words (x ∷ words) zero (suc (suc (suc (suc k)))) h = absurd (omega (arith, h))
-byte_of_words (x ∷ words) (suc n) k h =
-    let at : 4 * suc n + k ≡ 4 + (4 * n + k) = omega arith in
-    ap (slice_index (flat_map (to_le_bytes w32) (x ∷ words))) at
-    ∙ index_behind_front (to_le_bytes w32 x) (flat_map (to_le_bytes w32) words) (4 * n + k)
-    ∙ byte_of_words words n k h
-
--- a byte of the bytes of an item
-byte_at : (blocks : Blocks) (item : Item) (at k : ℕ) → k < 4 → slice_index (bytes_at blocks item at 4) k ≡ blocks item (at + k)
-unfolding bytes_at
-byte_at blocks item at zero h = ap (blocks item) (omega arith)
-byte_at blocks item at (suc zero) h = refl
-byte_at blocks item at (suc (suc zero)) h = ap (blocks item) (omega arith)
-byte_at blocks item at (suc (suc (suc zero))) h = ap (blocks item) (omega arith)
-byte_at blocks item at (suc (suc (suc (suc k)))) h = absurd (omega (arith, h))
-
--- what the words of placed items are
-words_first : (w : Worker) (start : ℕ) (words : List ℕ) (placed : List Placed) → All (HoldsFirst w start words) placed → (item : Item)
-    (i : ℕ) → i < words_at placed item
-    → to_le_bytes w32 (slice_index words (start + local_at placed item + i)) ≡ bytes_at (first_blocks w) item (4 * i) 4
-words_first w start words [] all item i h = absurd (omega (arith, h))
-words_first w start words (one ∷ placed) all item i h =
-    by_test (words_first w start words placed (All-tail (HoldsFirst w start words) one placed all) item i) (is_item one.item item) refl h
-  where
-    by_test : (i < words_at placed item → to_le_bytes w32 (slice_index words (start + local_at placed item + i)) ≡ bytes_at (first_blocks w) item (4 * i) 4)
-        → (b : Bool) → is_item one.item item ≡ b → i < (if b then one.words else words_at placed item)
-        → to_le_bytes w32 (slice_index words (start + (if b then one.local else local_at placed item) + i)) ≡ bytes_at (first_blocks w) item (4 * i) 4
-    by_test go true e h = All-head (HoldsFirst w start words) one placed all i h ∙ ap (λ x. bytes_at (first_blocks w) x (4 * i) 4) (same_item one.item item e)
-    by_test go false e h = go h
-
--- .. and so its bytes
-bytes_first : (w : Worker) (start : ℕ) (words : List ℕ) (placed : List Placed) → All (HoldsFirst w start words) placed → (item : Item)
-    (k : ℕ) → k < 4 * words_at placed item
-    → slice_index (flat_map (to_le_bytes w32) words) (4 * (start + local_at placed item) + k) ≡ first_blocks w item k
-bytes_first w start words placed all item k h =
-    let word : k / 4 < words_at placed item = omega (arith, h) in
-    let byte : k % 4 < 4 = omega arith in
-    let at : 4 * (start + local_at placed item) + k ≡ 4 * (start + local_at placed item + k / 4) + k % 4 = omega arith in
-    let here : 4 * (k / 4) + k % 4 ≡ k = omega arith in
-    ap (slice_index (flat_map (to_le_bytes w32) words)) at
-    ∙ byte_of_words words (start + local_at placed item + k / 4) (k % 4) byte
-    ∙ ap (λ bs. slice_index bs (k % 4)) (words_first w start words placed all item (k / 4) word)
-    ∙ byte_at (first_blocks w) item (4 * (k / 4)) (k % 4) byte
-    ∙ ap (first_blocks w item) here
-
--- ---- lines
-
-operation_same : (one other : Site) (step : Step) → ((item : Item) → one.locals item ≡ other.locals item) → operation_of one step ≡ operation_of other step
-operation_same one other (Plain instr) same = refl
-operation_same one other (Load item word) same = ap (λ n. operation_of record other { locals = λ i. n } (Load item word)) (same item)
-operation_same one other (Store item word) same = ap (λ n. operation_of record other { locals = λ i. n } (Store item word)) (same item)
-operation_same one other (Pointer item word) same = ap (λ n. operation_of record other { locals = λ i. n } (Pointer item word)) (same item)
-operation_same one other (JumpTo to) same = refl
-operation_same one other (CjTo to) same = refl
-operation_same one other (Distance from to) same = refl
-
-operand_same : (code : List CodeLine) (addresses : List ℕ) (wptr : ℕ) (placed : List Placed) (step : Step) → HasOperand (places placed) step
-    → HasOperand (site_of code addresses wptr placed) step
-operand_same code addresses wptr placed (Plain instr) has = has
-operand_same code addresses wptr placed (Load item word) has = has
-operand_same code addresses wptr placed (Store item word) has = has
-operand_same code addresses wptr placed (Pointer item word) has = has
-operand_same code addresses wptr placed (JumpTo to) has = tt
-operand_same code addresses wptr placed (CjTo to) has = tt
-operand_same code addresses wptr placed (Distance from to) has = tt
-
-lines_same : (code : List CodeLine) (addresses : List ℕ) (wptr : ℕ) (placed : List Placed) (lines : List CodeLine)
-    → map (line_at (places placed)) lines ≡ map (line_at (site_of code addresses wptr placed)) lines
-lines_same code addresses wptr placed [] = refl
-lines_same code addresses wptr placed (line ∷ lines) =
-    let here : line_at (places placed) line ≡ line_at (site_of code addresses wptr placed) line =
-    ap (λ o. Spelled o None) (operation_same (places placed) (site_of code addresses wptr placed) line.step (λ item. refl)) in
-    ap (λ l. l ∷ map (line_at (places placed)) lines) here
-    ∙ ap (λ ls. line_at (site_of code addresses wptr placed) line ∷ ls) (lines_same code addresses wptr placed lines)
-
-pub is_made_of : (w : Worker) (code : Lines) (placed : List Placed) (program : Program) (addresses : List ℕ) (wptr : ℕ) → IsBuilt w code placed program
-    → IsMadeOf program (site_of code.lines addresses wptr placed)
-is_made_of w code placed program addresses wptr built = record {
-  lines = built.lines ∙ lines_same code.lines addresses wptr placed code.lines;
-  operands = λ place line at.
-      operand_same code.lines addresses wptr placed line.step (all_get (IsPlaced w placed) code.lines place line built.steps at).operand;
-}
+use Rattle.tpw_occam_core.specs.Sound.{is_sound, are_declared}
+use Rattle.tpw_occam_symbolic.specs.declared.items.Item.TheVariants.{Variable, Constant}
+use Rattle.tpw_occam_symbolic.specs.declared.items.Placed.{Placed}
+use Rattle.tpw_occam_symbolic.specs.Code.{Lines}
+use Rattle.tpw_occam_symbolic.specs.Blocks.{bytes_at, word_at}
+use Rattle.tpw_occam_symbolic.specs.Symbolic.{Machine}
+use Rattle.tpw_occam_symbolic.specs.Placing.{site_of, first_blocks, IsPlaced, IsBuilt}
+use Rattle.tpw_occam_symbolic.specs.Program.{IsPacket, GivesMeaning, Means}
+use Rattle.tpw_occam_symbolic.proofs.CarryingStart.{Gives}
+use Rattle.tpw_occam_symbolic.proofs.Sizes.{sound_declared}
+use Rattle.tpw_occam_symbolic.proofs.Beginning.{all_get, index_zeros, first_machine, machine_of, built_carries}
+use Rattle.tpw_occam_code.specs.Starting.{Begins, IsSent, Works}
 
 -- ---- the first machine
-
-abbrev first_machine : Worker → Site → List ℕ → Machine
-first_machine w site packet = record {
-  code = site.code;
-  sizes = site.sizes;
-  place = 0;
-  areg = number 0;
-  breg = number 0;
-  creg = number 0;
-  blocks = first_blocks w;
-  error = false;
-  stopped = false;
-  to_come = packet;
-  sent = [];
-  traced = [];
-}
 
 word_of_zeros : (w : Worker) (x : ℕ) → bytes_at (first_blocks w) (Variable x) 0 4 ≡ to_le_bytes w32 (slice_index (first w).values x)
 unfolding bytes_at
@@ -257,36 +63,6 @@ first_begins w code placed program addresses wptr packet declared base built = r
 
 -- ---- runs
 
-first_is : (w : Worker) (code : List CodeLine) (placed : List Placed) (program : Program) (image : ImageValue) (is : IsAssembly program image) (packet : List ℕ)
-    → All (HoldsFirst w program.start program.initial.items) placed
-    → IsFirst image (site program image is code placed 0) packet
-    (first_machine w (site program image is code placed 0) packet)
-first_is w code placed program image is packet holds = record {
-  code = refl;
-  sizes = refl;
-  place = refl;
-  address = starts_first program image is code placed 0;
-  wptr = refl;
-  blocks = λ item k h.
-      let at : base_of (site program image is code placed 0) item + k - mem_start ≡ 4 * (program.start + local_at placed item) + k =
-      omega (arith, start) in
-      sym (ap (slice_index (first_bytes image)) at ∙ bytes_first w program.start (first_words image) placed holds_all item k h);
-  error = refl;
-  stopped = refl;
-  to_come = refl;
-  sent = refl;
-  traced = refl;
-}
-  where
-    start : image.start ≡ program.start
-    start = ap (λ i. i.start) is.said
-
-    same_word : (n : ℕ) → slice_index (first_words image) n ≡ slice_index program.initial.items n
-    same_word n = index_more_zeros image.initial (image.workspace - length image.initial) n ∙ ap (λ (i : ImageValue). slice_index i.initial n) is.said
-
-    holds_all : All (HoldsFirst w program.start (first_words image)) placed
-    holds_all i one h j within = ap (to_le_bytes w32) (same_word _) ∙ holds i one h j within
-
 gives_meaning : (w : Worker) (packet : List ℕ) (run : Run) (first last : Machine) → first.sent ≡ [] → IsSent w.send (after w packet) first last → Gives run last
     → GivesMeaning run (meaning w packet)
 unfolding meaning
@@ -307,20 +83,13 @@ gives_what_is_meant : (w : Worker) (code : Lines) (placed : List Placed) (progra
     → Works w code → (image : ImageValue) (packet : List ℕ) (run : Run) → IsAssembly program image → IsPacket image packet → RunsAlone image packet run
     → GivesMeaning run (meaning w packet)
 gives_what_is_meant w code placed program sound built works image packet run is fits alone =
-    let declared = sound_declared w sound in
-    let wptr : ℕ = mem_start + 4 * image.start in
-    let addresses : List ℕ = addresses_from 0 is.lengths in
-    let start : image.start ≡ program.start = ap (λ i. i.start) is.said in
-    let workspace : image.workspace ≡ program.workspace = ap (λ i. i.workspace) is.said in
-    let m : Machine = first_machine w (site_of code.lines addresses wptr placed) packet in
+    let m : Machine = machine_of w code placed program image is packet in
     let stops = works.stops packet record {
       size = fits.size ∙ ap (λ (i : ImageValue). 4 * i.packet) is.said ∙ built.packet sound;
       bytes = fits.bytes;
-    } m (first_begins w code placed program addresses wptr packet declared works.base built) in
+    } m (first_begins w code placed program (addresses_from 0 is.lengths) (mem_start + 4 * image.start) packet (sound_declared w sound) works.base built) in
     gives_meaning w packet run m stops.last refl stops.after
-    (program_carries program image is code.lines placed built.most (is_made_of w code placed program addresses wptr built) built.between
-    (omega (arith, start, workspace, built.room (omega (arith, workspace, workspace_most image.version image.workspace is.in_range.workspace.1))))
-    packet run alone {m = m} {last = stops.last} (first_is w code.lines placed program image is packet built.words) stops.way stops.stopped)
+    (built_carries w code placed program built image is packet run alone stops.last stops.way stops.stopped)
 
 -- the program means what the worker does
 pub built_means : (w : Worker) (code : Lines) (placed : List Placed) (program : Program) → IsTrue (is_sound w) → IsBuilt w code placed program → Works w code

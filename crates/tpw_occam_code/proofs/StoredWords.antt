@@ -1,16 +1,16 @@
 -- Numbers that are stored in words of items.
 use Rattle.std.proofs.Common.{◌≡◌, ◌+◌, ◌*◌, ◌≤◌, [], ◌∷◌, ℕ, List, refl, ap, sym, subst, ◌∙◌}
 use Rattle.std.proofs.lemmas.Bool.{le-leb}
-use Rattle.tpw_occam_code.specs.declared.items.Item.{Item}
-use Rattle.tpw_occam_code.specs.declared.items.Item.TheVariants.{Variable, Constant}
-use Rattle.tpw_occam_code.specs.declared.code.Step.TheVariants.{Store}
-use Rattle.tpw_occam_code.specs.Code.{Lines, followed_by, line_of, place_behind}
-use Rattle.tpw_occam_code.specs.Blocks.{with_word}
-use Rattle.tpw_occam_code.specs.Symbolic.{Machine, performed, at_place, number, push, pop, with_blocks}
-use Rattle.tpw_occam_code.specs.Leading.{Does, Makes, HasConstants}
+use Rattle.tpw_occam_symbolic.specs.declared.items.Item.{Item}
+use Rattle.tpw_occam_symbolic.specs.declared.items.Item.TheVariants.{Variable, Constant}
+use Rattle.tpw_occam_symbolic.specs.declared.code.Step.TheVariants.{Store}
+use Rattle.tpw_occam_symbolic.specs.Code.{Lines, followed_by, line_of, place_behind}
+use Rattle.tpw_occam_symbolic.specs.Blocks.{with_word}
+use Rattle.tpw_occam_symbolic.specs.Symbolic.{Machine, performed, at_place, number, push, pop, with_blocks}
+use Rattle.tpw_occam_symbolic.specs.Leading.{Does, Makes, HasConstants}
 use Rattle.tpw_occam_code.specs.Values.{HasNumber}
 use Rattle.tpw_occam_code.specs.Executing.{with_item_word, Begins}
-use Rattle.tpw_occam_code.proofs.Leading.{does_less, does_both, does_served, makes_both}
+use Rattle.tpw_occam_symbolic.proofs.Leading.{does_less, does_both, does_served, makes_both}
 use Rattle.tpw_occam_code.proofs.Computing.{word_same}
 use Rattle.tpw_occam_code.proofs.Keeping.{word_elsewhere}
 

@@ -10,18 +10,18 @@ use Rattle.tpw_occam_core.specs.declared.kind.Kind.{Kind}
 use Rattle.tpw_occam_core.specs.declared.kind.Kind.TheVariants.{Word, Byte}
 use Rattle.tpw_occam_core.specs.declared.scope.Entry.{Entry}
 use Rattle.tpw_occam_core.specs.Arrays.{size, written, with_element}
-use Rattle.tpw_occam_code.specs.declared.items.Item.{Item}
-use Rattle.tpw_occam_code.specs.declared.items.Item.TheVariants as item
-use Rattle.tpw_occam_code.specs.declared.code.Step.TheVariants.{Plain, Store}
-use Rattle.tpw_occam_code.specs.Code.{Lines, followed_by, line_of, place_behind}
-use Rattle.tpw_occam_code.specs.Blocks.{Blocks, is_item, with_bytes, with_word}
-use Rattle.tpw_occam_code.specs.Symbolic.{Machine, effect, performed, at_place, number, address, pop, pop_two, with_blocks}
-use Rattle.tpw_occam_code.specs.Leading.{Does, HasWord}
+use Rattle.tpw_occam_symbolic.specs.declared.items.Item.{Item}
+use Rattle.tpw_occam_symbolic.specs.declared.items.Item.TheVariants as item
+use Rattle.tpw_occam_symbolic.specs.declared.code.Step.TheVariants.{Plain, Store}
+use Rattle.tpw_occam_symbolic.specs.Code.{Lines, followed_by, line_of, place_behind}
+use Rattle.tpw_occam_symbolic.specs.Blocks.{Blocks, is_item, with_bytes, with_word}
+use Rattle.tpw_occam_symbolic.specs.Symbolic.{Machine, effect, performed, at_place, number, address, pop, pop_two, with_blocks}
+use Rattle.tpw_occam_symbolic.specs.Leading.{Does, HasWord}
 use Rattle.tpw_occam_code.specs.Values.{HasNumber, PushesAddress, scaled}
 use Rattle.tpw_occam_code.specs.Agreement.{LeavesItems}
 use Rattle.tpw_occam_code.specs.Assigning.{element_bytes, Writes, WritesPopped, IsToStore, Stores}
-use Rattle.tpw_occam_code.proofs.Leading.{does_step, does_both, does_less}
-use Rattle.tpw_occam_code.proofs.Keeping.{is_item-self}
+use Rattle.tpw_occam_symbolic.proofs.Leading.{does_step, does_both, does_less}
+use Rattle.tpw_occam_symbolic.proofs.Carrying.{is_item-self}
 use Rattle.tpw_occam_code.proofs.Naming.{slice_same, slice_other, slice_length}
 
 -- ---- steps that store

@@ -11,7 +11,8 @@ use Rattle.tpw_occam_core.specs.declared.scope.Entry.{Entry}
 use Rattle.tpw_occam_core.specs.declared.expression.Operator.{Operator}
 use Rattle.tpw_occam_core.specs.declared.expression.Expression.{Expression}
 use Rattle.tpw_occam_core.specs.declared.expression.Expression.TheVariants as expression
-use Rattle.tpw_occam_code.proofs.Standing.{suffices_two, and_first, and_second}
+use Rattle.tpw_occam_code.proofs.Standing.{suffices_two}
+use Rattle.tpw_occam_symbolic.proofs.Sizes.{and_first, and_second}
 use Rattle.std.specs.Prelude.{pos, ◌&&◌, ◌/◌, is_some}
 use Rattle.std.specs.Option.{option_map_or}
 use Rattle.std.proofs.lemmas.Bool.{cases_lt}
@@ -25,19 +26,19 @@ use Rattle.tp_step.specs.Numbers.{truth}
 use Rattle.tpw_occam_core.specs.declared.expression.Operator.TheVariants as operators
 use Rattle.tpw_occam_core.specs.Arithmetic.{answer, plain, checked, wrapped, applied, subscript}
 use Rattle.tpw_occam_core.specs.Meaning.{Store, followed, value_of}
-use Rattle.tpw_occam_code.specs.declared.items.Item.{Item}
-use Rattle.tpw_occam_code.specs.declared.items.Item.TheVariants as item
-use Rattle.tpw_occam_code.specs.declared.code.Step.TheVariants.{Plain, Load, Store as StoreTo}
+use Rattle.tpw_occam_symbolic.specs.declared.items.Item.{Item}
+use Rattle.tpw_occam_symbolic.specs.declared.items.Item.TheVariants as item
+use Rattle.tpw_occam_symbolic.specs.declared.code.Step.TheVariants.{Plain, Load, Store as StoreTo}
 use Rattle.tpw_occam_code.specs.declared.expressions.Value.{Value}
 use Rattle.tpw_occam_code.specs.declared.emitter.Room.{Room}
-use Rattle.tpw_occam_code.specs.Code.{Lines, followed_by, line_of, place_behind}
-use Rattle.tpw_occam_code.specs.Symbolic.{Machine, effect, performed, at_place, number, push}
-use Rattle.tpw_occam_code.specs.Leading.{Does, IsBefore, Arrives, HasConstants, HasWord, Makes}
+use Rattle.tpw_occam_symbolic.specs.Code.{Lines, followed_by, line_of, place_behind}
+use Rattle.tpw_occam_symbolic.specs.Symbolic.{Machine, effect, performed, at_place, number, push}
+use Rattle.tpw_occam_symbolic.specs.Leading.{Does, IsBefore, Arrives, HasConstants, HasWord, Makes}
 use Rattle.tpw_occam_code.specs.Values.{Holds, HasCount, HasOperands, Pushes, answered}
 use Rattle.tpw_occam_code.specs.Agreement.{Knowledge, constant_in, Knows, Agrees, LeavesItems, Stays}
 use Rattle.tpw_occam_code.specs.Computing.{IsPlace, MayStand, Suffices, Computes, ComputesTo, ComputesBoth, ComputesTwo, PushesTwo, IsKnown, IsKnownOf, commutes, applied_value, is_simple, IsConstantBelow, IsNoShift, IsKnownOfBoth, IsSimplePair, applied_first, subscript_value, is_immediate, has_immediate, is_swapped, HasImmediate}
 use Rattle.tpw_occam_code.proofs.Answering.{count_of_no_shift}
-use Rattle.tpw_occam_code.proofs.Leading.{does_both, does_less, does_step}
+use Rattle.tpw_occam_symbolic.proofs.Leading.{does_both, does_less, does_step}
 use Rattle.tpw_occam_code.proofs.Computing.{agrees_after, leaves_then, bytes_same, alone_pushes}
 use Rattle.tpw_occam_code.proofs.Elements.{pushes_alone}
 use Rattle.tpw_occam_code.proofs.Keeping.{Saves, does_save, does_recall}

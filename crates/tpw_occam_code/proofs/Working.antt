@@ -19,17 +19,18 @@ use Rattle.tpw_occam_core.specs.declared.process.Process.{Process}
 use Rattle.tpw_occam_core.specs.Arrays.{element}
 use Rattle.tpw_occam_core.specs.Meaning.{Store, first, first_bytes, received, after, run, kind_of, bytes_of}
 use Rattle.tpw_occam_core.specs.Sound.{is_sound, is_sound_process, is_sound_place, are_declared, is_word, is_sized, globals, is_variable, is_name, is_array, bytes_of as size_of}
-use Rattle.tpw_occam_code.specs.Program.{place_bytes}
-use Rattle.tpw_occam_code.specs.Code.{Lines, none_at}
-use Rattle.tpw_occam_code.specs.Symbolic.{Machine}
-use Rattle.tpw_occam_code.specs.Leading.{Does}
+use Rattle.tpw_occam_symbolic.specs.Program.{place_bytes}
+use Rattle.tpw_occam_symbolic.specs.Code.{Lines, none_at}
+use Rattle.tpw_occam_symbolic.specs.Symbolic.{Machine}
+use Rattle.tpw_occam_symbolic.specs.Leading.{Does}
 use Rattle.tpw_occam_code.specs.Agreement.{Knowledge, fact_at, fact_of_kind, any_word, FitsFact}
 use Rattle.tpw_occam_code.specs.Executing.{IsProcessPlace, MayRun, KnowsState, Matches, Executes, first_use, none_unset}
 use Rattle.tpw_occam_code.specs.Starting.{knowledge_of, FitsPlace, IsInScope, Receives, DoesLast, Sends, Begins, IsSent, Stops, Works}
 use Rattle.tpw_occam_code.proofs.Ranges.{full_contains}
-use Rattle.tpw_occam_code.proofs.Starting.{index_zeros, size_at, sound_declared, sound_message}
-use Rattle.tpw_occam_code.proofs.Standing.{and_first, and_second}
-use Rattle.tpw_occam_code.proofs.Leading.{leads_then, has_first, does_both}
+use Rattle.tpw_occam_symbolic.proofs.Beginning.{index_zeros}
+use Rattle.tpw_occam_symbolic.proofs.Sizes.{size_at, sound_declared, sound_message}
+use Rattle.tpw_occam_symbolic.proofs.Sizes.{and_first, and_second}
+use Rattle.tpw_occam_symbolic.proofs.Leading.{leads_then, has_first, does_both}
 
 -- what is known of a state is known of what a process makes of it
 abbrev pub KnowsAfter : Knowledge → Process → Type 0

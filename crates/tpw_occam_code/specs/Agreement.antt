@@ -11,13 +11,13 @@ use Rattle.tpw_occam_core.specs.declared.expression.Expression.{Expression}
 use Rattle.tpw_occam_core.specs.declared.expression.Expression.TheVariants.{Constant, Variable}
 use Rattle.tpw_occam_core.specs.Meaning.{Store, array_of}
 use Rattle.tpw_occam_core.specs.Sound.{is_name, is_array}
-use Rattle.tpw_occam_code.specs.declared.items.Item.{Item}
-use Rattle.tpw_occam_code.specs.declared.items.Item.TheVariants as item
+use Rattle.tpw_occam_symbolic.specs.declared.items.Item.{Item}
+use Rattle.tpw_occam_symbolic.specs.declared.items.Item.TheVariants as item
 use Rattle.tpw_occam_code.specs.declared.emitter.Fact.{Fact}
 use Rattle.tpw_occam_code.specs.declared.range.Range.{Range}
 use Rattle.tpw_occam_code.specs.Ranges.{full, from_to, Contains}
-use Rattle.tpw_occam_code.specs.Symbolic.{Machine}
-use Rattle.tpw_occam_code.specs.Leading.{HasConstants, HasArray, HasWord}
+use Rattle.tpw_occam_symbolic.specs.Symbolic.{Machine}
+use Rattle.tpw_occam_symbolic.specs.Leading.{HasConstants, HasArray, HasWord}
 
 -- ---- what is known of names
 

@@ -19,12 +19,12 @@ use Rattle.tpw_occam_core.specs.Arithmetic.{answer, plain}
 use Rattle.tpw_occam_core.specs.Arrays.{size, kept}
 use Rattle.tpw_occam_core.specs.Meaning.{Store, value_of, kind_of, subscript_of, stored, flagged, assigned}
 use Rattle.tpw_occam_core.specs.Sound.{is_seen, is_sound_target, is_sound_assignment}
-use Rattle.tpw_occam_code.specs.declared.items.Item.{Item}
-use Rattle.tpw_occam_code.specs.declared.items.Item.TheVariants as item
-use Rattle.tpw_occam_code.specs.Code.{Lines}
-use Rattle.tpw_occam_code.specs.Blocks.{with_bytes}
-use Rattle.tpw_occam_code.specs.Symbolic.{Machine, number, address}
-use Rattle.tpw_occam_code.specs.Leading.{Does, HasConstants, HasWord}
+use Rattle.tpw_occam_symbolic.specs.declared.items.Item.{Item}
+use Rattle.tpw_occam_symbolic.specs.declared.items.Item.TheVariants as item
+use Rattle.tpw_occam_symbolic.specs.Code.{Lines}
+use Rattle.tpw_occam_symbolic.specs.Blocks.{with_bytes}
+use Rattle.tpw_occam_symbolic.specs.Symbolic.{Machine, number, address}
+use Rattle.tpw_occam_symbolic.specs.Leading.{Does, HasConstants, HasWord}
 use Rattle.tpw_occam_code.specs.Values.{HasNumber, scaled}
 use Rattle.tpw_occam_code.specs.Agreement.{Knowledge, elements_of, Knows, Agrees, LeavesItems, Stays}
 use Rattle.tpw_occam_code.specs.Computing.{IsPlace, MayStand, reads}

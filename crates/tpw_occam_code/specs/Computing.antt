@@ -1,13 +1,10 @@
 -- What the code of an expression does.
 use Rattle.std.specs.Prelude.{◌≡◌, ℕ, ◌+◌, ◌-◌, ◌%◌, ◌^◌, ◌<◌, ◌≤◌, Bool, true, false, not, ◌||◌, ◌&&◌, ◌==◌}
-use Rattle.std.specs.Prelude.{nat_le}
 use Rattle.std.specs.Prelude.{if◌then◌else◌, List, [], ◌∷◌, ◌++◌, length, map, slice_index, Option, Some, None, is_some}
 use Rattle.std.specs.Prelude.{IsTrue, pos, ◌⊎◌, ◌≢◌, Box}
 use Rattle.std.specs.Global.{Global}
 use Rattle.std.specs.Option.{option_and_then, option_map_or}
 use Rattle.std.specs.List.{list_any}
-use Rattle.tp_prefix.specs.Canonical.{canonical}
-use Rattle.tp_decode.specs.Words.{signed}
 use Rattle.tpw_occam_core.specs.declared.worker.Storage.{Storage}
 use Rattle.tpw_occam_core.specs.declared.arithmetic.Answer.{Answer}
 use Rattle.tpw_occam_core.specs.declared.scope.Entry.{Entry}
@@ -28,17 +25,13 @@ use Rattle.tpw_occam_core.specs.Sound.{is_sound_expression, is_new_name, is_arra
 use Rattle.tpw_occam_core.specs.declared.kind.Kind.{Kind}
 use Rattle.tpw_occam_core.specs.declared.kind.Kind.TheVariants.{Word, Byte}
 use Rattle.tpw_occam_code.specs.declared.expressions.Value.{Value}
-use Rattle.tpw_occam_code.specs.Code.{Lines}
-use Rattle.tpw_occam_code.specs.Leading.{Does}
+use Rattle.tpw_occam_symbolic.specs.Code.{Lines, is_short}
+use Rattle.tpw_occam_symbolic.specs.Leading.{Does}
 use Rattle.tpw_occam_code.specs.Values.{Holds, HasOperands, Pushes}
-use Rattle.tpw_occam_code.specs.Symbolic.{Machine, number}
+use Rattle.tpw_occam_symbolic.specs.Symbolic.{Machine, number}
 use Rattle.tpw_occam_code.specs.Agreement.{Knowledge, elements_of, fact_at, constant_in, Knows, Agrees, LeavesItems}
 
 -- ---- registers
-
--- the `ldc` of a constant has at most two bytes
-abbrev pub is_short : ℕ → Bool
-is_short c = nat_le (length (canonical 4 (signed c))) 2
 
 -- the operand of the instruction that works out an operator with this right operand
 abbrev pub operand_of : Operator → ℕ → Option ℕ

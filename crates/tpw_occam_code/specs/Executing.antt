@@ -1,6 +1,5 @@
 -- What the code of a process does.
 use Rattle.std.specs.Prelude.{◌≡◌, ◌≢◌, ℕ, ◌+◌, ◌*◌, ◌<◌, ◌≤◌, Bool, true, false, ◌||◌, ◌&&◌, ◌==◌, if◌then◌else◌}
-use Rattle.std.specs.Prelude.{nat_le}
 use Rattle.std.specs.Prelude.{List, [], ◌∷◌, ◌++◌, length, map, replicate, slice_index, slice_get, Some, IsTrue, Box}
 use Rattle.std.specs.Global.{Global}
 use Rattle.std.specs.List.{list_all, list_any}
@@ -21,14 +20,14 @@ use Rattle.tpw_occam_core.specs.Sound.{is_sound_message}
 use Rattle.tpw_occam_core.specs.Sound.{is_sound_process}
 use Rattle.tpw_occam_code.specs.declared.analysis.First.{First}
 use Rattle.tpw_occam_code.specs.declared.analysis.First.TheVariants.{Nothing, Assigned, Read}
-use Rattle.tpw_occam_code.specs.declared.items.Item.{Item}
-use Rattle.tpw_occam_code.specs.declared.items.Item.TheVariants.{Variable, Zeros}
-use Rattle.tpw_occam_code.specs.declared.code.Step.TheVariants.{Pointer}
-use Rattle.tpw_occam_code.specs.declared.code.CodeLine.{CodeLine}
-use Rattle.tpw_occam_code.specs.Code.{Lines, place_behind}
-use Rattle.tpw_occam_code.specs.Blocks.{with_word}
-use Rattle.tpw_occam_code.specs.Symbolic.{Machine, number, push, pop, with_blocks, at_place}
-use Rattle.tpw_occam_code.specs.Leading.{Does, Makes, HasConstants, word_bytes}
+use Rattle.tpw_occam_symbolic.specs.declared.items.Item.{Item}
+use Rattle.tpw_occam_symbolic.specs.declared.items.Item.TheVariants.{Variable, Zeros}
+use Rattle.tpw_occam_symbolic.specs.declared.code.Step.TheVariants.{Pointer}
+use Rattle.tpw_occam_symbolic.specs.declared.code.CodeLine.{CodeLine}
+use Rattle.tpw_occam_symbolic.specs.Code.{Lines, place_behind}
+use Rattle.tpw_occam_symbolic.specs.Blocks.{with_word}
+use Rattle.tpw_occam_symbolic.specs.Symbolic.{Machine, number, push, pop, with_blocks, at_place}
+use Rattle.tpw_occam_symbolic.specs.Leading.{Does, Makes, HasConstants, cleared_bytes}
 use Rattle.tpw_occam_code.specs.Agreement.{Knowledge, fact_at, fact_of_kind, Knows, Agrees}
 use Rattle.tpw_occam_code.specs.Computing.{IsPlace, reads}
 
@@ -117,14 +116,6 @@ none_unset x = false
 pub record KnowsState (k : Knowledge) (scope : List Entry) (s : Store) : Type 0 where
   pub knows : Knows k scope none_unset s
   pub sizes : map length s.arrays ≡ k.arrays
-
--- how many words one `move` clears at most
-abbrev pub most_cleared : ℕ
-most_cleared = 32
-
--- the bytes that one `move` clears of an array of so many
-abbrev pub cleared_bytes : ℕ → ℕ
-cleared_bytes bytes = if nat_le (word_bytes bytes) (4 * most_cleared) then word_bytes bytes else 4 * most_cleared
 
 -- A machine between processes: it agrees with a state, with its flag and its traces. The zeros are zeros, and where
 -- code points at them they are enough for each array that may be declared.

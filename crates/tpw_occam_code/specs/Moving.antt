@@ -1,22 +1,14 @@
 -- What the code does that writes words, and copies and clears them.
-use Rattle.std.specs.Prelude.{◌≡◌, ℕ, ◌+◌, ◌*◌, ◌≤◌, ◌<◌, false, List, slice_get, slice_index, Some}
-use Rattle.tpw_occam_code.specs.declared.items.Item.{Item}
-use Rattle.tpw_occam_code.specs.declared.items.Item.TheVariants.{Array, Zeros}
-use Rattle.tpw_occam_code.specs.declared.code.Step.{Step}
-use Rattle.tpw_occam_code.specs.declared.code.Step.TheVariants.{Pointer}
-use Rattle.tpw_occam_code.specs.declared.code.CodeLine.{CodeLine}
-use Rattle.tpw_occam_code.specs.Code.{Lines}
-use Rattle.tpw_occam_code.specs.Blocks.{Blocks, is_item, with_bytes, bytes_at}
-use Rattle.tpw_occam_code.specs.Symbolic.{Machine}
-use Rattle.tpw_occam_code.specs.Leading.{Does, Serves, HasConstants, word_bytes}
-use Rattle.tpw_occam_code.specs.Executing.{cleared_bytes}
-
--- code has a line with this step
-pub record HasStep (m : Machine) (made : Step) : Type 0 where
-  pub place : ℕ
-  pub line : CodeLine
-  pub there : slice_get m.code place ≡ Some line
-  pub is : line.step ≡ made
+use Rattle.std.specs.Prelude.{◌≡◌, ℕ, ◌+◌, ◌*◌, ◌≤◌, ◌<◌, false, List, slice_index}
+use Rattle.tpw_occam_symbolic.specs.declared.items.Item.{Item}
+use Rattle.tpw_occam_symbolic.specs.declared.items.Item.TheVariants.{Array, Zeros}
+use Rattle.tpw_occam_symbolic.specs.declared.code.Step.{Step}
+use Rattle.tpw_occam_symbolic.specs.declared.code.Step.TheVariants.{Pointer}
+use Rattle.tpw_occam_symbolic.specs.Code.{Lines}
+use Rattle.tpw_occam_symbolic.specs.Blocks.{Blocks, is_item, with_bytes, bytes_at}
+use Rattle.tpw_occam_symbolic.specs.Symbolic.{Machine}
+use Rattle.tpw_occam_symbolic.specs.Leading.{Does, Serves, HasConstants, HasStep, word_bytes}
+use Rattle.tpw_occam_symbolic.specs.Leading.{cleared_bytes}
 
 -- an item has so many bytes where code has a step that items serve
 abbrev pub Provides : List ℕ → Machine → Step → Item → ℕ → Type 0

@@ -9,13 +9,13 @@ use Rattle.tpw_occam_core.specs.declared.process.Target.{Target}
 use Rattle.tpw_occam_core.specs.declared.process.Target.TheVariants as target
 use Rattle.tpw_occam_core.specs.declared.process.Assignment.{Assignment}
 use Rattle.tpw_occam_core.specs.Meaning.{Store, value_of, flagged, assigned}
-use Rattle.tpw_occam_code.specs.declared.items.Item.TheVariants as item
+use Rattle.tpw_occam_symbolic.specs.declared.items.Item.TheVariants as item
 use Rattle.tpw_occam_code.specs.declared.order.Waiting.{Waiting}
 use Rattle.tpw_occam_code.specs.declared.order.Move.{Move}
 use Rattle.tpw_occam_code.specs.declared.order.Move.TheVariants.{Keep, Make}
-use Rattle.tpw_occam_code.specs.Code.{Lines}
-use Rattle.tpw_occam_code.specs.Symbolic.{Machine}
-use Rattle.tpw_occam_code.specs.Leading.{Does, HasWord}
+use Rattle.tpw_occam_symbolic.specs.Code.{Lines}
+use Rattle.tpw_occam_symbolic.specs.Symbolic.{Machine}
+use Rattle.tpw_occam_symbolic.specs.Leading.{Does, HasWord}
 use Rattle.tpw_occam_code.specs.Agreement.{Knowledge}
 use Rattle.tpw_occam_code.specs.Executing.{IsProcessPlace, KnowsState, Matches, LeavesCounts}
 use Rattle.tpw_occam_code.specs.Assigning.{reads_target, are_near, taken, unset_by, MayMake, MayMakeAll}

@@ -8,15 +8,15 @@ use Rattle.tpw_occam_core.specs.declared.expression.Expression.{Expression}
 use Rattle.tpw_occam_core.specs.declared.process.Message.{Message}
 use Rattle.tpw_occam_core.specs.Meaning.{Store, value_of, flagged, bytes_of, flag_of}
 use Rattle.tpw_occam_core.specs.Sound.{is_name, is_sound_message}
-use Rattle.tpw_occam_code.specs.declared.items.Item.{Item}
-use Rattle.tpw_occam_code.specs.declared.items.Item.TheVariants.{Variable}
+use Rattle.tpw_occam_symbolic.specs.declared.items.Item.{Item}
+use Rattle.tpw_occam_symbolic.specs.declared.items.Item.TheVariants.{Variable}
 use Rattle.tpw_occam_code.specs.declared.messages.Channel.{Channel}
 use Rattle.tpw_occam_code.specs.declared.messages.Channel.TheVariants.{Result, Trace}
-use Rattle.tpw_occam_code.specs.declared.code.Step.TheVariants.{Pointer}
-use Rattle.tpw_occam_code.specs.Code.{Lines}
-use Rattle.tpw_occam_code.specs.Blocks.{bytes_at}
-use Rattle.tpw_occam_code.specs.Symbolic.{Machine}
-use Rattle.tpw_occam_code.specs.Leading.{Does, Serves, HasConstants, HasWord}
+use Rattle.tpw_occam_symbolic.specs.declared.code.Step.TheVariants.{Pointer}
+use Rattle.tpw_occam_symbolic.specs.Code.{Lines}
+use Rattle.tpw_occam_symbolic.specs.Blocks.{bytes_at}
+use Rattle.tpw_occam_symbolic.specs.Symbolic.{Machine}
+use Rattle.tpw_occam_symbolic.specs.Leading.{Does, Serves, HasConstants, HasWord}
 use Rattle.tpw_occam_code.specs.Agreement.{Knowledge}
 use Rattle.tpw_occam_code.specs.Computing.{MayStand}
 use Rattle.tpw_occam_code.specs.Moving.{Provides}

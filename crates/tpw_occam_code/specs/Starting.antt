@@ -1,26 +1,23 @@
 -- What the code of a whole worker does.
-use Rattle.std.specs.Prelude.{◌≡◌, ℕ, ◌<◌, ◌≤◌, ◌||◌, List, [], ◌++◌, length, map, slice_index}
-use Rattle.std.specs.Prelude.{slice_index_or}
+use Rattle.std.specs.Prelude.{◌≡◌, ℕ, ◌<◌, ◌≤◌, ◌||◌, List, [], ◌++◌, length, map}
 use Rattle.std.specs.Prelude.{All, IsTrue}
 use Rattle.std.specs.List.{list_any}
-use Rattle.std.specs.Int.{w32, to_le_bytes}
 use Rattle.tpw_occam_core.specs.declared.worker.Storage.{Storage}
 use Rattle.tpw_occam_core.specs.declared.worker.Place.{Place}
 use Rattle.tpw_occam_core.specs.declared.worker.Place.TheVariants as place
 use Rattle.tpw_occam_core.specs.declared.worker.Worker.{Worker}
 use Rattle.tpw_occam_core.specs.declared.scope.Entry.{Entry}
 use Rattle.tpw_occam_core.specs.declared.process.Message.{Message}
-use Rattle.tpw_occam_core.specs.Meaning.{Store, kind_of, first, first_bytes, received, after, bytes_of, flag_of}
+use Rattle.tpw_occam_core.specs.Meaning.{Store, kind_of, first, received, after, bytes_of, flag_of}
 use Rattle.tpw_occam_core.specs.Sound.{globals, is_variable, is_array, is_word, is_sound_message, bytes_of as size_of}
-use Rattle.tpw_occam_code.specs.declared.items.Item.{Item}
-use Rattle.tpw_occam_code.specs.declared.items.Item.TheVariants.{Constant, Array}
-use Rattle.tpw_occam_code.specs.declared.code.Step.TheVariants.{Pointer}
-use Rattle.tpw_occam_code.specs.declared.code.CodeLine.{CodeLine}
-use Rattle.tpw_occam_code.specs.Program.{place_bytes}
-use Rattle.tpw_occam_code.specs.Code.{Lines}
-use Rattle.tpw_occam_code.specs.Blocks.{Blocks, with_bytes}
-use Rattle.tpw_occam_code.specs.Symbolic.{Machine, Leads}
-use Rattle.tpw_occam_code.specs.Leading.{Serves, HasConstants, IsBefore, Does}
+use Rattle.tpw_occam_symbolic.specs.declared.items.Item.{Item}
+use Rattle.tpw_occam_symbolic.specs.declared.code.Step.TheVariants.{Pointer}
+use Rattle.tpw_occam_symbolic.specs.declared.code.CodeLine.{CodeLine}
+use Rattle.tpw_occam_symbolic.specs.Program.{place_bytes}
+use Rattle.tpw_occam_symbolic.specs.Code.{Lines}
+use Rattle.tpw_occam_symbolic.specs.Blocks.{with_bytes}
+use Rattle.tpw_occam_symbolic.specs.Symbolic.{Machine, Leads}
+use Rattle.tpw_occam_symbolic.specs.Leading.{Serves, HasConstants, IsBefore, Does}
 use Rattle.tpw_occam_code.specs.Agreement.{Knowledge, fact_of_kind}
 use Rattle.tpw_occam_code.specs.Executing.{IsProcessPlace, KnowsState, Matches, none_unset}
 
@@ -31,12 +28,6 @@ knowledge_of w = record {
   arrays = map size_of w.arrays.items;
   facts = map fact_of_kind w.variables.items;
 }
-
--- what the items of a worker hold at first: constants, tables, and else zeros
-abbrev pub first_blocks : Worker → Blocks
-first_blocks w (Constant c) i = slice_index (to_le_bytes w32 c) i
-first_blocks w (Array a) i = slice_index (slice_index_or (map first_bytes w.arrays.items) a []) i
-first_blocks w item i = 0
 
 -- ---- packets
 

@@ -9,12 +9,12 @@ use Rattle.std.specs.Prelude.{slice_index, length}
 use Rattle.tpw_occam_core.specs.declared.kind.Kind.{Kind}
 use Rattle.tpw_occam_core.specs.declared.kind.Kind.TheVariants.{Word, Byte}
 use Rattle.tpw_occam_core.specs.Arithmetic.{applied}
-use Rattle.tpw_occam_code.specs.declared.items.Item.TheVariants.{Array}
+use Rattle.tpw_occam_symbolic.specs.declared.items.Item.TheVariants.{Array}
 use Rattle.tpw_occam_code.specs.declared.expressions.Value.{Value}
 use Rattle.tpw_occam_code.specs.Ranges.{Contains}
-use Rattle.tpw_occam_code.specs.Symbolic.{Machine, effect, number, address, replace_pair, set_areg, raised}
-use Rattle.tpw_occam_code.specs.Code.{Lines}
-use Rattle.tpw_occam_code.specs.Leading.{Does, HasConstants, HasArray, word_bytes}
+use Rattle.tpw_occam_symbolic.specs.Symbolic.{Machine, effect, number, address, replace_pair, set_areg, raised}
+use Rattle.tpw_occam_symbolic.specs.Code.{Lines}
+use Rattle.tpw_occam_symbolic.specs.Leading.{Does, HasConstants, HasArray, word_bytes}
 
 -- what is known of a word
 pub record Holds (value : Value) (word : ℕ) : Type 0 where

@@ -6,8 +6,8 @@ ghost use Rattle.std.specs.Int.{w32, to_le_bytes};
 ghost use Rattle.tpw_occam_core.specs.declared.kind.Kind.TheVariants.{Word};
 ghost use Rattle.tpw_occam_core.specs.declared.process.Target.TheVariants as target;
 ghost use Rattle.tpw_occam_core.specs.Arrays.{size};
-ghost use Rattle.tpw_occam_code.specs.declared.items.Item.TheVariants as item;
-ghost use Rattle.tpw_occam_code.specs.Leading.{Does, HasWord};
+ghost use Rattle.tpw_occam_symbolic.specs.declared.items.Item.TheVariants as item;
+ghost use Rattle.tpw_occam_symbolic.specs.Leading.{Does, HasWord};
 ghost use Rattle.tpw_occam_code.specs.Values.{HasNumber, scaled};
 ghost use Rattle.tpw_occam_code.specs.Computing.{ComputesTo, IsFixed, subscript_value};
 ghost use Rattle.tpw_occam_code.specs.Executing.{Assigns};
@@ -17,15 +17,13 @@ ghost use Rattle.tpw_occam_code.specs.Assigning.{AssignsAbove, KeepsParts, Keeps
 ghost use Rattle.tpw_occam_code.specs.Registers.{IsWordTarget, FitAll, StoresWord, AssignsBelow};
 ghost use Rattle.tpw_occam_code.specs.Ordering.{SettleAll, MakesMoves, MakesMove, KeepsValue, assignment_at};
 
-use crate::code::{Code, Step};
 use crate::emitter::{Emitter, Room};
-use crate::fault::CodeFault;
-use crate::items::Item;
 use crate::order::{Move, keep_any, moves};
 use crate::range::FULL;
 use crate::subscripts::{Offset, base, checked, indexed, kept_byte, reduce, settled};
 use tp_decode::Instr;
 use tpw_occam_core::{Assignment, Expression, Kind, Target};
+use tpw_occam_symbolic::{Code, CodeFault, Item, Step};
 
 /// Stores Areg in a variable.
 fn store_variable(code: &mut Code, line: u32, x: usize) -> Result<(), CodeFault>

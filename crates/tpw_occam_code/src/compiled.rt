@@ -1,39 +1,15 @@
 //! From a worker to its program.
 
-ghost use Rattle.std.specs.Prelude.{◌≡◌, ◌*◌, IfOk, IsTrue, OnOk};
+ghost use Rattle.std.specs.Prelude.{◌≡◌, IfOk, IsTrue};
 ghost use Rattle.tpw_occam_core.specs.Sound.{is_sound};
-ghost use Rattle.tpw_occam_code.specs.Program.{HasLayout, Means, GivesRuled, place_bytes, message_bytes};
-ghost use Rattle.tpw_occam_code.specs.Flowing.{Ends};
-ghost use Rattle.tpw_occam_code.specs.Placing.{AreBetween, IsBuilt};
+ghost use Rattle.tpw_occam_symbolic.specs.Program.{HasLayout, Means, GivesRuled};
+ghost use Rattle.tpw_occam_symbolic.specs.Flowing.{Ends};
 ghost use Rattle.tpw_occam_code.specs.Starting.{Works};
 
-use crate::code::Code;
 use crate::emitter::Emitter;
-use crate::fault::CodeFault;
-use crate::initial::initial_words;
-use crate::items::{Placed, START};
-use crate::layout::{Arranged, layout};
-use crate::length::first_beyond;
-use crate::lines::{lines_of, loop_lines, rows_of, sources_of};
-use crate::loops::check_loops;
-use crate::uses::{Used, array_bytes, uses_of};
 use std::alloc::Global;
-use tp_image::Version;
-use tp_image::limits::{MAX_WORKSPACE_WORDS_2, MIN_WORKSPACE};
-use tpw_asm::{AssemblyFault, Program, addresses};
-use tpw_occam_core::{Message, Place, Storage, Worker};
-
-/// A worker's program, and what its parts come from.
-#[derive(Debug, Drop)]
-pub struct Compiled {
-    pub program: Program,
-    /// The line of the text that each line of code comes from.
-    pub sources: Vec<u32>,
-    /// The line of the text of each loop.
-    pub loop_lines: Vec<u32>,
-    /// Where variables, temporaries, constants and arrays lie.
-    pub placed: Vec<Placed>,
-}
+use tpw_occam_core::Worker;
+use tpw_occam_symbolic::{Code, CodeFault, Compiled, program_of};
 
 /// The code of a worker.
 fn code_of(alloc: Global, worker: &Worker) -> Result<Code, CodeFault>
@@ -48,77 +24,6 @@ fn code_of(alloc: Global, worker: &Worker) -> Result<Code, CodeFault>
     Ok(code)
 }
 
-/// The words of a packet.
-fn packet_words(worker: &Worker) -> u32
-    ensures { IsTrue (is_sound worker.now) → 4 * result ≡ place_bytes worker.now.arrays.items worker.now.receive }
-{
-    match worker.receive {
-        Place::Variable(_) => 1,
-        Place::Array(a) => array_bytes(worker, a) / 4,
-    }
-}
-
-/// The words of a result.
-fn result_words(worker: &Worker) -> u32
-    ensures { IsTrue (is_sound worker.now) → 4 * result ≡ message_bytes worker.now.arrays.items worker.now.send }
-{
-    match &worker.send {
-        Message::Value(_) => 1,
-        Message::Array(a) => array_bytes(worker, *a) / 4,
-    }
-}
-
-/// Refuses items that have more words together than a workspace, at the first use of one that goes beyond it.
-fn check_workspace(uses: &[Used]) -> Result<(), CodeFault> {
-    let mut words = START;
-    for used in uses {
-        words = words.saturating_add(used.words);
-        if words > MAX_WORKSPACE_WORDS_2 {
-            return Err(CodeFault::Workspace { line: used.line });
-        }
-    }
-    Ok(())
-}
-
-/// Refuses a program that has no layout.
-fn check_code(alloc: Global, program: &Program, sources: &[u32]) -> Result<(), CodeFault>
-    ensures { OnOk result (HasLayout program.now) }
-{
-    match addresses(alloc, program) {
-        Ok(_) => Ok(()),
-        Err(AssemblyFault::TooLong) => {
-            let place = first_beyond(alloc, &program.lines)?;
-            Err(CodeFault::Code {
-                line: sources.get(place).copied().unwrap_or(0),
-            })
-        }
-        Err(AssemblyFault::Memory) => Err(CodeFault::Memory),
-        Err(fault) => Err(CodeFault::Assembly(fault)),
-    }
-}
-
-/// The program of code, once its items are placed.
-fn program_of(
-    alloc: Global,
-    worker: &Worker,
-    code: &Code,
-    arranged: &Arranged,
-) -> Result<Program, CodeFault>
-    requires { AreBetween 0 arranged.now.words arranged.now.placed.items }
-    ensures { IfOk result (IsBuilt worker.now code.now arranged.now.placed.items) }
-{
-    Ok(Program {
-        version: Version::Two,
-        workspace: START.saturating_add(arranged.words).max(MIN_WORKSPACE),
-        start: START,
-        packet: packet_words(worker),
-        result: result_words(worker),
-        loops: rows_of(alloc, &arranged.placed, code.loops())?,
-        initial: initial_words(alloc, worker, arranged)?,
-        lines: lines_of(alloc, worker, &arranged.placed, code.lines())?,
-    })
-}
-
 /// The program of a worker, or why there is none. The program has a layout, within the code bytes of an image, and
 /// means what the worker does. Its image breaks no rule on instructions, loops and jumps.
 pub fn compile(alloc: Global, worker: &Worker) -> Result<Compiled, CodeFault>
@@ -127,17 +32,5 @@ pub fn compile(alloc: Global, worker: &Worker) -> Result<Compiled, CodeFault>
     ensures rules { IfOk result (λ compiled. IsTrue (is_sound worker.now) → GivesRuled compiled.program) }
 {
     let code = code_of(alloc, worker)?;
-    check_loops(code.loops())?;
-    let uses = uses_of(alloc, worker, &code)?;
-    check_workspace(&uses)?;
-    let arranged = layout(alloc, &uses)?;
-    let sources = sources_of(alloc, code.lines())?;
-    let program = program_of(alloc, worker, &code, &arranged)?;
-    check_code(alloc, &program, &sources)?;
-    Ok(Compiled {
-        program,
-        sources,
-        loop_lines: loop_lines(alloc, code.loops())?,
-        placed: arranged.placed,
-    })
+    program_of(alloc, worker, &code)
 }

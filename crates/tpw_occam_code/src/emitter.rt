@@ -1,31 +1,21 @@
 //! What is known while code is made.
 
-ghost use Rattle.std.specs.Prelude.{◌≡◌, ◌<◌, ◌^◌, ◌+◌, ◌-◌, ◌*◌, ℕ, List, Some, OnOk, IfOk, IfSome, IsTrue, map};
+ghost use Rattle.std.specs.Prelude.{◌≡◌, ◌<◌, ◌^◌, ◌+◌, ◌-◌, ◌*◌, Some, IfOk, IfSome, map};
 ghost use Rattle.std.specs.Prelude.{slice_index};
 ghost use Rattle.tpw_occam_core.specs.Meaning.{kind_of};
 ghost use Rattle.tpw_occam_code.specs.Agreement.{fact_of_kind, valued_fact, constant_fact, counted_fact, fact_at};
 ghost use Rattle.tpw_occam_code.specs.Agreement.{with_fact};
 ghost use Rattle.tpw_occam_code.specs.Agreement.{constant_in, elements_of};
-ghost use Rattle.tpw_occam_code.specs.Computing.{is_short as short};
-ghost use Rattle.tpw_occam_code.specs.declared.items.Item.TheVariants.{Temporary};
-ghost use Rattle.tpw_occam_code.specs.Symbolic.{Machine, push, number, performed};
-ghost use Rattle.tpw_occam_code.specs.Leading.{Makes, HasConstants, Serves, word_bytes};
-ghost use Rattle.tpw_occam_code.specs.Flowing.{is_straight};
+ghost use Rattle.tpw_occam_symbolic.specs.declared.items.Item.TheVariants.{Temporary};
+ghost use Rattle.tpw_occam_symbolic.specs.Leading.{word_bytes};
 ghost use Rattle.tpw_occam_code.specs.Starting.{knowledge_of};
 
-use crate::code::{Code, Step};
-use crate::fault::CodeFault;
-use crate::items::Item;
 use crate::range::{BYTE, FULL, Range};
 use std::alloc::{AllocError, Global};
 use std::marker::Model;
-use tp_decode::Instr;
 use tp_image::limits::MAX_WORKSPACE_WORDS_2;
-use tp_prefix::encode;
 use tpw_occam_core::{Expression, Kind, Storage, Worker};
-
-/// The most bytes of `ldc` for a constant that is not an initial word.
-const MAX_BYTES: usize = 2;
+use tpw_occam_symbolic::{CodeFault, Item};
 
 /// What is known of a name: the numbers that its value may be, those that the verifier knows of, and its value where
 /// that is one constant, which then has no word.
@@ -247,34 +237,5 @@ impl<'a> Emitter<'a> {
             Kind::Word => self.bytes(array) / 4,
             Kind::Byte => self.bytes(array),
         }
-    }
-}
-
-/// Whether a constant's `ldc` is short.
-pub(crate) fn is_short(c: u32) -> bool
-    ensures { result ≡ short c }
-{
-    encode(4, c.cast_signed()).len() <= MAX_BYTES
-}
-
-/// The step that pushes a constant: `ldc` where that is short, else an initial word.
-pub(crate) fn push_constant(c: u32) -> Step
-    ensures pushes { (w : List ℕ) (m : Machine) → HasConstants m → Serves w m.sizes result
-        → performed result m ≡ Some (push (number c) m) }
-    ensures straight { IsTrue (is_straight result) }
-{
-    if is_short(c) {
-        Step::Plain(Instr::Ldc(c.cast_signed()))
-    } else {
-        Step::Load(Item::Constant(c), 0)
-    }
-}
-
-impl Code {
-    /// Appends the step that pushes a constant.
-    pub(crate) fn constant(&mut self, source: u32, c: u32) -> Result<(), CodeFault>
-        ensures { OnOk result (Makes self.old self.new HasConstants (push (number c))) }
-    {
-        self.emit(source, push_constant(c))
     }
 }

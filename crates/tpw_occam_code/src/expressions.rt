@@ -12,15 +12,13 @@ ghost use Rattle.tpw_occam_code.specs.Values.{Holds};
 ghost use Rattle.tpw_occam_code.specs.Computing.{Binds, ComputesBinding, Computes, ComputesTo, IsKnown, IsKnownOf};
 ghost use Rattle.tpw_occam_code.specs.Computing.{IsSuccessor, IsPredecessor, inverse_of, Decides, DecidesUnequal};
 
-use crate::code::{Code, Step};
 use crate::emitter::{Emitter, Room, constant, valued};
-use crate::fault::CodeFault;
-use crate::items::Item;
 use crate::operators::{number, truth};
 use crate::range::Range;
 use crate::subscripts::{checked, fixed_element, indexed_element, offset_element};
 use tp_decode::Instr;
 use tpw_occam_core::{Expression, Operator};
+use tpw_occam_symbolic::{Code, CodeFault, Item, Step};
 
 /// The greatest and the least number.
 const MOST_POSITIVE: u32 = 0x7FFF_FFFF;

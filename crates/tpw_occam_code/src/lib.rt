@@ -6,17 +6,9 @@
 
 mod analysis;
 mod assignments;
-mod code;
 mod compiled;
 mod emitter;
 mod expressions;
-mod fault;
-mod initial;
-mod items;
-mod layout;
-mod length;
-mod lines;
-mod loops;
 mod messages;
 mod need;
 mod operands;
@@ -25,8 +17,5 @@ mod order;
 mod processes;
 mod range;
 mod subscripts;
-mod uses;
 
-pub use compiled::{Compiled, compile};
-pub use fault::CodeFault;
-pub use items::{Item, Placed, START};
+pub use compiled::compile;

@@ -3,15 +3,13 @@
 ghost use Rattle.std.specs.Prelude.{◌≡◌, IfOk, OnOk};
 ghost use Rattle.tpw_occam_code.specs.Executing.{Traces};
 ghost use Rattle.tpw_occam_code.specs.Sending.{HasRoom, KeepsValue, SendsBytes, SendsMessage, address_of};
-ghost use Rattle.tpw_occam_code.specs.Flowing.{Ends};
+ghost use Rattle.tpw_occam_symbolic.specs.Flowing.{Ends};
 ghost use Rattle.tpw_occam_code.specs.Starting.{Inputs, Receives, Sends};
 
-use crate::code::{Code, Step};
 use crate::emitter::{Emitter, Room};
-use crate::fault::CodeFault;
-use crate::items::Item;
 use tp_decode::Instr;
 use tpw_occam_core::{Expression, Message, Place};
+use tpw_occam_symbolic::{Code, CodeFault, Item, Step};
 
 /// IMS T414 data sheet, memory map: the channels of links 0 and 1.
 const LINK0_OUTPUT: u32 = 0x8000_0000;

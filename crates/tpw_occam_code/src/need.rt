@@ -9,8 +9,9 @@ ghost use Rattle.tpw_occam_code.specs.Computing.{IsNoShift, immediate_of, is_imm
 ghost use Rattle.tpw_occam_code.specs.Computing.{IsConstantBelow};
 ghost use Rattle.tpw_occam_code.specs.Computing.{commutes as commute};
 
-use crate::emitter::{Emitter, is_short};
+use crate::emitter::Emitter;
 use tpw_occam_core::{Expression, Operator};
+use tpw_occam_symbolic::is_short;
 
 /// Of two operands one is evaluated first, and then stays in a register.
 fn both(left: u32, right: u32) -> u32

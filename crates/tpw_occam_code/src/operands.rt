@@ -9,15 +9,14 @@ ghost use Rattle.tpw_occam_code.specs.Computing.{HasImmediate, IsSimplePair, has
 ghost use Rattle.tpw_occam_code.specs.Computing.{applied_value};
 ghost use Rattle.tpw_occam_code.specs.Computing.{applied_last, applied_first};
 
-use crate::code::{Code, Step};
 use crate::emitter::{Emitter, Room};
 use crate::expressions::Value;
-use crate::fault::CodeFault;
 use crate::need::{commutes, is_shift};
 use crate::operators::{apply, apply_constant, number};
 use crate::range::FULL;
 use tp_decode::Instr;
 use tpw_occam_core::{Expression, Operator};
+use tpw_occam_symbolic::{Code, CodeFault, Step};
 
 /// What is known of a value that was kept in a word: the verifier knows nothing of it.
 fn recalled(value: Value) -> Value

@@ -2,21 +2,20 @@
 
 ghost use Rattle.std.specs.Prelude.{◌≡◌, ℕ, ◌<◌, ◌^◌, Some, false, true, IfOk, IfSome, IfNone, OnOk, IsTrue};
 ghost use Rattle.tpw_occam_core.specs.Arithmetic.{applied};
-ghost use Rattle.tpw_occam_code.specs.Symbolic.{push, number, pair_answer};
+ghost use Rattle.tpw_occam_symbolic.specs.Symbolic.{push, number, pair_answer};
 ghost use Rattle.tpw_occam_code.specs.Ranges.{TwinsAgree};
-ghost use Rattle.tpw_occam_code.specs.Leading.{Makes, HasConstants};
+ghost use Rattle.tpw_occam_symbolic.specs.Leading.{Makes, HasConstants};
 ghost use Rattle.tpw_occam_code.specs.Computing.{IsNoShift, has_immediate, commutes};
 ghost use Rattle.tpw_occam_code.specs.Values.{Answers, WorksOn, Holds, HasOperands, HasCount, answered, working};
 ghost use Rattle.tpw_occam_code.specs.Values.{AreTwins};
-ghost use Rattle.tpw_occam_code.specs.Flowing.{is_straight_instr};
+ghost use Rattle.tpw_occam_symbolic.specs.Flowing.{is_straight_instr};
 
-use crate::code::Code;
 use crate::expressions::Value;
-use crate::fault::CodeFault;
 use crate::need::immediate;
 use crate::range::{Range, always_fits, result_range};
 use tp_decode::Instr;
 use tpw_occam_core::Operator;
+use tpw_occam_symbolic::{Code, CodeFault};
 
 /// What is known of one number.
 fn exactly(c: u32) -> Value

@@ -6,8 +6,8 @@ ghost use Rattle.tpw_occam_code.specs.Ranges.{Contains};
 ghost use Rattle.std.specs.Global.{Global};
 ghost use Rattle.tpw_occam_core.specs.declared.expression.Expression.TheVariants as expression;
 ghost use Rattle.tpw_occam_core.specs.declared.process.Process.TheVariants as process;
-ghost use Rattle.tpw_occam_code.specs.declared.items.Item.TheVariants.{Variable};
-ghost use Rattle.tpw_occam_code.specs.Leading.{Makes, HasConstants};
+ghost use Rattle.tpw_occam_symbolic.specs.declared.items.Item.TheVariants.{Variable};
+ghost use Rattle.tpw_occam_symbolic.specs.Leading.{Makes, HasConstants};
 ghost use Rattle.tpw_occam_code.specs.Executing.{is_skip, with_item_word, Begins, Starts};
 ghost use Rattle.tpw_occam_code.specs.Executing.{Clears, Executes, Chooses, Repeats, first_use};
 ghost use Rattle.tpw_occam_code.specs.Executing.{DeclaresVariable, DeclaresValue, Remains, ChoosesKnown, RepeatsKnown};
@@ -15,18 +15,14 @@ ghost use Rattle.tpw_occam_code.specs.Executing.{VariableKnown, ValueKnown};
 ghost use Rattle.tpw_occam_code.specs.Moving.{ClearsWords, Moves};
 
 use crate::analysis::{First, first_use};
-use crate::code::{Code, Step, Turns};
 use crate::emitter::{Emitter, Room, constant, counted, fact_of};
-use crate::fault::CodeFault;
-use crate::items::Item;
 use crate::range::Range;
 use tp_decode::Instr;
 use tpw_occam_core::{Expression, Process};
+use tpw_occam_symbolic::{Code, CodeFault, Item, MAX_CLEARED, Step, Turns};
 
-/// The most words that are cleared one by one, and the most that one `move` clears.
+/// The most words that are cleared one by one.
 const FEW_WORDS: u32 = 2;
-
-pub(crate) const MAX_WORDS: u32 = 32;
 
 /// Whether a process does nothing.
 fn is_skip(p: &Process) -> bool
@@ -88,9 +84,9 @@ fn move_words(
 fn clear_by_moves(code: &mut Code, line: u32, a: usize, words: u32) -> Result<(), CodeFault>
     ensures { OnOk result (words ≤ 512 → ClearsWords code.old code.new a words words) }
 {
-    for part in 0..words.div_ceil(MAX_WORDS) {
-        let first = part.saturating_mul(MAX_WORDS);
-        let count = words.saturating_sub(first).min(MAX_WORDS);
+    for part in 0..words.div_ceil(MAX_CLEARED) {
+        let first = part.saturating_mul(MAX_CLEARED);
+        let count = words.saturating_sub(first).min(MAX_CLEARED);
         move_words(code, line, Item::Zeros, (Item::Array(a), first), count)?;
     }
     Ok(())

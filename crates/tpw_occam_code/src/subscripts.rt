@@ -10,23 +10,21 @@ ghost use Rattle.tpw_occam_code.specs.Ranges.{from_to, Contains, ContainsAllOf};
 ghost use Rattle.tpw_occam_core.specs.Arrays.{size, element};
 ghost use Rattle.tpw_occam_core.specs.declared.kind.Kind.TheVariants.{Word, Byte};
 ghost use Rattle.tpw_occam_core.specs.declared.expression.Operator.TheVariants.{Add, Plus};
-ghost use Rattle.tpw_occam_code.specs.Leading.{Does, HasArray, HasWord};
-ghost use Rattle.tpw_occam_code.specs.declared.items.Item.TheVariants.{Variable};
+ghost use Rattle.tpw_occam_symbolic.specs.Leading.{Does, HasArray, HasWord};
+ghost use Rattle.tpw_occam_symbolic.specs.declared.items.Item.TheVariants.{Variable};
 ghost use Rattle.tpw_occam_code.specs.Agreement.{fact_at, constant_in};
 ghost use Rattle.tpw_occam_code.specs.Computing.{ComputesTo, IsKnownOf, IsConstantBelow, IsByteVariable, IsFixed};
 ghost use Rattle.tpw_occam_code.specs.Computing.{IsOffset, IsOffsetOf, subscript_value};
 ghost use Rattle.tpw_occam_code.specs.Values.{Answers, Holds, HasNumber, HasAddress, Replaces, PushesAlone};
 ghost use Rattle.tpw_occam_code.specs.Values.{IsAtElement, PushesAddress, PushesOver, scaled};
 
-use crate::code::{Code, Step};
 use crate::emitter::{Emitter, Room};
 use crate::expressions::Value;
-use crate::fault::CodeFault;
-use crate::items::Item;
 use crate::operators::number;
 use crate::range::{BYTE, FULL, Range};
 use tp_decode::Instr;
 use tpw_occam_core::{Expression, Kind, Operator};
+use tpw_occam_symbolic::{Code, CodeFault, Item, Step};
 
 /// The greatest number, whose bits are all but the sign.
 const MOST_POSITIVE: u32 = 0x7FFF_FFFF;

@@ -11,7 +11,7 @@ ghost use Rattle.tp_farm.specs.Batches.{IsBatch};
 ghost use Rattle.tpw_asm.specs.declared.program.Program.{Program};
 ghost use Rattle.tpw_asm.specs.Assembly.{IsAssembly};
 ghost use Rattle.tpw_occam_core.specs.declared.worker.Worker.{Worker};
-ghost use Rattle.tpw_occam_code.specs.Program.{Means, GivesRuled};
+ghost use Rattle.tpw_occam_symbolic.specs.Program.{Means, GivesRuled};
 ghost use Rattle.tpw_occam_laws.specs.Meanings.{AreMeant};
 ghost use Rattle.tpw_occam_laws.specs.Refusing.{IsOfStatesOrBudget};
 

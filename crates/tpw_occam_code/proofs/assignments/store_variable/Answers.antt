@@ -1,5 +1,5 @@
 use Rattle.std.proofs.lemmas.Result.{on_ok_weaker}
-use Rattle.tpw_occam_code.specs.declared.items.Item.TheVariants.{Variable}
+use Rattle.tpw_occam_symbolic.specs.declared.items.Item.TheVariants.{Variable}
 use Rattle.tpw_occam_code.proofs.Storing.{does_store}
 use Rattle.tpw_occam_code.proofs.assignments.store_variable.Goals as goal
 

@@ -1,5 +1,5 @@
 use Rattle.std.proofs.Common.{subst, ◌∙◌}
-use Rattle.tpw_occam_code.specs.Code.{none_at}
+use Rattle.tpw_occam_symbolic.specs.Code.{none_at}
 use Rattle.tpw_occam_code.specs.Executing.{Executes, Remains}
 use Rattle.tpw_occam_code.specs.Starting.{Receives, Sends}
 use Rattle.tpw_occam_code.proofs.Working.{code_works}

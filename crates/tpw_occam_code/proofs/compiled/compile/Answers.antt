@@ -1,15 +1,15 @@
-use Rattle.std.proofs.Common.{subst}
-use Rattle.tpw_occam_code.specs.Flowing.{AreFewAround}
+use Rattle.std.proofs.lemmas.Result.{IfOk-weaker}
 use Rattle.tpw_occam_code.proofs.Starting.{built_means}
-use Rattle.tpw_occam_code.proofs.KeepingRules.{built_keeps}
 use Rattle.tpw_occam_code.proofs.compiled.compile.Goals as goal
 
 pub returns-clause-means : goal.returns-clause-means
-returns-clause-means c sound =
-    built_means c.args.worker.now _ c.in_ok-arranged.arranged.placed.items c.in_ok-program.program sound c.in_ok-program.ensures (c.in_ok-code.ensures.works sound)
+returns-clause-means c =
+    IfOk-weaker c.program_of.result _ _
+    (λ compiled built sound. built_means c.args.worker.now _ compiled.placed.items compiled.program sound built (c.in_ok-code.ensures.works sound))
+    c.program_of.ensures.built
 
 pub returns-clause-rules : goal.returns-clause-rules
-returns-clause-rules c sound =
-    built_keeps c.args.worker.now _ c.in_ok-arranged.arranged.placed.items c.in_ok-program.program c.in_ok-program.ensures
-    (c.in_ok-code.ensures.works sound).base c.in_ok-code.ensures.ends
-    (subst AreFewAround c.loops.ensures c.in_ok-check_loops.ensures)
+returns-clause-rules c =
+    IfOk-weaker c.program_of.result _ _
+    (λ compiled rules sound. rules (c.in_ok-code.ensures.works sound).base c.in_ok-code.ensures.ends)
+    c.program_of.ensures.rules

@@ -1,7 +1,7 @@
 use Rattle.std.proofs.Common.{subst}
 use Rattle.std.proofs.lemmas.Result.{on_ok_weaker}
-use Rattle.tpw_occam_code.specs.Leading.{Makes, HasConstants}
-use Rattle.tpw_occam_code.specs.Symbolic.{push, number}
+use Rattle.tpw_occam_symbolic.specs.Leading.{Makes, HasConstants}
+use Rattle.tpw_occam_symbolic.specs.Symbolic.{push, number}
 use Rattle.tpw_occam_code.proofs.Sending.{sends_bytes}
 use Rattle.tpw_occam_code.proofs.messages.send_bytes.Goals as goal
 

@@ -2,7 +2,7 @@ use Rattle.std.proofs.Common.{◌≡◌, ℕ, refl, subst, true, ◌∙◌}
 use Rattle.tpw_occam_core.specs.declared.expression.Operator.{Operator}
 use Rattle.tpw_occam_core.specs.declared.expression.Operator.TheVariants.{Add, Plus, Multiply, Times}
 use Rattle.tpw_occam_code.specs.Ranges.{TwinsAgree}
-use Rattle.tpw_occam_code.specs.Leading.{Makes}
+use Rattle.tpw_occam_symbolic.specs.Leading.{Makes}
 use Rattle.tpw_occam_code.specs.Computing.{commutes}
 use Rattle.tpw_occam_code.proofs.TwoOperands.{applied_commutes}
 use Rattle.tpw_occam_code.specs.Values.{Holds, HasOperands, answered, AreTwins}

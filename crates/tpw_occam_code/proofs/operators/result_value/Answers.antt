@@ -1,4 +1,4 @@
-use Rattle.tpw_occam_code.proofs.Words.{applied_small}
+use Rattle.tpw_occam_symbolic.proofs.Words.{applied_small}
 use Rattle.tpw_occam_code.proofs.operators.result_value.Goals as goal
 
 pub returns : goal.returns

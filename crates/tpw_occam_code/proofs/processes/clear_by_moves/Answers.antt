@@ -1,7 +1,7 @@
 use Rattle.std.proofs.Common.{◌≡◌, ◌≤◌, ◌<◌, ◌*◌, ◌+◌, ◌-◌, min, ap, sym, subst, ◌∙◌, arith}
 use Rattle.std.proofs.Math.Nat.{min-eq_left, min-le_left, min-le_right}
 use Rattle.tpw_occam_code.specs.Moving.{ClearsWords, Moves}
-use Rattle.tpw_occam_code.specs.declared.items.Item.TheVariants.{Array, Zeros}
+use Rattle.tpw_occam_symbolic.specs.declared.items.Item.TheVariants.{Array, Zeros}
 use Rattle.tpw_occam_code.proofs.Moving.{clears_nothing, clears_part, cleared_part, next_part}
 use Rattle.tpw_occam_code.proofs.processes.clear_by_moves.Goals as goal
 

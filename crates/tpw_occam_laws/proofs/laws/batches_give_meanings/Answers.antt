@@ -7,8 +7,8 @@ use Rattle.tp_step.specs.Runs.{RunsAlone}
 use Rattle.tp_collect.specs.declared.collected.Entry.TheVariants as entry
 use Rattle.tp_collect.specs.DoneValue.{DoneValue, run_of_done}
 use Rattle.tpw_occam_core.specs.Meaning.{Meant, meaning}
-use Rattle.tpw_occam_code.specs.Program.{GivesMeaning}
-use Rattle.tpw_occam_code.proofs.Starting.{all_get}
+use Rattle.tpw_occam_symbolic.specs.Program.{GivesMeaning}
+use Rattle.tpw_occam_symbolic.proofs.Beginning.{all_get}
 use Rattle.tpw_occam_laws.proofs.laws.batches_give_meanings.Goals as goal
 
 -- a run that is collected has a trace that is no longer than it may be, so its packet means something

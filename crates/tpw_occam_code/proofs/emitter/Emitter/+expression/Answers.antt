@@ -4,8 +4,8 @@ use Rattle.std.proofs.lemmas.Result.{on_ok_weaker, IfOk-weaker}
 use Rattle.tpw_occam_code.proofs.Standing.{on_ok_both, none_of}
 use Rattle.tpw_occam_core.specs.Meaning.{value_of}
 use Rattle.tpw_occam_code.specs.Computing.{Computes, ComputesBoth, ComputesTo, IsKnown, IsKnownOfBoth, IsKnownOf, IsNoShift, IsSimplePair, has_immediate, subscript_value, applied_value, applied_last, applied_first, inverse_of, IsFixed, IsOffset, IsConstantBelow}
-use Rattle.tpw_occam_code.specs.Code.{followed_by, line_of}
-use Rattle.tpw_occam_code.specs.declared.code.Step.TheVariants.{Load, Store as StoreTo}
+use Rattle.tpw_occam_symbolic.specs.Code.{followed_by, line_of}
+use Rattle.tpw_occam_symbolic.specs.declared.code.Step.TheVariants.{Load, Store as StoreTo}
 use Rattle.tpw_occam_code.proofs.Constructs.{constant_computes, checked_computes, checked_known, low_byte_computes, low_byte_known, complement_computes, complement_known, binary_computes, binary_known, element_computes, fixed_computes, constant_subscript_computes, constant_subscript_known, settled_computes, settled_known, byte_computes, byte_known, last_computes, last_known, not_computes, not_known, offset_computes, offset_known, not_constant, right_constant_computes, right_constant_known, left_constant_computes, left_constant_known, no_immediate}
 use Rattle.tpw_occam_core.specs.declared.expression.Operator.TheVariants.{Greater}
 use Rattle.tpw_occam_code.specs.Agreement.{with_fact, valued_fact, fact_at}

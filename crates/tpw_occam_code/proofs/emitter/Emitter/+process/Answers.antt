@@ -2,8 +2,8 @@ use Rattle.std.proofs.Common.{◌≡◌, ◌+◌, refl, ap, sym, subst, ◌∙�
 use Rattle.std.proofs.lemmas.Result.{on_ok_weaker}
 use Rattle.tpw_occam_core.specs.Meaning.{kind_of}
 use Rattle.tpw_occam_code.specs.Agreement.{with_fact, fact_at, fact_of_kind}
-use Rattle.tpw_occam_code.specs.declared.code.Turns.{Turns}
-use Rattle.tpw_occam_code.specs.Code.{none_at, place_behind, joined}
+use Rattle.tpw_occam_symbolic.specs.declared.code.Turns.{Turns}
+use Rattle.tpw_occam_symbolic.specs.Code.{none_at, place_behind, joined}
 use Rattle.tpw_occam_code.specs.Computing.{Decides, Binds, ComputesBinding}
 use Rattle.tpw_occam_code.specs.Executing.{DeclaresVariable, DeclaresValue, VariableKnown, ValueKnown, Executes, Chooses, Repeats, Remains, ChoosesKnown, RepeatsKnown, Assigns}
 use Rattle.tpw_occam_code.proofs.Standing.{place_of}

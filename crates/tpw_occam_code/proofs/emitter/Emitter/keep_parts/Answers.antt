@@ -2,8 +2,8 @@ use Rattle.std.proofs.Common.{◌≡◌, ◌+◌, ◌∷◌, [], sym, subst, ap,
 use Rattle.std.proofs.lemmas.Result.{on_ok_weaker}
 use Rattle.tpw_occam_code.specs.declared.emitter.Room.{Room}
 use Rattle.tpw_occam_code.specs.Agreement.{Knowledge}
-use Rattle.tpw_occam_code.specs.Code.{followed_by, line_of}
-use Rattle.tpw_occam_code.specs.declared.code.Step.TheVariants.{Store as StoreTo}
+use Rattle.tpw_occam_symbolic.specs.Code.{followed_by, line_of}
+use Rattle.tpw_occam_symbolic.specs.declared.code.Step.TheVariants.{Store as StoreTo}
 use Rattle.tpw_occam_code.specs.Computing.{ComputesTo}
 use Rattle.tpw_occam_code.specs.Assigning.{taken_value, KeepsParts, KeepsSubscript}
 use Rattle.tpw_occam_code.proofs.KeptParts.{variable_parts, element_parts}

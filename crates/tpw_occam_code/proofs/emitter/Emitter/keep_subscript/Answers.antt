@@ -1,8 +1,8 @@
 use Rattle.std.proofs.Common.{◌≡◌, ◌<◌, ◌^◌, ◌∷◌, [], subst}
 use Rattle.std.proofs.lemmas.Result.{on_ok_weaker}
 use Rattle.tpw_occam_code.specs.Agreement.{Knowledge, elements_of}
-use Rattle.tpw_occam_code.specs.Code.{followed_by, line_of}
-use Rattle.tpw_occam_code.specs.declared.code.Step.TheVariants.{Store as StoreTo}
+use Rattle.tpw_occam_symbolic.specs.Code.{followed_by, line_of}
+use Rattle.tpw_occam_symbolic.specs.declared.code.Step.TheVariants.{Store as StoreTo}
 use Rattle.tpw_occam_code.specs.Computing.{Computes}
 use Rattle.std.specs.Prelude.{slice_index}
 use Rattle.tpw_occam_code.proofs.KeptParts.{subscript_keeps}

@@ -1,9 +1,9 @@
 use Rattle.std.proofs.Common.{◌≡◌, None, [], ◌∷◌, ap, sym, subst, ◌∙◌}
-use Rattle.tpw_occam_code.specs.declared.items.Item.TheVariants.{Variable, Temporary}
-use Rattle.tpw_occam_code.specs.declared.code.Step.TheVariants.{Store as StoreTo}
+use Rattle.tpw_occam_symbolic.specs.declared.items.Item.TheVariants.{Variable, Temporary}
+use Rattle.tpw_occam_symbolic.specs.declared.code.Step.TheVariants.{Store as StoreTo}
 use Rattle.tpw_occam_code.specs.declared.emitter.Fact.{Fact}
 use Rattle.tpw_occam_code.specs.declared.emitter.Room.{Room}
-use Rattle.tpw_occam_code.specs.Code.{followed_by, line_of}
+use Rattle.tpw_occam_symbolic.specs.Code.{followed_by, line_of}
 use Rattle.tpw_occam_code.specs.Agreement.{fact_at}
 use Rattle.tpw_occam_code.specs.Computing.{Computes}
 use Rattle.tpw_occam_code.specs.Sending.{KeepsValue, HasRoom}

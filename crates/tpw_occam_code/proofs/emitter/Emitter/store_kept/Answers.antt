@@ -1,7 +1,7 @@
 use Rattle.std.proofs.Common.{◌≡◌, ◌∷◌, [], subst}
 use Rattle.std.proofs.lemmas.Result.{on_ok_weaker}
-use Rattle.tpw_occam_code.specs.Code.{followed_by, line_of}
-use Rattle.tpw_occam_code.specs.declared.code.Step.TheVariants.{Load}
+use Rattle.tpw_occam_symbolic.specs.Code.{followed_by, line_of}
+use Rattle.tpw_occam_symbolic.specs.declared.code.Step.TheVariants.{Load}
 use Rattle.tpw_occam_code.proofs.KeptParts.{kept_stores}
 use Rattle.tpw_occam_code.proofs.emitter.Emitter.store_kept.Goals as goal
 

@@ -1,8 +1,8 @@
 use Rattle.std.proofs.Common.{◌≡◌, ◌∷◌, [], subst, ap}
 use Rattle.std.proofs.lemmas.Result.{on_ok_weaker}
 use Rattle.tpw_occam_code.specs.declared.emitter.Room.{Room}
-use Rattle.tpw_occam_code.specs.Code.{followed_by, line_of}
-use Rattle.tpw_occam_code.specs.declared.code.Step.TheVariants.{Load}
+use Rattle.tpw_occam_symbolic.specs.Code.{followed_by, line_of}
+use Rattle.tpw_occam_symbolic.specs.declared.code.Step.TheVariants.{Load}
 use Rattle.tpw_occam_code.specs.Assigning.{StoresKept}
 use Rattle.tpw_occam_code.proofs.KeptParts.{variable_stored, element_stored}
 use Rattle.tpw_occam_code.proofs.emitter.Emitter.store_parts.Goals as goal

@@ -1,7 +1,7 @@
 use Rattle.std.proofs.Common.{◌≡◌, ◌+◌, [], ◌∷◌, ap, subst, ◌∙◌, arith}
 use Rattle.tpw_occam_code.specs.declared.emitter.Room.{Room}
-use Rattle.tpw_occam_code.specs.Code.{followed_by, line_of}
-use Rattle.tpw_occam_code.specs.declared.code.Step.TheVariants.{Load}
+use Rattle.tpw_occam_symbolic.specs.Code.{followed_by, line_of}
+use Rattle.tpw_occam_symbolic.specs.declared.code.Step.TheVariants.{Load}
 use Rattle.tpw_occam_code.specs.Computing.{Computes}
 use Rattle.tpw_occam_code.proofs.Constructs.{settled_computes, settled_known}
 use Rattle.tpw_occam_code.proofs.Assigning.{above_computes}
