@@ -73,7 +73,10 @@ where
 {
     let mut errors = Vec::new(alloc);
     let ran = read_occam(alloc, &mut errors, &Input::Standard, text.as_bytes());
-    let bytes = unwrap(rt, unwrap(rt, ran).assembled(alloc, &mut errors, &Input::Standard));
+    let bytes = unwrap(
+        rt,
+        unwrap(rt, ran).assembled(alloc, &mut errors, &Input::Standard),
+    );
     let image = unwrap(rt, accept(alloc, bytes));
     let meant = read_occam(alloc, &mut errors, &Input::Standard, other.as_bytes());
     let worker = unwrap(rt, meant).compiled.worker;

@@ -209,9 +209,7 @@ pub fn evaluate_text<T: Files, R: Read, W: Write, E: Write>(
     requires { IsCompiled occam.now.text.now occam.now.compiled }
     ensures { IfErr result (λ e. status_of e ≡ 2 → W.contents writer.new ≡ W.contents writer.old) }
 {
-    let packets = showing
-        .asking
-        .packets(alloc, inputs, occam.packet_bytes())?;
+    let packets = showing.asking.packets(alloc, inputs, occam.packet_bytes())?;
     let expected = showing.expected(alloc, inputs, occam.result_bytes())?;
     let form = showing.form(&expected);
     let worker = &occam.compiled.worker;

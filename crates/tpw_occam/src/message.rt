@@ -31,7 +31,8 @@ fn said_of(alloc: Global, text: &str, fault: &Fault<'_>) -> Result<String, Alloc
 fn token_at(text: &str, span: Span) -> &str {
     let line = text.lines().nth(span.line.saturating_sub(1)).unwrap_or("");
     let start = span.column.saturating_sub(1);
-    line.get(start..start.saturating_add(span.width)).unwrap_or("")
+    line.get(start..start.saturating_add(span.width))
+        .unwrap_or("")
 }
 
 /// What is wrong with a text, as far as it is told.

@@ -205,12 +205,10 @@ fn small_keyword(trees: &[Tree<'_>]) -> Option<Span> {
     let name = name_of(trees.first()?)?;
     let is_called = matches!(
         trees.get(1),
-        Some(
-            Tree::Group {
-                bracket: Bracket::Round,
-                ..
-            },
-        )
+        Some(Tree::Group {
+            bracket: Bracket::Round,
+            ..
+        })
     );
     (Keyword::is_small(name.text) && !is_called).then_some(name.span)
 }

@@ -127,7 +127,8 @@ impl fmt::Display for Wanted {
             Wanted::True => "the last guard of an IF is TRUE: ELSE belongs to CASE",
             Wanted::OneElse => "a CASE has one ELSE",
             Wanted::Capitals => "keywords are in capitals",
-            Wanted::OneMessage => "a message is one value or one array: put several values into an array",
+            Wanted::OneMessage =>
+                "a message is one value or one array: put several values into an array",
         })
     }
 }
