@@ -16,25 +16,25 @@ use Rattle.tpw_occam_core.specs.Arithmetic.{answer, plain, subscript}
 use Rattle.tpw_occam_core.specs.Arrays.{size}
 use Rattle.tpw_occam_core.specs.Meaning.{Store, value_of, followed, array_of, subscript_of}
 use Rattle.tpw_occam_core.specs.Sound.{is_seen}
-use Rattle.tpw_occam_code.specs.declared.expressions.Value.{Value}
+use Rattle.tpw_occam_expressions.specs.declared.expressions.Value.{Value}
 use Rattle.tpw_occam_symbolic.specs.declared.items.Item.TheVariants as item
 use Rattle.tpw_occam_symbolic.specs.declared.code.Step.TheVariants.{Plain, Load, Store as StoreTo}
 use Rattle.tpw_occam_symbolic.specs.Code.{Lines, followed_by, line_of}
 use Rattle.tpw_occam_symbolic.specs.Symbolic.{effect, performed}
 use Rattle.tpw_occam_symbolic.specs.Leading.{Does, HasWord}
-use Rattle.tpw_occam_code.specs.Values.{Holds, HasNumber, HasAddress, Pushes, Answers, scaled}
-use Rattle.tpw_occam_code.specs.Agreement.{Knowledge, elements_of, Agrees, LeavesItems}
-use Rattle.tpw_occam_code.specs.Computing.{MayStand, Computes, ComputesTo, IsKnown, IsKnownOf, IsFixed, IsOffset, subscript_value}
+use Rattle.tpw_occam_expressions.specs.Values.{Holds, HasNumber, HasAddress, Pushes, Answers, scaled}
+use Rattle.tpw_occam_expressions.specs.Agreement.{Knowledge, elements_of, Agrees, LeavesItems}
+use Rattle.tpw_occam_expressions.specs.Computing.{MayStand, Computes, ComputesTo, IsKnown, IsKnownOf, IsFixed, IsOffset, subscript_value}
 use Rattle.tpw_occam_code.specs.Assigning.{taken, taken_value, element_bytes, Writes, WritesPopped, IsToStore, Stores, HasTwo, ComputesAbove, ComputesOver, MayTake, StoresIn}
 use Rattle.tpw_occam_symbolic.proofs.Leading.{does_both, does_less, does_step}
-use Rattle.tpw_occam_code.proofs.Elements.{whole_words}
-use Rattle.tpw_occam_code.proofs.Computing.{agrees_after, leaves_then, bytes_same}
-use Rattle.tpw_occam_code.proofs.Keeping.{does_save, does_recall}
-use Rattle.tpw_occam_code.proofs.Indexing.{subscript_below, subscript_word_below}
+use Rattle.tpw_occam_expressions.proofs.Elements.{whole_words}
+use Rattle.tpw_occam_expressions.proofs.Computing.{agrees_after, leaves_then, bytes_same}
+use Rattle.tpw_occam_expressions.proofs.Keeping.{does_save, does_recall}
+use Rattle.tpw_occam_expressions.proofs.Indexing.{subscript_below, subscript_word_below}
 use Rattle.tpw_occam_symbolic.proofs.Sizes.{and_first, and_second}
-use Rattle.tpw_occam_code.proofs.Standing.{suffices_two}
-use Rattle.tpw_occam_code.proofs.Constructs.{computes_then, goes_by, constant_value, seen_array, seen_size, size_is, elements_most, offset_facts}
-use Rattle.tpw_occam_code.proofs.TwoOperands.{leaves_less}
+use Rattle.tpw_occam_expressions.proofs.Standing.{suffices_two}
+use Rattle.tpw_occam_expressions.proofs.Constructs.{computes_then, goes_by, constant_value, seen_array, seen_size, size_is, elements_most, offset_facts}
+use Rattle.tpw_occam_expressions.proofs.TwoOperands.{leaves_less}
 use Rattle.tpw_occam_code.proofs.Storing.{leaves_self, writes_stores}
 
 -- ---- values

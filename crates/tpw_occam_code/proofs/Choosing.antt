@@ -20,13 +20,13 @@ use Rattle.tpw_occam_symbolic.specs.declared.code.CodeLine.{CodeLine}
 use Rattle.tpw_occam_symbolic.specs.Code.{Lines, followed_by, joined, none_at, line_of, place_behind, chosen_lines}
 use Rattle.tpw_occam_symbolic.specs.Symbolic.{Machine, nowhere, onward, performed, at_place, number, pop}
 use Rattle.tpw_occam_symbolic.specs.Leading.{Does, IsBefore, Arrives, HasLines}
-use Rattle.tpw_occam_code.specs.Agreement.{Knowledge, constant_in}
-use Rattle.tpw_occam_code.specs.Computing.{MayStand, reads, Decided, Decides}
+use Rattle.tpw_occam_expressions.specs.Agreement.{Knowledge, constant_in}
+use Rattle.tpw_occam_expressions.specs.Computing.{MayStand, reads, Decided, Decides}
 use Rattle.tpw_occam_code.specs.Executing.{MayRun, Matches, LeavesCounts, Executes, Chooses, is_skip, first_use, then_first, either_first, is_nothing, unset_after}
 use Rattle.tpw_occam_symbolic.proofs.Leading.{does_less, step_is, leads_then, has_first, does_kept}
-use Rattle.tpw_occam_code.proofs.Constructs.{constant_value}
-use Rattle.tpw_occam_code.proofs.Conditions.{get_behind, does_branch, has_behind, jump_stands, cj_jumps, cj_passes, suc_not_zero}
-use Rattle.tpw_occam_code.proofs.Standing.{Place}
+use Rattle.tpw_occam_expressions.proofs.Constructs.{constant_value}
+use Rattle.tpw_occam_expressions.proofs.Conditions.{get_behind, does_branch, has_behind, jump_stands, cj_jumps, cj_passes, suc_not_zero}
+use Rattle.tpw_occam_expressions.proofs.Standing.{Place}
 use Rattle.tpw_occam_symbolic.proofs.Sizes.{and_first, and_second}
 use Rattle.tpw_occam_code.proofs.Knowing.{knows_fewer, knows_flagged, matches_fewer, counts_of_items}
 use Rattle.tpw_occam_code.proofs.Executing.{matches_leaves, false_true, and_true, not_read}

@@ -20,14 +20,14 @@ use Rattle.tpw_occam_symbolic.specs.Code.{Lines}
 use Rattle.tpw_occam_symbolic.specs.Blocks.{is_item, bytes_at}
 use Rattle.tpw_occam_symbolic.specs.Symbolic.{Machine}
 use Rattle.tpw_occam_symbolic.specs.Leading.{HasArray, word_bytes}
-use Rattle.tpw_occam_code.specs.Agreement.{Knowledge}
+use Rattle.tpw_occam_expressions.specs.Agreement.{Knowledge}
 use Rattle.tpw_occam_code.specs.Executing.{IsProcessPlace, KnowsState, Matches, LeavesCounts, Clears, Executes}
 use Rattle.tpw_occam_symbolic.specs.Leading.{cleared_bytes}
 use Rattle.tpw_occam_code.specs.Moving.{Moves, ClearsWords}
 use Rattle.tpw_occam_symbolic.proofs.Leading.{does_within, does_less, does_nothing}
-use Rattle.tpw_occam_code.proofs.Keeping.{other_item}
+use Rattle.tpw_occam_expressions.proofs.Keeping.{other_item}
 use Rattle.tpw_occam_code.proofs.Moving.{written, length_bytes_at, index_bytes_at, constants_stay}
-use Rattle.tpw_occam_code.proofs.Computing.{bytes_same}
+use Rattle.tpw_occam_expressions.proofs.Computing.{bytes_same}
 use Rattle.tpw_occam_symbolic.proofs.Sizes.{and_first, and_second}
 use Rattle.tpw_occam_code.proofs.Knowing.{matches_fewer}
 

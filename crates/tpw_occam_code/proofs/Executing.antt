@@ -12,7 +12,7 @@ use Rattle.tpw_occam_core.specs.declared.process.Process.{Process}
 use Rattle.tpw_occam_core.specs.declared.process.Process.TheVariants as process
 use Rattle.tpw_occam_core.specs.Meaning.{Store, value_of, with_value, kind_of, flagged, run}
 use Rattle.tpw_occam_core.specs.Sound.{is_variable, is_new_name, is_new_array, is_sound_expression, is_sound_process}
-use Rattle.tpw_occam_code.specs.declared.emitter.Fact.{Fact}
+use Rattle.tpw_occam_expressions.specs.declared.emitter.Fact.{Fact}
 use Rattle.tpw_occam_code.specs.declared.analysis.First.{First}
 use Rattle.tpw_occam_code.specs.declared.analysis.First.TheVariants.{Nothing, Assigned, Read}
 use Rattle.tpw_occam_symbolic.specs.declared.items.Item.TheVariants as item
@@ -21,14 +21,14 @@ use Rattle.tpw_occam_symbolic.specs.Code.{Lines, followed_by, line_of, place_beh
 use Rattle.tpw_occam_symbolic.specs.Blocks.{Blocks, bytes_at}
 use Rattle.tpw_occam_symbolic.specs.Symbolic.{Machine, performed, effect, at_place, raised}
 use Rattle.tpw_occam_symbolic.specs.Leading.{Does, Makes, HasConstants}
-use Rattle.tpw_occam_code.specs.Agreement.{Knowledge, with_fact, fact_of_kind, LeavesItems}
-use Rattle.tpw_occam_code.specs.Computing.{MayStand, reads, Binds, ComputesBinding}
+use Rattle.tpw_occam_expressions.specs.Agreement.{Knowledge, with_fact, fact_of_kind, LeavesItems}
+use Rattle.tpw_occam_expressions.specs.Computing.{MayStand, reads, Binds, ComputesBinding}
 use Rattle.tpw_occam_code.specs.Executing.{Remains, cleared, MayRun, none_unset, KnowsState, Matches, Executes, Clears, Starts, with_item_word, first_use, then_first, is_nothing, unset_after}
 use Rattle.tpw_occam_symbolic.proofs.Leading.{does_both, does_less, does_step, does_nothing, does_kept}
-use Rattle.tpw_occam_code.proofs.Computing.{agrees_after}
-use Rattle.tpw_occam_code.proofs.Keeping.{word_written, word_elsewhere}
-use Rattle.tpw_occam_code.proofs.Naming.{new_name, variable_differs}
-use Rattle.tpw_occam_code.proofs.Standing.{Place, or_first, or_second, suffices_two}
+use Rattle.tpw_occam_expressions.proofs.Computing.{agrees_after}
+use Rattle.tpw_occam_expressions.proofs.Keeping.{word_written, word_elsewhere}
+use Rattle.tpw_occam_expressions.proofs.Naming.{new_name, variable_differs}
+use Rattle.tpw_occam_expressions.proofs.Standing.{Place, or_first, or_second, suffices_two}
 use Rattle.tpw_occam_symbolic.proofs.Sizes.{and_first, and_second}
 use Rattle.tpw_occam_code.proofs.Knowing.{knows_fewer, in_longer, last_in, value_takes, variable_takes, place_taken, knows_taken, room_stays, room_taken, matches_taken, matches_outside, matches_fewer, counts_then, counts_outside, counts_of_items, zero_fits, place_array, knows_array, array_outside}
 

@@ -16,30 +16,30 @@ use Rattle.tpw_occam_core.specs.Arithmetic.{plain, subscript}
 use Rattle.tpw_occam_core.specs.Arrays.{size, with_element}
 use Rattle.tpw_occam_core.specs.Meaning.{Store, value_of, followed, array_of, subscript_of, stored, flagged, assigned}
 use Rattle.tpw_occam_core.specs.Sound.{is_sound_assignment}
-use Rattle.tpw_occam_code.specs.declared.expressions.Value.{Value}
+use Rattle.tpw_occam_expressions.specs.declared.expressions.Value.{Value}
 use Rattle.tpw_occam_symbolic.specs.declared.items.Item.TheVariants as item
 use Rattle.tpw_occam_symbolic.specs.declared.code.Step.TheVariants.{Load, Store as StoreTo}
 use Rattle.tpw_occam_symbolic.specs.Code.{Lines, followed_by, line_of}
 use Rattle.tpw_occam_symbolic.specs.Blocks.{with_bytes, word_at, bytes_at}
 use Rattle.tpw_occam_symbolic.specs.Symbolic.{Machine, number}
 use Rattle.tpw_occam_symbolic.specs.Leading.{Does, HasConstants, HasWord}
-use Rattle.tpw_occam_code.specs.Ranges.{full, Contains}
-use Rattle.tpw_occam_code.specs.Values.{Holds, HasNumber, HasOperands, HasAddress, Pushes, PushesAlone, Answers, scaled}
-use Rattle.tpw_occam_code.specs.Agreement.{Knowledge, elements_of, Agrees, LeavesItems}
-use Rattle.tpw_occam_code.specs.Computing.{Computes, ComputesTo, IsKnown, subscript_value}
+use Rattle.tpw_occam_expressions.specs.Ranges.{full, Contains}
+use Rattle.tpw_occam_expressions.specs.Values.{Holds, HasNumber, HasOperands, HasAddress, Pushes, PushesAlone, Answers, scaled}
+use Rattle.tpw_occam_expressions.specs.Agreement.{Knowledge, elements_of, Agrees, LeavesItems}
+use Rattle.tpw_occam_expressions.specs.Computing.{Computes, ComputesTo, IsKnown, subscript_value}
 use Rattle.tpw_occam_code.specs.Executing.{sources_read, is_target, KnowsState, Matches, Assigns}
 use Rattle.tpw_occam_code.specs.Assigning.{HasShape, taken, taken_value, element_bytes, unset_but, unset_by, Stores, Writes, WritesPopped, IsToStore, HasSmallValue, MayMake, MayMakeAll, LeavesKept, Saved, KeepsSubscript, HasSubscript, HasParts, KeepsParts, StoresKept, StoresParts, AssignsAbove}
 use Rattle.tpw_occam_symbolic.proofs.Leading.{does_both, does_less, does_nothing, does_kept}
-use Rattle.tpw_occam_code.proofs.Elements.{whole_words}
-use Rattle.tpw_occam_code.proofs.Computing.{agrees_after, bytes_same, leaves_then}
-use Rattle.tpw_occam_code.proofs.Keeping.{does_recall}
-use Rattle.tpw_occam_code.proofs.Indexing.{reduced_below}
-use Rattle.tpw_occam_code.proofs.Naming.{slice_length}
-use Rattle.tpw_occam_code.proofs.Ranges.{full_contains}
+use Rattle.tpw_occam_expressions.proofs.Elements.{whole_words}
+use Rattle.tpw_occam_expressions.proofs.Computing.{agrees_after, bytes_same, leaves_then}
+use Rattle.tpw_occam_expressions.proofs.Keeping.{does_recall}
+use Rattle.tpw_occam_expressions.proofs.Indexing.{reduced_below}
+use Rattle.tpw_occam_expressions.proofs.Naming.{slice_length}
+use Rattle.tpw_occam_expressions.proofs.Ranges.{full_contains}
 use Rattle.tpw_occam_symbolic.proofs.Sizes.{and_first, and_second}
-use Rattle.tpw_occam_code.proofs.Standing.{or_first, or_second, suffices_two}
-use Rattle.tpw_occam_code.proofs.Constructs.{seen_array, seen_size, size_is, elements_most, settled_computes}
-use Rattle.tpw_occam_code.proofs.TwoOperands.{does_keep, leaves_less}
+use Rattle.tpw_occam_expressions.proofs.Standing.{or_first, or_second, suffices_two}
+use Rattle.tpw_occam_expressions.proofs.Constructs.{seen_array, seen_size, size_is, elements_most, settled_computes}
+use Rattle.tpw_occam_expressions.proofs.TwoOperands.{does_keep, leaves_less}
 use Rattle.tpw_occam_code.proofs.Storing.{writes_stores}
 use Rattle.tpw_occam_code.proofs.Reading.{assigned_flagged, stored_flagged}
 use Rattle.tpw_occam_code.proofs.Matching.{still_set, agrees_same, with_element-length, size_known, knows_shape, target_seen, subscript_inside, matches_stored, stores_leave, knows_unset, make_takes, make_stands, taken_small, run_reads, run_sets}

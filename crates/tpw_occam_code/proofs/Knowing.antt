@@ -11,17 +11,17 @@ use Rattle.tpw_occam_core.specs.declared.scope.Entry.{Entry}
 use Rattle.tpw_occam_core.specs.declared.scope.Entry.TheVariants as entry
 use Rattle.tpw_occam_core.specs.Meaning.{Store, with_value, with_array, array_of, kind_of, flagged}
 use Rattle.tpw_occam_core.specs.Sound.{is_name, is_variable, is_array, is_new_name, is_new_array, is_sized, is_table, bytes_of, storage_of}
-use Rattle.tpw_occam_code.specs.declared.emitter.Fact.{Fact}
+use Rattle.tpw_occam_expressions.specs.declared.emitter.Fact.{Fact}
 use Rattle.tpw_occam_symbolic.specs.declared.items.Item.TheVariants as item
 use Rattle.tpw_occam_symbolic.specs.declared.code.Step.TheVariants.{Pointer}
 use Rattle.tpw_occam_symbolic.specs.declared.code.CodeLine.{CodeLine}
 use Rattle.tpw_occam_symbolic.specs.Symbolic.{Machine}
 use Rattle.tpw_occam_symbolic.specs.Leading.{HasWord}
-use Rattle.tpw_occam_code.specs.Agreement.{Knowledge, any_word, fact_at, with_fact, fact_of_kind, FitsFact, Knows, LeavesItems}
+use Rattle.tpw_occam_expressions.specs.Agreement.{Knowledge, any_word, fact_at, with_fact, fact_of_kind, FitsFact, Knows, LeavesItems}
 use Rattle.tpw_occam_code.specs.Executing.{IsProcessPlace, none_unset, KnowsState, Matches, LeavesCounts, cleared}
 use Rattle.tpw_occam_symbolic.specs.Leading.{cleared_bytes}
-use Rattle.tpw_occam_code.proofs.Ranges.{full_contains, byte_contains}
-use Rattle.tpw_occam_code.proofs.Naming.{any_last, new_name, slice_same, slice_other, slice_length}
+use Rattle.tpw_occam_expressions.proofs.Ranges.{full_contains, byte_contains}
+use Rattle.tpw_occam_expressions.proofs.Naming.{any_last, new_name, slice_same, slice_other, slice_length}
 use Rattle.tpw_occam_symbolic.proofs.Sizes.{and_first, and_second}
 
 false_true : ◌≡◌ {A = Bool} false true → ⊥

@@ -1,17 +1,3 @@
-pub mod Machines
-pub mod Answering
-pub mod Indexing
-pub mod Elements
-pub mod Computing
-pub mod Standing
-pub mod Constructs
-pub mod Immediates
-pub mod Ranges
-pub mod Keeping
-pub mod TwoOperands
-pub mod Inverses
-pub mod Conditions
-pub mod Naming
 pub mod Moving
 pub mod Copying
 pub mod Sending
@@ -28,7 +14,6 @@ pub mod Working
 pub mod Receiving
 pub mod Looping
 pub mod StoredWords
-pub mod Deciding
 pub mod Ordering
 pub mod Remaining
 pub mod Settling

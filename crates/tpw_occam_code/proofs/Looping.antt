@@ -18,8 +18,8 @@ use Rattle.tpw_occam_core.specs.declared.process.Process.{Process}
 use Rattle.tpw_occam_core.specs.declared.process.Process.TheVariants as process
 use Rattle.tpw_occam_core.specs.Meaning.{Store, with_value, run, turns}
 use Rattle.tpw_occam_core.specs.Sound.{is_variable, is_new_name, is_sound_process, are_turns}
-use Rattle.tpw_occam_code.specs.declared.emitter.Fact.{Fact}
-use Rattle.tpw_occam_code.specs.declared.range.Range.{Range}
+use Rattle.tpw_occam_expressions.specs.declared.emitter.Fact.{Fact}
+use Rattle.tpw_occam_expressions.specs.declared.range.Range.{Range}
 use Rattle.tpw_occam_code.specs.declared.analysis.First.TheVariants.{Read}
 use Rattle.tpw_occam_symbolic.specs.declared.items.Item.{Item}
 use Rattle.tpw_occam_symbolic.specs.declared.items.Item.TheVariants as item
@@ -28,17 +28,17 @@ use Rattle.tpw_occam_symbolic.specs.declared.code.CodeLine.{CodeLine}
 use Rattle.tpw_occam_symbolic.specs.declared.code.Turns.{Turns}
 use Rattle.tpw_occam_symbolic.specs.Code.{Lines, followed_by, with_loop, line_of, place_behind, loop_end}
 use Rattle.tpw_occam_symbolic.specs.Blocks.{Blocks, is_item, bytes_at, word_at, with_word, with_bytes}
-use Rattle.tpw_occam_code.specs.Ranges.{Contains}
+use Rattle.tpw_occam_expressions.specs.Ranges.{Contains}
 use Rattle.tpw_occam_symbolic.specs.Symbolic.{Machine, address, distance, Leads, nowhere, onward, performed, effect, at_place, with_blocks, push}
 use Rattle.tpw_occam_symbolic.specs.Leading.{Does, IsBefore, Arrives, HasLines, HasWord}
-use Rattle.tpw_occam_code.specs.Agreement.{Knowledge, with_fact, fact_at, counted_fact, constant_fact, FitsFact, LeavesItems}
+use Rattle.tpw_occam_expressions.specs.Agreement.{Knowledge, with_fact, fact_at, counted_fact, constant_fact, FitsFact, LeavesItems}
 use Rattle.tpw_occam_code.specs.Executing.{Follows, Remains, IsProcessPlace, MayRun, KnowsState, Matches, LeavesCounts, Executes, Repeats, Begins, first_use, is_nothing, unset_after}
 use Rattle.tpw_occam_symbolic.proofs.Leading.{does_less, does_nothing, step_is, leads_then, has_first, does_kept}
 use Rattle.tpw_occam_symbolic.proofs.Carrying.{is_item-self}
-use Rattle.tpw_occam_code.proofs.Keeping.{other_item, word_written}
-use Rattle.tpw_occam_code.proofs.Naming.{variable_differs, slice_same, constant_fits, new_name}
-use Rattle.tpw_occam_code.proofs.Conditions.{get_behind, suc_not_zero}
-use Rattle.tpw_occam_code.proofs.Standing.{Place}
+use Rattle.tpw_occam_expressions.proofs.Keeping.{other_item, word_written}
+use Rattle.tpw_occam_expressions.proofs.Naming.{variable_differs, slice_same, constant_fits, new_name}
+use Rattle.tpw_occam_expressions.proofs.Conditions.{get_behind, suc_not_zero}
+use Rattle.tpw_occam_expressions.proofs.Standing.{Place}
 use Rattle.tpw_occam_symbolic.proofs.Sizes.{and_first, and_second}
 use Rattle.tpw_occam_code.proofs.Knowing.{in_longer, variable_named, same_any, declared_last, value_declares, Takes, value_takes, place_taken, knows_taken, knows_outside, fact_new, matches_taken, matches_outside, matches_fewer, counts_then, counts_outside, counts_of_items}
 use Rattle.tpw_occam_code.proofs.Executing.{matches_leaves, false_true, and_true}

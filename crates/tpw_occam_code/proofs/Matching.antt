@@ -26,19 +26,19 @@ use Rattle.tpw_occam_symbolic.specs.Code.{Lines, followed_by, line_of}
 use Rattle.tpw_occam_symbolic.specs.Blocks.{Blocks, with_bytes, with_word, bytes_at}
 use Rattle.tpw_occam_symbolic.specs.Symbolic.{Machine}
 use Rattle.tpw_occam_symbolic.specs.Leading.{HasWord, HasArray}
-use Rattle.tpw_occam_code.specs.Values.{scaled}
-use Rattle.tpw_occam_code.specs.Agreement.{Knowledge, fact_at, Knows, Agrees}
-use Rattle.tpw_occam_code.specs.Computing.{IsPlace, MayStand, ComputesTo, reads}
+use Rattle.tpw_occam_expressions.specs.Values.{scaled}
+use Rattle.tpw_occam_expressions.specs.Agreement.{Knowledge, fact_at, Knows, Agrees}
+use Rattle.tpw_occam_expressions.specs.Computing.{IsPlace, MayStand, ComputesTo, reads}
 use Rattle.tpw_occam_code.specs.Executing.{sources_read, is_target, first_in_assignments, is_nothing, unset_after, IsProcessPlace, MayRun, none_unset, KnowsState, Matches, Assigns}
 use Rattle.tpw_occam_code.specs.Assigning.{HasShape, IsInside, taken, taken_value, element_bytes, item_of, place_of, held_bytes, unset_but, Stores, MayTake, StoresIn, HasSmallValue, MayMake, LeavesKept, MakesOne}
 use Rattle.tpw_occam_symbolic.proofs.Leading.{does_both, does_less, does_kept}
-use Rattle.tpw_occam_code.proofs.Computing.{agrees_after, bytes_same, word_same}
-use Rattle.tpw_occam_code.proofs.Keeping.{word_written, other_item, does_recall}
-use Rattle.tpw_occam_code.proofs.Indexing.{subscript_word_below}
-use Rattle.tpw_occam_code.proofs.Naming.{slice_same, slice_other}
+use Rattle.tpw_occam_expressions.proofs.Computing.{agrees_after, bytes_same, word_same}
+use Rattle.tpw_occam_expressions.proofs.Keeping.{word_written, other_item, does_recall}
+use Rattle.tpw_occam_expressions.proofs.Indexing.{subscript_word_below}
+use Rattle.tpw_occam_expressions.proofs.Naming.{slice_same, slice_other}
 use Rattle.tpw_occam_symbolic.proofs.Sizes.{and_first, and_second}
-use Rattle.tpw_occam_code.proofs.Standing.{or_first, or_second, suffices_two}
-use Rattle.tpw_occam_code.proofs.Constructs.{seen_array, seen_size, size_is}
+use Rattle.tpw_occam_expressions.proofs.Standing.{or_first, or_second, suffices_two}
+use Rattle.tpw_occam_expressions.proofs.Constructs.{seen_array, seen_size, size_is}
 use Rattle.tpw_occam_code.proofs.Storing.{leaves_stores, behind_written, array_written, element_written, written_length}
 use Rattle.tpw_occam_code.proofs.Knowing.{matches_fewer}
 

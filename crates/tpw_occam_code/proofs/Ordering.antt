@@ -18,10 +18,10 @@ use Rattle.tpw_occam_core.specs.Meaning.{Store, value_of, followed, array_of, wi
 use Rattle.tpw_occam_code.specs.declared.order.Waiting.{Waiting}
 use Rattle.tpw_occam_code.specs.declared.order.Move.{Move}
 use Rattle.tpw_occam_code.specs.declared.order.Move.TheVariants.{Keep, Make}
-use Rattle.tpw_occam_code.specs.Computing.{reads}
+use Rattle.tpw_occam_expressions.specs.Computing.{reads}
 use Rattle.tpw_occam_code.specs.Assigning.{reads_array, reads_target, are_near}
 use Rattle.tpw_occam_code.specs.Ordering.{target_reads, Precedes, PrecedesIn, assignment_at, waits, waiting_at, MayGo, IsAlone, IsMove, Picks, picked, before, Marks, marked, behind, pending_one, pending}
-use Rattle.tpw_occam_code.proofs.Naming.{slice_other, slice_length}
+use Rattle.tpw_occam_expressions.proofs.Naming.{slice_other, slice_length}
 use Rattle.tpw_occam_code.proofs.Reading.{value_same, value_flagged, subscript_flagged, stored_flagged, flagged_both}
 use Rattle.tpw_occam_code.proofs.Matching.{sizes_at, with_element-length}
 use Rattle.tpw_occam_code.proofs.KeptParts.{sizes_set}

@@ -15,9 +15,9 @@ use Rattle.tp_step.specs.Numbers.{truth}
 use Rattle.tpw_occam_core.specs.Arithmetic.{answer, plain, subscript, low_byte, applied}
 use Rattle.tpw_occam_core.specs.Arrays.{size}
 use Rattle.tpw_occam_core.specs.Meaning.{Store, value_of, followed, element_at, both, either, array_of, with_value, subscript_of, stored, flagged, assigned}
-use Rattle.tpw_occam_code.specs.Computing.{reads}
+use Rattle.tpw_occam_expressions.specs.Computing.{reads}
 use Rattle.tpw_occam_code.specs.Assigning.{reads_array}
-use Rattle.tpw_occam_code.proofs.Naming.{slice_same, slice_other, slice_length}
+use Rattle.tpw_occam_expressions.proofs.Naming.{slice_same, slice_other, slice_length}
 
 -- two states are the same in what an expression reads
 pub record SameFor (e : Expression) (s t : Store) : Type 0 where

@@ -25,13 +25,13 @@ use Rattle.tpw_occam_symbolic.specs.Code.{Lines, followed_by, line_of, place_beh
 use Rattle.tpw_occam_symbolic.specs.Blocks.{Blocks, is_item, with_bytes, bytes_at}
 use Rattle.tpw_occam_symbolic.specs.Symbolic.{Machine, number, address, push, with_blocks, at_place, performed, effect, nowhere, onward}
 use Rattle.tpw_occam_symbolic.specs.Leading.{Serves, HasConstants, HasArray, HasWord, Makes}
-use Rattle.tpw_occam_code.specs.Agreement.{Knowledge, fact_at}
+use Rattle.tpw_occam_expressions.specs.Agreement.{Knowledge, fact_at}
 use Rattle.tpw_occam_code.specs.Executing.{Matches, none_unset}
 use Rattle.tpw_occam_symbolic.specs.Leading.{cleared_bytes}
 use Rattle.tpw_occam_code.specs.Starting.{IsInput, Inputs, Receives, Outputs, Sends}
 use Rattle.tpw_occam_symbolic.proofs.Carrying.{is_item-self}
-use Rattle.tpw_occam_code.proofs.Keeping.{other_item}
-use Rattle.tpw_occam_code.proofs.Computing.{bytes_same, word_same}
+use Rattle.tpw_occam_expressions.proofs.Keeping.{other_item}
+use Rattle.tpw_occam_expressions.proofs.Computing.{bytes_same, word_same}
 use Rattle.tpw_occam_symbolic.proofs.Sizes.{size_at}
 use Rattle.tpw_occam_code.proofs.Working.{packet_byte}
 use Rattle.tpw_occam_symbolic.proofs.Leading.{leads_then, has_first, get_last, step_is, does_step, does_served, does_both, does_less, makes_both}

@@ -20,17 +20,17 @@ use Rattle.tpw_occam_symbolic.specs.declared.items.Item.TheVariants as item
 use Rattle.tpw_occam_symbolic.specs.Code.{Lines}
 use Rattle.tpw_occam_symbolic.specs.Symbolic.{Machine, number}
 use Rattle.tpw_occam_symbolic.specs.Leading.{Does}
-use Rattle.tpw_occam_code.specs.Values.{HasNumber}
-use Rattle.tpw_occam_code.specs.Agreement.{Knowledge, Knows}
-use Rattle.tpw_occam_code.specs.Computing.{IsPlace, Computes, IsFixed}
+use Rattle.tpw_occam_expressions.specs.Values.{HasNumber}
+use Rattle.tpw_occam_expressions.specs.Agreement.{Knowledge, Knows}
+use Rattle.tpw_occam_expressions.specs.Computing.{IsPlace, Computes, IsFixed}
 use Rattle.tpw_occam_code.specs.Executing.{sources_read, is_target, Matches, LeavesCounts, Assigns}
 use Rattle.tpw_occam_code.specs.Assigning.{IsInside, taken, unset_but, unset_by, Stores, WritesPopped, MayTake, MayMake, MayMakeAll, HasSmallValue}
 use Rattle.tpw_occam_code.specs.Registers.{IsWordTarget, FitAll, KeepsRegisters, StoresWord, AssignsBelow}
 use Rattle.tpw_occam_symbolic.proofs.Leading.{does_both, does_less, does_nothing, does_kept}
-use Rattle.tpw_occam_code.proofs.Indexing.{subscript_below}
+use Rattle.tpw_occam_expressions.proofs.Indexing.{subscript_below}
 use Rattle.tpw_occam_symbolic.proofs.Sizes.{and_first, and_second}
-use Rattle.tpw_occam_code.proofs.Standing.{or_first, or_second}
-use Rattle.tpw_occam_code.proofs.Constructs.{constant_value, seen_array, size_is}
+use Rattle.tpw_occam_expressions.proofs.Standing.{or_first, or_second}
+use Rattle.tpw_occam_expressions.proofs.Constructs.{constant_value, seen_array, size_is}
 use Rattle.tpw_occam_code.proofs.Storing.{leaves_self, writes_stores}
 use Rattle.tpw_occam_code.proofs.Assigning.{take_element}
 use Rattle.tpw_occam_code.proofs.Reading.{assigned_flagged, stored_flagged}

@@ -26,17 +26,17 @@ use Rattle.tpw_occam_core.specs.Arithmetic.{plain, subscript}
 use Rattle.tpw_occam_core.specs.Arrays.{element, kept, written, with_element}
 use Rattle.tpw_occam_core.specs.Meaning.{Store, value_of, both, either, with_value, with_array, array_of, kind_of, flagged, run, chosen, turns, subscript_of, stored, assigned, traced}
 use Rattle.tpw_occam_core.specs.Sound.{is_name, is_variable, is_array, is_new_name, is_new_array, is_written, bytes_of, storage_of, is_sound_expression, is_sound_target, is_sound_assignment, is_sound_process, are_turns}
-use Rattle.tpw_occam_code.specs.declared.emitter.Fact.{Fact}
-use Rattle.tpw_occam_code.specs.declared.range.Range.{Range}
-use Rattle.tpw_occam_code.specs.Ranges.{Contains}
-use Rattle.tpw_occam_code.specs.Agreement.{Knowledge, fact_at, with_fact, fact_of_kind, constant_fact, counted_fact, constant_in, FitsFact}
-use Rattle.tpw_occam_code.specs.Computing.{Binds}
+use Rattle.tpw_occam_expressions.specs.declared.emitter.Fact.{Fact}
+use Rattle.tpw_occam_expressions.specs.declared.range.Range.{Range}
+use Rattle.tpw_occam_expressions.specs.Ranges.{Contains}
+use Rattle.tpw_occam_expressions.specs.Agreement.{Knowledge, fact_at, with_fact, fact_of_kind, constant_fact, counted_fact, constant_in, FitsFact}
+use Rattle.tpw_occam_expressions.specs.Computing.{Binds}
 use Rattle.tpw_occam_code.specs.Executing.{IsProcessPlace, none_unset, KnowsState, Follows, Remains, ChoosesKnown, RepeatsKnown, cleared, is_skip}
 use Rattle.tpw_occam_symbolic.proofs.Words.{applied_small}
-use Rattle.tpw_occam_code.proofs.Ranges.{full_contains, byte_contains}
-use Rattle.tpw_occam_code.proofs.Constructs.{constant_value}
-use Rattle.tpw_occam_code.proofs.Naming.{new_name, slice_same, slice_other, slice_length, constant_fits}
-use Rattle.tpw_occam_code.proofs.Standing.{Place}
+use Rattle.tpw_occam_expressions.proofs.Ranges.{full_contains, byte_contains}
+use Rattle.tpw_occam_expressions.proofs.Constructs.{constant_value}
+use Rattle.tpw_occam_expressions.proofs.Naming.{new_name, slice_same, slice_other, slice_length, constant_fits}
+use Rattle.tpw_occam_expressions.proofs.Standing.{Place}
 use Rattle.tpw_occam_symbolic.proofs.Sizes.{and_first, and_second}
 use Rattle.tpw_occam_code.proofs.Knowing.{knows_flagged, in_longer, same_any, name_either, Takes, value_takes, variable_takes, place_taken, knows_taken, knows_outside, zero_fits, length_at, knows_bytes, knows_array, place_array, value_declares, set_holds}
 use Rattle.tpw_occam_code.proofs.Executing.{false_true}

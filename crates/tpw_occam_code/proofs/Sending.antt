@@ -25,8 +25,8 @@ use Rattle.tpw_occam_symbolic.specs.Code.{Lines, followed_by, line_of, place_beh
 use Rattle.tpw_occam_symbolic.specs.Blocks.{Blocks, bytes_at, word_at}
 use Rattle.tpw_occam_symbolic.specs.Symbolic.{Machine, Contents, effect, performed, at_place, number, address, push}
 use Rattle.tpw_occam_symbolic.specs.Leading.{Does, Makes, HasConstants, HasWord}
-use Rattle.tpw_occam_code.specs.Agreement.{Knowledge, fact_at, Knows, Agrees, LeavesItems}
-use Rattle.tpw_occam_code.specs.Computing.{MayStand, Computes, reads}
+use Rattle.tpw_occam_expressions.specs.Agreement.{Knowledge, fact_at, Knows, Agrees, LeavesItems}
+use Rattle.tpw_occam_expressions.specs.Computing.{MayStand, Computes, reads}
 use Rattle.tpw_occam_code.specs.Executing.{MayRun, Matches, LeavesCounts, none_unset, first_in, first_in_message, unset_after, is_nothing}
 use Rattle.tpw_occam_symbolic.specs.Leading.{cleared_bytes}
 use Rattle.tpw_occam_symbolic.specs.Leading.{HasStep}
@@ -35,10 +35,10 @@ use Rattle.tpw_occam_code.specs.Sending.{sent_with, traced_with, HasSent, SendsB
 use Rattle.tpw_occam_code.specs.Executing.{Traces}
 use Rattle.tpw_occam_code.specs.Starting.{Outputs}
 use Rattle.tpw_occam_symbolic.proofs.Leading.{does_placed, does_within, does_step, does_both, does_less, does_nothing}
-use Rattle.tpw_occam_code.proofs.Computing.{agrees_after, leaves_then, in_scope, set_name}
-use Rattle.tpw_occam_code.proofs.Keeping.{does_save}
+use Rattle.tpw_occam_expressions.proofs.Computing.{agrees_after, leaves_then, in_scope, set_name}
+use Rattle.tpw_occam_expressions.proofs.Keeping.{does_save}
 use Rattle.tpw_occam_symbolic.proofs.Sizes.{and_first}
-use Rattle.tpw_occam_code.proofs.Standing.{suffices_two}
+use Rattle.tpw_occam_expressions.proofs.Standing.{suffices_two}
 use Rattle.tpw_occam_code.proofs.Copying.{array_long}
 use Rattle.tpw_occam_code.proofs.Knowing.{matches_fewer}
 

@@ -20,9 +20,9 @@ use Rattle.tpw_occam_core.specs.declared.process.Assignment.{Assignment}
 use Rattle.tpw_occam_core.specs.Arrays.{kept, written, with_element}
 use Rattle.tpw_occam_core.specs.Meaning.{Store, value_of, array_of, kind_of, subscript_of, stored, flagged, assigned}
 use Rattle.tpw_occam_core.specs.Sound.{is_name, is_sound_target, is_sound_assignment}
-use Rattle.tpw_occam_code.specs.Ranges.{from_to, Contains}
-use Rattle.tpw_occam_code.specs.Values.{scaled}
-use Rattle.tpw_occam_code.specs.Agreement.{Knowledge, fact_at, fact_of_kind, FitsFact, Agrees, LeavesItems, Stays}
+use Rattle.tpw_occam_expressions.specs.Ranges.{from_to, Contains}
+use Rattle.tpw_occam_expressions.specs.Values.{scaled}
+use Rattle.tpw_occam_expressions.specs.Agreement.{Knowledge, fact_at, fact_of_kind, FitsFact, Agrees, LeavesItems, Stays}
 use Rattle.tpw_occam_symbolic.specs.declared.items.Item.{Item}
 use Rattle.tpw_occam_symbolic.specs.declared.items.Item.TheVariants as item
 use Rattle.tpw_occam_symbolic.specs.declared.code.Step.TheVariants.{Store as StoreTo}
@@ -33,17 +33,17 @@ use Rattle.tpw_occam_symbolic.specs.Code.{Lines, followed_by, line_of}
 use Rattle.tpw_occam_symbolic.specs.Blocks.{with_bytes, bytes_at}
 use Rattle.tpw_occam_symbolic.specs.Symbolic.{Machine}
 use Rattle.tpw_occam_symbolic.specs.Leading.{Does, HasWord}
-use Rattle.tpw_occam_code.specs.Computing.{MayStand, ComputesTo, reads}
+use Rattle.tpw_occam_expressions.specs.Computing.{MayStand, ComputesTo, reads}
 use Rattle.tpw_occam_code.specs.Executing.{sources_read, is_target, IsProcessPlace, KnowsState, Matches, LeavesCounts, Assigns}
 use Rattle.tpw_occam_code.specs.Assigning.{element_bytes, taken, taken_value, unset_but, unset_by, HasSmallValue, MayMake, MayMakeAll, LeavesKept, source_of, after_one, MakesOne}
 use Rattle.tpw_occam_code.specs.Ordering.{assignment_at, waits, waiting_at, Picks, picked, before, Marks, marked, behind, AreAll, SettleAll, pending_one, pending, HasKept, MakesMoves, MakesMove, KeepsWord, KeepsValue}
 use Rattle.tpw_occam_symbolic.proofs.Leading.{does_both, does_less, does_nothing, does_kept}
-use Rattle.tpw_occam_code.proofs.Computing.{bytes_same}
-use Rattle.tpw_occam_code.proofs.Keeping.{other_item}
+use Rattle.tpw_occam_expressions.proofs.Computing.{bytes_same}
+use Rattle.tpw_occam_expressions.proofs.Keeping.{other_item}
 use Rattle.tpw_occam_symbolic.proofs.Sizes.{and_first, and_second}
-use Rattle.tpw_occam_code.proofs.Standing.{or_first, or_second, suffices_two}
-use Rattle.tpw_occam_code.proofs.Ranges.{full_contains}
-use Rattle.tpw_occam_code.proofs.Naming.{slice_same, slice_other, slice_length}
+use Rattle.tpw_occam_expressions.proofs.Standing.{or_first, or_second, suffices_two}
+use Rattle.tpw_occam_expressions.proofs.Ranges.{full_contains}
+use Rattle.tpw_occam_expressions.proofs.Naming.{slice_same, slice_other, slice_length}
 use Rattle.tpw_occam_code.proofs.Reading.{set_beyond, value_flagged, subscript_flagged, stored_flagged, assigned_flagged}
 use Rattle.tpw_occam_code.proofs.Storing.{element_written, does_store}
 use Rattle.tpw_occam_code.proofs.Matching.{still_set, knows_shape, knows_unset, make_takes, make_stands, word_stored, run_reads, run_sets}

@@ -1,5 +1,5 @@
 -- A program that is made of a worker's code means what the worker does.
-use Rattle.std.proofs.Common.{◌≡◌, ℕ, ◌+◌, ◌-◌, ◌*◌, ◌<◌, ◌^◌, Bool, true, false, List, [], ◌++◌, length}
+use Rattle.std.proofs.Common.{◌≡◌, ℕ, ◌+◌, ◌*◌, ◌<◌, ◌^◌, Bool, true, false, List, [], ◌++◌, length}
 use Rattle.std.proofs.Common.{slice_get, Some, None, refl, ap, sym, subst, ◌∙◌, arith, w32}
 use Rattle.std.specs.Prelude.{slice_index, IsTrue, if◌then◌else◌, nat_lt}
 use Rattle.std.specs.Int.{to_le_bytes}

@@ -8,11 +8,11 @@ use Rattle.tpw_occam_symbolic.specs.Code.{Lines, followed_by, line_of, place_beh
 use Rattle.tpw_occam_symbolic.specs.Blocks.{with_word}
 use Rattle.tpw_occam_symbolic.specs.Symbolic.{Machine, performed, at_place, number, push, pop, with_blocks}
 use Rattle.tpw_occam_symbolic.specs.Leading.{Does, Makes, HasConstants}
-use Rattle.tpw_occam_code.specs.Values.{HasNumber}
+use Rattle.tpw_occam_expressions.specs.Values.{HasNumber}
 use Rattle.tpw_occam_code.specs.Executing.{with_item_word, Begins}
 use Rattle.tpw_occam_symbolic.proofs.Leading.{does_less, does_both, does_served, makes_both}
-use Rattle.tpw_occam_code.proofs.Computing.{word_same}
-use Rattle.tpw_occam_code.proofs.Keeping.{word_elsewhere}
+use Rattle.tpw_occam_expressions.proofs.Computing.{word_same}
+use Rattle.tpw_occam_expressions.proofs.Keeping.{word_elsewhere}
 
 -- Areg, stored
 abbrev pub stored_word : Item → ℕ → ℕ → Machine → Machine

@@ -17,12 +17,12 @@ use Rattle.tpw_occam_symbolic.specs.Code.{Lines, followed_by, line_of, place_beh
 use Rattle.tpw_occam_symbolic.specs.Blocks.{Blocks, is_item, with_bytes, with_word}
 use Rattle.tpw_occam_symbolic.specs.Symbolic.{Machine, effect, performed, at_place, number, address, pop, pop_two, with_blocks}
 use Rattle.tpw_occam_symbolic.specs.Leading.{Does, HasWord}
-use Rattle.tpw_occam_code.specs.Values.{HasNumber, PushesAddress, scaled}
-use Rattle.tpw_occam_code.specs.Agreement.{LeavesItems}
+use Rattle.tpw_occam_expressions.specs.Values.{HasNumber, PushesAddress, scaled}
+use Rattle.tpw_occam_expressions.specs.Agreement.{LeavesItems}
 use Rattle.tpw_occam_code.specs.Assigning.{element_bytes, Writes, WritesPopped, IsToStore, Stores}
 use Rattle.tpw_occam_symbolic.proofs.Leading.{does_step, does_both, does_less}
 use Rattle.tpw_occam_symbolic.proofs.Carrying.{is_item-self}
-use Rattle.tpw_occam_code.proofs.Naming.{slice_same, slice_other, slice_length}
+use Rattle.tpw_occam_expressions.proofs.Naming.{slice_same, slice_other, slice_length}
 
 -- ---- steps that store
 

@@ -23,10 +23,11 @@ use Rattle.tpw_occam_symbolic.specs.Program.{place_bytes}
 use Rattle.tpw_occam_symbolic.specs.Code.{Lines, none_at}
 use Rattle.tpw_occam_symbolic.specs.Symbolic.{Machine}
 use Rattle.tpw_occam_symbolic.specs.Leading.{Does}
-use Rattle.tpw_occam_code.specs.Agreement.{Knowledge, fact_at, fact_of_kind, any_word, FitsFact}
+use Rattle.tpw_occam_expressions.specs.Agreement.{Knowledge, fact_at, fact_of_kind, any_word, FitsFact}
 use Rattle.tpw_occam_code.specs.Executing.{IsProcessPlace, MayRun, KnowsState, Matches, Executes, first_use, none_unset}
-use Rattle.tpw_occam_code.specs.Starting.{knowledge_of, FitsPlace, IsInScope, Receives, DoesLast, Sends, Begins, IsSent, Stops, Works}
-use Rattle.tpw_occam_code.proofs.Ranges.{full_contains}
+use Rattle.tpw_occam_expressions.specs.Agreement.{knowledge_of}
+use Rattle.tpw_occam_code.specs.Starting.{FitsPlace, IsInScope, Receives, DoesLast, Sends, Begins, IsSent, Stops, Works}
+use Rattle.tpw_occam_expressions.proofs.Ranges.{full_contains}
 use Rattle.tpw_occam_symbolic.proofs.Beginning.{index_zeros}
 use Rattle.tpw_occam_symbolic.proofs.Sizes.{size_at, sound_declared, sound_message}
 use Rattle.tpw_occam_symbolic.proofs.Sizes.{and_first, and_second}

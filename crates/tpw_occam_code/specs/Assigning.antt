@@ -25,9 +25,9 @@ use Rattle.tpw_occam_symbolic.specs.Code.{Lines}
 use Rattle.tpw_occam_symbolic.specs.Blocks.{with_bytes}
 use Rattle.tpw_occam_symbolic.specs.Symbolic.{Machine, number, address}
 use Rattle.tpw_occam_symbolic.specs.Leading.{Does, HasConstants, HasWord}
-use Rattle.tpw_occam_code.specs.Values.{HasNumber, scaled}
-use Rattle.tpw_occam_code.specs.Agreement.{Knowledge, elements_of, Knows, Agrees, LeavesItems, Stays}
-use Rattle.tpw_occam_code.specs.Computing.{IsPlace, MayStand, reads}
+use Rattle.tpw_occam_expressions.specs.Values.{HasNumber, scaled}
+use Rattle.tpw_occam_expressions.specs.Agreement.{Knowledge, elements_of, Knows, Agrees, LeavesItems, Stays}
+use Rattle.tpw_occam_expressions.specs.Computing.{IsPlace, MayStand, reads}
 use Rattle.tpw_occam_code.specs.Executing.{subscript_reads, sources_read, is_target, IsProcessPlace, KnowsState}
 use Rattle.tpw_occam_code.specs.Executing.{Matches, LeavesCounts}
 

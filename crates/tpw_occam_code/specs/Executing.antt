@@ -28,8 +28,8 @@ use Rattle.tpw_occam_symbolic.specs.Code.{Lines, place_behind}
 use Rattle.tpw_occam_symbolic.specs.Blocks.{with_word}
 use Rattle.tpw_occam_symbolic.specs.Symbolic.{Machine, number, push, pop, with_blocks, at_place}
 use Rattle.tpw_occam_symbolic.specs.Leading.{Does, Makes, HasConstants, cleared_bytes}
-use Rattle.tpw_occam_code.specs.Agreement.{Knowledge, fact_at, fact_of_kind, Knows, Agrees}
-use Rattle.tpw_occam_code.specs.Computing.{IsPlace, reads}
+use Rattle.tpw_occam_expressions.specs.Agreement.{Knowledge, fact_at, fact_of_kind, Knows, Agrees}
+use Rattle.tpw_occam_expressions.specs.Computing.{IsPlace, reads}
 
 -- ---- what happens first to a variable
 

@@ -1,10 +1,6 @@
 -- What a reader must believe: the clauses of `compile` cite it.
 pub use Rattle.tpw_occam_symbolic.specs.Program
 -- Clauses of calls within the crate cite these.
-pub mod Ranges
-pub mod Values
-pub mod Agreement
-pub mod Computing
 pub mod Executing
 pub mod Moving
 pub mod Sending

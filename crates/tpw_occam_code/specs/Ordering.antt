@@ -16,7 +16,7 @@ use Rattle.tpw_occam_code.specs.declared.order.Move.TheVariants.{Keep, Make}
 use Rattle.tpw_occam_symbolic.specs.Code.{Lines}
 use Rattle.tpw_occam_symbolic.specs.Symbolic.{Machine}
 use Rattle.tpw_occam_symbolic.specs.Leading.{Does, HasWord}
-use Rattle.tpw_occam_code.specs.Agreement.{Knowledge}
+use Rattle.tpw_occam_expressions.specs.Agreement.{Knowledge}
 use Rattle.tpw_occam_code.specs.Executing.{IsProcessPlace, KnowsState, Matches, LeavesCounts}
 use Rattle.tpw_occam_code.specs.Assigning.{reads_target, are_near, taken, unset_by, MayMake, MayMakeAll}
 

@@ -10,9 +10,9 @@ use Rattle.tpw_occam_core.specs.Meaning.{Store, kind_of, subscript_of, stored, a
 use Rattle.tpw_occam_symbolic.specs.Code.{Lines}
 use Rattle.tpw_occam_symbolic.specs.Symbolic.{Machine}
 use Rattle.tpw_occam_symbolic.specs.Leading.{Does}
-use Rattle.tpw_occam_code.specs.Values.{HasNumber}
-use Rattle.tpw_occam_code.specs.Agreement.{Knowledge}
-use Rattle.tpw_occam_code.specs.Computing.{IsFixed, is_simple}
+use Rattle.tpw_occam_expressions.specs.Values.{HasNumber}
+use Rattle.tpw_occam_expressions.specs.Agreement.{Knowledge}
+use Rattle.tpw_occam_expressions.specs.Computing.{IsFixed, is_simple}
 use Rattle.tpw_occam_code.specs.Executing.{IsProcessPlace, KnowsState, Matches, LeavesCounts}
 use Rattle.tpw_occam_code.specs.Assigning.{HasShape, MayTake, MayMakeAll, unset_but, unset_by}
 

@@ -17,8 +17,8 @@ use Rattle.tpw_occam_symbolic.specs.Code.{Lines}
 use Rattle.tpw_occam_symbolic.specs.Blocks.{bytes_at}
 use Rattle.tpw_occam_symbolic.specs.Symbolic.{Machine}
 use Rattle.tpw_occam_symbolic.specs.Leading.{Does, Serves, HasConstants, HasWord}
-use Rattle.tpw_occam_code.specs.Agreement.{Knowledge}
-use Rattle.tpw_occam_code.specs.Computing.{MayStand}
+use Rattle.tpw_occam_expressions.specs.Agreement.{Knowledge}
+use Rattle.tpw_occam_expressions.specs.Computing.{MayStand}
 use Rattle.tpw_occam_code.specs.Moving.{Provides}
 use Rattle.tpw_occam_code.specs.Executing.{IsProcessPlace, MayRun, KnowsState, Matches, LeavesCounts, first_in_message}
 

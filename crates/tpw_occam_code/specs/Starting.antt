@@ -1,5 +1,5 @@
 -- What the code of a whole worker does.
-use Rattle.std.specs.Prelude.{◌≡◌, ℕ, ◌<◌, ◌≤◌, ◌||◌, List, [], ◌++◌, length, map}
+use Rattle.std.specs.Prelude.{◌≡◌, ℕ, ◌<◌, ◌≤◌, ◌||◌, List, [], ◌++◌, length}
 use Rattle.std.specs.Prelude.{All, IsTrue}
 use Rattle.std.specs.List.{list_any}
 use Rattle.tpw_occam_core.specs.declared.worker.Storage.{Storage}
@@ -9,7 +9,7 @@ use Rattle.tpw_occam_core.specs.declared.worker.Worker.{Worker}
 use Rattle.tpw_occam_core.specs.declared.scope.Entry.{Entry}
 use Rattle.tpw_occam_core.specs.declared.process.Message.{Message}
 use Rattle.tpw_occam_core.specs.Meaning.{Store, kind_of, first, received, after, bytes_of, flag_of}
-use Rattle.tpw_occam_core.specs.Sound.{globals, is_variable, is_array, is_word, is_sound_message, bytes_of as size_of}
+use Rattle.tpw_occam_core.specs.Sound.{globals, is_variable, is_array, is_word, is_sound_message}
 use Rattle.tpw_occam_symbolic.specs.declared.items.Item.{Item}
 use Rattle.tpw_occam_symbolic.specs.declared.code.Step.TheVariants.{Pointer}
 use Rattle.tpw_occam_symbolic.specs.declared.code.CodeLine.{CodeLine}
@@ -18,16 +18,8 @@ use Rattle.tpw_occam_symbolic.specs.Code.{Lines}
 use Rattle.tpw_occam_symbolic.specs.Blocks.{with_bytes}
 use Rattle.tpw_occam_symbolic.specs.Symbolic.{Machine, Leads}
 use Rattle.tpw_occam_symbolic.specs.Leading.{Serves, HasConstants, IsBefore, Does}
-use Rattle.tpw_occam_code.specs.Agreement.{Knowledge, fact_of_kind}
+use Rattle.tpw_occam_expressions.specs.Agreement.{Knowledge, knowledge_of}
 use Rattle.tpw_occam_code.specs.Executing.{IsProcessPlace, KnowsState, Matches, none_unset}
-
--- what is known of a worker's names at first
-abbrev pub knowledge_of : Worker → Knowledge
-knowledge_of w = record {
-  kinds = w.variables.items;
-  arrays = map size_of w.arrays.items;
-  facts = map fact_of_kind w.variables.items;
-}
 
 -- ---- packets
 

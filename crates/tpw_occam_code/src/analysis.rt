@@ -2,7 +2,7 @@
 
 ghost use Rattle.std.specs.Prelude.{◌≡◌, ◌<◌, ◌^◌};
 ghost use Rattle.std.specs.List.{list_any};
-ghost use Rattle.tpw_occam_code.specs.Computing.{reads};
+ghost use Rattle.tpw_occam_expressions.specs.Computing.{reads};
 ghost use Rattle.tpw_occam_code.specs.Executing.{then_first, either_first, first_in, first_in_message, sources_read};
 ghost use Rattle.tpw_occam_code.specs.Executing.{is_target, first_in_assignments, first_use};
 ghost use Rattle.tpw_occam_code.specs.Assigning.{reads_array, reads_target, are_near};

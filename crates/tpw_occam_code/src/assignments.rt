@@ -8,8 +8,8 @@ ghost use Rattle.tpw_occam_core.specs.declared.process.Target.TheVariants as tar
 ghost use Rattle.tpw_occam_core.specs.Arrays.{size};
 ghost use Rattle.tpw_occam_symbolic.specs.declared.items.Item.TheVariants as item;
 ghost use Rattle.tpw_occam_symbolic.specs.Leading.{Does, HasWord};
-ghost use Rattle.tpw_occam_code.specs.Values.{HasNumber, scaled};
-ghost use Rattle.tpw_occam_code.specs.Computing.{ComputesTo, IsFixed, subscript_value};
+ghost use Rattle.tpw_occam_expressions.specs.Values.{HasNumber, scaled};
+ghost use Rattle.tpw_occam_expressions.specs.Computing.{ComputesTo, IsFixed, subscript_value};
 ghost use Rattle.tpw_occam_code.specs.Executing.{Assigns};
 ghost use Rattle.tpw_occam_code.specs.Assigning.{element_bytes, IsToStore, Writes, WritesPopped, ComputesOver};
 ghost use Rattle.tpw_occam_code.specs.Assigning.{ComputesAbove, StoresIn, MakesOne, taken_value, HasSmallValue};
@@ -17,12 +17,12 @@ ghost use Rattle.tpw_occam_code.specs.Assigning.{AssignsAbove, KeepsParts, Keeps
 ghost use Rattle.tpw_occam_code.specs.Registers.{IsWordTarget, FitAll, StoresWord, AssignsBelow};
 ghost use Rattle.tpw_occam_code.specs.Ordering.{SettleAll, MakesMoves, MakesMove, KeepsValue, assignment_at};
 
-use crate::emitter::{Emitter, Room};
 use crate::order::{Move, keep_any, moves};
-use crate::range::FULL;
-use crate::subscripts::{Offset, base, checked, indexed, kept_byte, reduce, settled};
 use tp_decode::Instr;
 use tpw_occam_core::{Assignment, Expression, Kind, Target};
+use tpw_occam_expressions::{
+    Emitter, FULL, Offset, Room, base, checked, indexed, kept_byte, reduce, settled,
+};
 use tpw_occam_symbolic::{Code, CodeFault, Item, Step};
 
 /// Stores Areg in a variable.
@@ -63,426 +63,444 @@ fn store_offset(code: &mut Code, line: u32, array: usize, offset: Offset) -> Res
     code.instr(line, Instr::Stnl(offset.constant.cast_signed()))
 }
 
-impl Emitter<'_> {
-    /// Makes assignments that are made together: one alone, or one by one where an order allows that; else with all
-    /// values in registers; else one by one with some values in words; else with all values and subscripts in words.
-    pub(crate) fn assignments(
-        &mut self,
-        code: &mut Code,
-        all: &[Assignment],
-        line: u32,
-    ) -> Result<(), CodeFault>
-        ensures knowledge { OnOk result (self.new ≡ self.old) }
-        ensures assigns { OnOk result (Assigns self.old code.old code.new all.now) }
-    {
-        if let [one] = all {
-            return self.make(code, one, 0, false, Room::from_word(0, line));
-        }
-        self.several(code, all, line)
+/// Makes assignments that are made together: one alone, or one by one where an order allows that; else with all
+/// values in registers; else one by one with some values in words; else with all values and subscripts in words.
+pub(crate) fn assignments(
+    emitter: &mut Emitter<'_>,
+    code: &mut Code,
+    all: &[Assignment],
+    line: u32,
+) -> Result<(), CodeFault>
+    ensures knowledge { OnOk result (emitter.new ≡ emitter.old) }
+    ensures assigns { OnOk result (Assigns emitter.old code.old code.new all.now) }
+{
+    if let [one] = all {
+        return make(emitter, code, one, 0, false, Room::from_word(0, line));
     }
+    several(emitter, code, all, line)
+}
 
-    /// Makes several assignments.
-    fn several(&mut self, code: &mut Code, all: &[Assignment], line: u32) -> Result<(), CodeFault>
-        ensures knowledge { OnOk result (self.new ≡ self.old) }
-        ensures assigns { OnOk result (Assigns self.old code.old code.new all.now) }
-    {
-        if let Some(moves) = moves(self.alloc, all)? {
-            return self.by_moves(code, all, &moves, line);
-        }
-        self.assign_by_words(code, all, Room::from_word(0, line))
+/// Makes several assignments.
+fn several(
+    emitter: &mut Emitter<'_>,
+    code: &mut Code,
+    all: &[Assignment],
+    line: u32,
+) -> Result<(), CodeFault>
+    ensures knowledge { OnOk result (emitter.new ≡ emitter.old) }
+    ensures assigns { OnOk result (Assigns emitter.old code.old code.new all.now) }
+{
+    if let Some(moves) = moves(emitter.alloc, all)? {
+        return by_moves(emitter, code, all, &moves, line);
     }
+    assign_by_words(emitter, code, all, Room::from_word(0, line))
+}
 
-    /// Makes several assignments for which there is an order.
-    fn by_moves(
-        &mut self,
-        code: &mut Code,
-        all: &[Assignment],
-        moves: &[Move],
-        line: u32,
-    ) -> Result<(), CodeFault>
-        ensures knowledge { OnOk result (self.new ≡ self.old) }
-        ensures assigns { OnOk result (SettleAll all.now moves.now → Assigns self.old code.old code.new all.now) }
-    {
-        if !keep_any(moves) {
-            return self.make_moves(code, all, moves, Room::from_word(0, line));
-        }
-        if self.fit_in_registers(all, 3) {
-            return self.assign_by_registers(code, all, Room::from_word(0, line));
-        }
-        self.make_moves(code, all, moves, Room::from_word(all.len(), line))
+/// Makes several assignments for which there is an order.
+fn by_moves(
+    emitter: &mut Emitter<'_>,
+    code: &mut Code,
+    all: &[Assignment],
+    moves: &[Move],
+    line: u32,
+) -> Result<(), CodeFault>
+    ensures knowledge { OnOk result (emitter.new ≡ emitter.old) }
+    ensures assigns { OnOk result (SettleAll all.now moves.now → Assigns emitter.old code.old code.new all.now) }
+{
+    if !keep_any(moves) {
+        return make_moves(emitter, code, all, moves, Room::from_word(0, line));
     }
-
-    /// Makes assignments one by one.
-    fn make_moves(
-        &mut self,
-        code: &mut Code,
-        all: &[Assignment],
-        moves: &[Move],
-        room: Room,
-    ) -> Result<(), CodeFault>
-        ensures knowledge { OnOk result (self.new ≡ self.old) }
-        ensures makes { OnOk result (room.registers ≡ 3
-            → MakesMoves self.old code.old code.new all.now moves.now room.kept) }
-    {
-        let [next, rest @ ..] = moves else {
-            return Ok(());
-        };
-        self.make_move(code, all, *next, room)?;
-        self.make_moves(code, all, rest, room)
+    if fit_in_registers(emitter, all, 3) {
+        return assign_by_registers(emitter, code, all, Room::from_word(0, line));
     }
+    make_moves(emitter, code, all, moves, Room::from_word(all.len(), line))
+}
 
-    /// Makes one move.
-    fn make_move(
-        &mut self,
-        code: &mut Code,
-        all: &[Assignment],
-        next: Move,
-        room: Room,
-    ) -> Result<(), CodeFault>
-        ensures knowledge { OnOk result (self.new ≡ self.old) }
-        ensures makes { OnOk result (room.registers ≡ 3 → MakesMove self.old code.old code.new all.now next room.kept) }
-    {
-        match next {
-            Move::Keep(i) => self.keep(code, all, i, room),
-            Move::Make(i, is_kept) => {
-                // each number is that of an assignment
-                if i >= all.len() {
-                    return Err(CodeFault::Workspace { line: room.line });
-                }
-                self.make(code, &all[i], i, is_kept, room)
+/// Makes assignments one by one.
+fn make_moves(
+    emitter: &mut Emitter<'_>,
+    code: &mut Code,
+    all: &[Assignment],
+    moves: &[Move],
+    room: Room,
+) -> Result<(), CodeFault>
+    ensures knowledge { OnOk result (emitter.new ≡ emitter.old) }
+    ensures makes { OnOk result (room.registers ≡ 3
+        → MakesMoves emitter.old code.old code.new all.now moves.now room.kept) }
+{
+    let [next, rest @ ..] = moves else {
+        return Ok(());
+    };
+    make_move(emitter, code, all, *next, room)?;
+    make_moves(emitter, code, all, rest, room)
+}
+
+/// Makes one move.
+fn make_move(
+    emitter: &mut Emitter<'_>,
+    code: &mut Code,
+    all: &[Assignment],
+    next: Move,
+    room: Room,
+) -> Result<(), CodeFault>
+    ensures knowledge { OnOk result (emitter.new ≡ emitter.old) }
+    ensures makes { OnOk result (room.registers ≡ 3 → MakesMove emitter.old code.old code.new all.now next room.kept) }
+{
+    match next {
+        Move::Keep(i) => keep(emitter, code, all, i, room),
+        Move::Make(i, is_kept) => {
+            // each number is that of an assignment
+            if i >= all.len() {
+                return Err(CodeFault::Workspace { line: room.line });
             }
+            make(emitter, code, &all[i], i, is_kept, room)
         }
     }
+}
 
-    /// Keeps a value as its target takes it in the word with its number.
-    fn keep(
-        &mut self,
-        code: &mut Code,
-        all: &[Assignment],
-        i: usize,
-        room: Room,
-    ) -> Result<(), CodeFault>
-        ensures knowledge { OnOk result (self.new ≡ self.old) }
-        ensures small { OnOk result (HasSmallValue self.old (assignment_at all.now i).value) }
-        ensures there { OnOk result (i < room.kept) }
-        ensures keeps { OnOk result (room.registers ≡ 3
-            → KeepsValue self.old code.old code.new (assignment_at all.now i) i room.kept) }
-    {
-        // each number is that of an assignment, for which there is a word
-        if i >= all.len() || i >= room.kept {
-            return Err(CodeFault::Workspace { line: room.line });
-        }
-        self.value(code, &all[i], room)?;
-        code.emit(room.line, Step::Store(Item::Temporary(i), 0))
+/// Keeps a value as its target takes it in the word with its number.
+fn keep(
+    emitter: &mut Emitter<'_>,
+    code: &mut Code,
+    all: &[Assignment],
+    i: usize,
+    room: Room,
+) -> Result<(), CodeFault>
+    ensures knowledge { OnOk result (emitter.new ≡ emitter.old) }
+    ensures small { OnOk result (HasSmallValue emitter.old (assignment_at all.now i).value) }
+    ensures there { OnOk result (i < room.kept) }
+    ensures keeps { OnOk result (room.registers ≡ 3
+        → KeepsValue emitter.old code.old code.new (assignment_at all.now i) i room.kept) }
+{
+    // each number is that of an assignment, for which there is a word
+    if i >= all.len() || i >= room.kept {
+        return Err(CodeFault::Workspace { line: room.line });
     }
+    value(emitter, code, &all[i], room)?;
+    code.emit(room.line, Step::Store(Item::Temporary(i), 0))
+}
 
-    /// Pushes the value of an assignment, as its target takes it.
-    fn value(
-        &mut self,
-        code: &mut Code,
-        assignment: &Assignment,
-        room: Room,
-    ) -> Result<(), CodeFault>
-        ensures knowledge { OnOk result (self.new ≡ self.old) }
-        ensures computes { OnOk result (2 ≤ room.registers → ComputesTo self.old code.old code.new assignment.now.value
-            (taken_value self.old.kinds assignment.now) room.registers room.kept) }
-        ensures small { OnOk result (HasSmallValue self.old assignment.now.value) }
-    {
-        let value = self.expression(code, &assignment.value, room)?;
-        if let Target::Variable(x) = &assignment.target {
-            if let Kind::Byte = self.kind(*x) {
-                return kept_byte(code, room.line, value);
-            }
-        }
-        Ok(())
-    }
-
-    /// Makes one assignment, whose value may be kept in a word.
-    fn make(
-        &mut self,
-        code: &mut Code,
-        assignment: &Assignment,
-        number: usize,
-        is_kept: bool,
-        room: Room,
-    ) -> Result<(), CodeFault>
-        ensures knowledge { OnOk result (self.new ≡ self.old) }
-        ensures makes { OnOk result (room.registers ≡ 3
-            → MakesOne self.old code.old code.new assignment.now number is_kept room.kept) }
-        ensures small { OnOk result (is_kept ≡ false → HasSmallValue self.old assignment.now.value) }
-    {
-        if is_kept {
-            code.emit(room.line, Step::Load(Item::Temporary(number), 0))?;
-            return self.store(code, &assignment.target, room);
-        }
-        self.value(code, assignment, room)?;
-        self.store(code, &assignment.target, room)
-    }
-
-    /// Stores Areg in a target.
-    fn store(&mut self, code: &mut Code, target: &Target, room: Room) -> Result<(), CodeFault>
-        ensures knowledge { OnOk result (self.new ≡ self.old) }
-        ensures stores { OnOk result (room.registers ≡ 3 → StoresIn self.old code.old code.new target.now room.kept) }
-    {
-        let line = room.line;
-        match target {
-            Target::Variable(x) => store_variable(code, line, *x),
-            Target::Element {
-                array,
-                kind,
-                subscript,
-            } => {
-                if let Some(word) = self.fixed_word(*array, *kind, subscript) {
-                    return store_word(code, line, *array, word);
-                }
-                if let Some(offset) = self.offset_subscript(*array, *kind, subscript) {
-                    return store_offset(code, line, *array, offset);
-                }
-                self.store_element(code, *array, *kind, subscript, room)
-            }
+/// Pushes the value of an assignment, as its target takes it.
+fn value(
+    emitter: &mut Emitter<'_>,
+    code: &mut Code,
+    assignment: &Assignment,
+    room: Room,
+) -> Result<(), CodeFault>
+    ensures knowledge { OnOk result (emitter.new ≡ emitter.old) }
+    ensures computes { OnOk result (2 ≤ room.registers → ComputesTo emitter.old code.old code.new assignment.now.value
+        (taken_value emitter.old.kinds assignment.now) room.registers room.kept) }
+    ensures small { OnOk result (HasSmallValue emitter.old assignment.now.value) }
+{
+    let value = emitter.expression(code, &assignment.value, room)?;
+    if let Target::Variable(x) = &assignment.target {
+        if let Kind::Byte = emitter.kind(*x) {
+            return kept_byte(code, room.line, value);
         }
     }
+    Ok(())
+}
 
-    /// Stores Areg in an element.
-    fn store_element(
-        &mut self,
-        code: &mut Code,
-        array: usize,
-        kind: Kind,
-        subscript: &Expression,
-        room: Room,
-    ) -> Result<(), CodeFault>
-        ensures knowledge { OnOk result (self.new ≡ self.old) }
-        ensures stores { OnOk result (room.registers ≡ 3
-            → StoresIn self.old code.old code.new (target.Element array kind subscript.now) room.kept) }
-    {
-        let size = self.elements(array, kind);
-        self.subscript_over(code, subscript, size, room)?;
-        indexed(code, room.line, array, kind)?;
-        store_at(code, room.line, kind)
+/// Makes one assignment, whose value may be kept in a word.
+fn make(
+    emitter: &mut Emitter<'_>,
+    code: &mut Code,
+    assignment: &Assignment,
+    number: usize,
+    is_kept: bool,
+    room: Room,
+) -> Result<(), CodeFault>
+    ensures knowledge { OnOk result (emitter.new ≡ emitter.old) }
+    ensures makes { OnOk result (room.registers ≡ 3
+        → MakesOne emitter.old code.old code.new assignment.now number is_kept room.kept) }
+    ensures small { OnOk result (is_kept ≡ false → HasSmallValue emitter.old assignment.now.value) }
+{
+    if is_kept {
+        code.emit(room.line, Step::Load(Item::Temporary(number), 0))?;
+        return store(emitter, code, &assignment.target, room);
     }
+    value(emitter, code, assignment, room)?;
+    store(emitter, code, &assignment.target, room)
+}
 
-    /// Pushes a subscript above what Areg holds.
-    fn subscript_over(
-        &mut self,
-        code: &mut Code,
-        subscript: &Expression,
-        size: u32,
-        room: Room,
-    ) -> Result<(), CodeFault>
-        ensures knowledge { OnOk result (self.new ≡ self.old) }
-        ensures computes { OnOk result (0 < size → size ≤ 2 ^ 31 → room.registers ≡ 3
-            → ComputesOver self.old code.old code.new subscript.now (subscript_value subscript.now size) room.kept) }
-    {
-        if self.need(subscript) <= 2 {
-            self.subscript(code, subscript, size, room.above())?;
-            return Ok(());
-        }
-        code.emit(room.line, Step::Store(room.word(), 0))?;
-        self.subscript_above(code, subscript, size, room)
-    }
-
-    /// Pushes what was kept last, and above it a subscript that needs all registers.
-    fn subscript_above(
-        &mut self,
-        code: &mut Code,
-        subscript: &Expression,
-        size: u32,
-        room: Room,
-    ) -> Result<(), CodeFault>
-        ensures knowledge { OnOk result (self.new ≡ self.old) }
-        ensures computes { OnOk result (0 < size → size ≤ 2 ^ 31 → room.registers ≡ 3
-            → ComputesAbove self.old code.old code.new subscript.now (subscript_value subscript.now size) room.kept) }
-    {
-        let line = room.line;
-        let i = self.expression(code, subscript, room.beside()?)?;
-        let i = checked(code, line, i, size)?;
-        code.emit(line, Step::Load(room.word(), 0))?;
-        code.instr(line, Instr::Rev)?;
-        settled(code, line, i, size)?;
-        Ok(())
-    }
-
-    /// The word of an element of words with a constant subscript.
-    fn fixed_word(&self, array: usize, kind: Kind, subscript: &Expression) -> Option<u32>
-        ensures fixed { IfSome result (λ c. IsFixed self.now array kind subscript.now c) }
-        ensures words { IfSome result (λ c. kind ≡ Word) }
-    {
-        match kind {
-            Kind::Word => self.fixed_subscript(array, kind, subscript),
-            Kind::Byte => None,
-        }
-    }
-
-    /// Whether a target is a word that takes any value as it is.
-    fn is_word(&self, target: &Target) -> bool
-        ensures { IsTrue result → IsWordTarget self.now target.now }
-    {
-        match target {
-            Target::Variable(x) => match self.kind(*x) {
-                Kind::Word => true,
-                Kind::Byte => false,
-            },
-            Target::Element {
-                array,
-                kind,
-                subscript,
-            } => match self.fixed_word(*array, *kind, subscript) {
-                Some(_) => true,
-                None => false,
-            },
-        }
-    }
-
-    /// Whether all values can be in so many registers at once.
-    fn fit_in_registers(&self, all: &[Assignment], registers: u32) -> bool
-        ensures { IsTrue result → FitAll self.now all.now registers }
-    {
-        let [one, rest @ ..] = all else {
-            return true;
-        };
-        if self.need(&one.value) > registers || !self.is_word(&one.target) {
-            return false;
-        }
-        self.fit_in_registers(rest, registers.saturating_sub(1))
-    }
-
-    /// Pushes all values, and stores them from the last to the first.
-    fn assign_by_registers(
-        &mut self,
-        code: &mut Code,
-        all: &[Assignment],
-        room: Room,
-    ) -> Result<(), CodeFault>
-        ensures knowledge { OnOk result (self.new ≡ self.old) }
-        ensures assigns { OnOk result (room.registers ≤ 3 → FitAll self.old all.now room.registers
-            → AssignsBelow self.old code.old code.new all.now room.registers) }
-    {
-        let [one, rest @ ..] = all else {
-            return Ok(());
-        };
-        self.expression(code, &one.value, room)?;
-        self.assign_by_registers(code, rest, room.above())?;
-        self.store_in_word(code, &one.target, room.line)
-    }
-
-    /// Stores Areg in a target that is a word.
-    fn store_in_word(
-        &mut self,
-        code: &mut Code,
-        target: &Target,
-        line: u32,
-    ) -> Result<(), CodeFault>
-        ensures knowledge { OnOk result (self.new ≡ self.old) }
-        ensures stores { OnOk result (IsWordTarget self.old target.now
-            → StoresWord self.old code.old code.new target.now) }
-    {
-        match target {
-            Target::Variable(x) => store_variable(code, line, *x),
-            Target::Element {
-                array,
-                kind,
-                subscript,
-            } => {
-                if let Some(word) = self.fixed_word(*array, *kind, subscript) {
-                    return store_word(code, line, *array, word);
-                }
-                // the target is no such word
-                Err(CodeFault::Code { line })
-            }
-        }
-    }
-
-    /// Keeps all values and subscripts in words, two for each assignment, and stores the values from the last to the
-    /// first.
-    fn assign_by_words(
-        &mut self,
-        code: &mut Code,
-        all: &[Assignment],
-        room: Room,
-    ) -> Result<(), CodeFault>
-        ensures knowledge { OnOk result (self.new ≡ self.old) }
-        ensures assigns { OnOk result (room.registers ≡ 3 → AssignsAbove self.old code.old code.new all.now room.kept) }
-    {
-        let [one, rest @ ..] = all else {
-            return Ok(());
-        };
-        self.keep_parts(code, one, room)?;
-        self.assign_by_words(code, rest, room.beside()?.beside()?)?;
-        self.store_parts(code, &one.target, room)
-    }
-
-    /// Keeps a value as its target takes it, and the target's subscript, checked, if it has one.
-    fn keep_parts(
-        &mut self,
-        code: &mut Code,
-        assignment: &Assignment,
-        room: Room,
-    ) -> Result<(), CodeFault>
-        ensures knowledge { OnOk result (self.new ≡ self.old) }
-        ensures keeps { OnOk result (room.registers ≡ 3
-            → KeepsParts self.old code.old code.new assignment.now room.kept) }
-        ensures small { OnOk result (HasSmallValue self.old assignment.now.value) }
-    {
-        self.value(code, assignment, room)?;
-        code.emit(room.line, Step::Store(room.word(), 0))?;
-        if let Target::Element {
+/// Stores Areg in a target.
+fn store(
+    emitter: &mut Emitter<'_>,
+    code: &mut Code,
+    target: &Target,
+    room: Room,
+) -> Result<(), CodeFault>
+    ensures knowledge { OnOk result (emitter.new ≡ emitter.old) }
+    ensures stores { OnOk result (room.registers ≡ 3 → StoresIn emitter.old code.old code.new target.now room.kept) }
+{
+    let line = room.line;
+    match target {
+        Target::Variable(x) => store_variable(code, line, *x),
+        Target::Element {
             array,
             kind,
             subscript,
-        } = &assignment.target
-        {
-            return self.keep_subscript(code, *array, *kind, subscript, room.beside()?);
-        }
-        Ok(())
-    }
-
-    /// Keeps a subscript, checked.
-    fn keep_subscript(
-        &mut self,
-        code: &mut Code,
-        array: usize,
-        kind: Kind,
-        subscript: &Expression,
-        room: Room,
-    ) -> Result<(), CodeFault>
-        ensures knowledge { OnOk result (self.new ≡ self.old) }
-        ensures keeps { OnOk result (room.registers ≡ 3
-            → KeepsSubscript self.old code.old code.new array kind subscript.now room.kept) }
-    {
-        let i = self.expression(code, subscript, room)?;
-        checked(code, room.line, i, self.elements(array, kind))?;
-        code.emit(room.line, Step::Store(room.word(), 0))
-    }
-
-    /// Stores a value that was kept in its target.
-    fn store_parts(&self, code: &mut Code, target: &Target, room: Room) -> Result<(), CodeFault>
-        ensures { OnOk result (StoresParts self.now code.old code.new target.now room.kept) }
-    {
-        code.emit(room.line, Step::Load(room.word(), 0))?;
-        match target {
-            Target::Variable(x) => store_variable(code, room.line, *x),
-            Target::Element {
-                array,
-                kind,
-                subscript: _,
-            } => self.store_kept(code, *array, *kind, room.beside()?),
+        } => {
+            if let Some(word) = fixed_word(emitter, *array, *kind, subscript) {
+                return store_word(code, line, *array, word);
+            }
+            if let Some(offset) = emitter.offset_subscript(*array, *kind, subscript) {
+                return store_offset(code, line, *array, offset);
+            }
+            store_element(emitter, code, *array, *kind, subscript, room)
         }
     }
+}
 
-    /// Stores Areg in an element whose subscript was kept.
-    fn store_kept(
-        &self,
-        code: &mut Code,
-        array: usize,
-        kind: Kind,
-        room: Room,
-    ) -> Result<(), CodeFault>
-        ensures { OnOk result (StoresKept self.now code.old code.new array kind room.kept) }
-    {
-        code.emit(room.line, Step::Load(room.word(), 0))?;
-        reduce(code, room.line, FULL, self.elements(array, kind))?;
-        indexed(code, room.line, array, kind)?;
-        store_at(code, room.line, kind)
+/// Stores Areg in an element.
+fn store_element(
+    emitter: &mut Emitter<'_>,
+    code: &mut Code,
+    array: usize,
+    kind: Kind,
+    subscript: &Expression,
+    room: Room,
+) -> Result<(), CodeFault>
+    ensures knowledge { OnOk result (emitter.new ≡ emitter.old) }
+    ensures stores { OnOk result (room.registers ≡ 3
+        → StoresIn emitter.old code.old code.new (target.Element array kind subscript.now) room.kept) }
+{
+    let size = emitter.elements(array, kind);
+    subscript_over(emitter, code, subscript, size, room)?;
+    indexed(code, room.line, array, kind)?;
+    store_at(code, room.line, kind)
+}
+
+/// Pushes a subscript above what Areg holds.
+fn subscript_over(
+    emitter: &mut Emitter<'_>,
+    code: &mut Code,
+    subscript: &Expression,
+    size: u32,
+    room: Room,
+) -> Result<(), CodeFault>
+    ensures knowledge { OnOk result (emitter.new ≡ emitter.old) }
+    ensures computes { OnOk result (0 < size → size ≤ 2 ^ 31 → room.registers ≡ 3
+        → ComputesOver emitter.old code.old code.new subscript.now (subscript_value subscript.now size) room.kept) }
+{
+    if emitter.need(subscript) <= 2 {
+        emitter.subscript(code, subscript, size, room.above())?;
+        return Ok(());
     }
+    code.emit(room.line, Step::Store(room.word(), 0))?;
+    subscript_above(emitter, code, subscript, size, room)
+}
+
+/// Pushes what was kept last, and above it a subscript that needs all registers.
+fn subscript_above(
+    emitter: &mut Emitter<'_>,
+    code: &mut Code,
+    subscript: &Expression,
+    size: u32,
+    room: Room,
+) -> Result<(), CodeFault>
+    ensures knowledge { OnOk result (emitter.new ≡ emitter.old) }
+    ensures computes { OnOk result (0 < size → size ≤ 2 ^ 31 → room.registers ≡ 3
+        → ComputesAbove emitter.old code.old code.new subscript.now (subscript_value subscript.now size) room.kept) }
+{
+    let line = room.line;
+    let i = emitter.expression(code, subscript, room.beside()?)?;
+    let i = checked(code, line, i, size)?;
+    code.emit(line, Step::Load(room.word(), 0))?;
+    code.instr(line, Instr::Rev)?;
+    settled(code, line, i, size)?;
+    Ok(())
+}
+
+/// The word of an element of words with a constant subscript.
+fn fixed_word(
+    emitter: &Emitter<'_>,
+    array: usize,
+    kind: Kind,
+    subscript: &Expression,
+) -> Option<u32>
+    ensures fixed { IfSome result (λ c. IsFixed emitter.now array kind subscript.now c) }
+    ensures words { IfSome result (λ c. kind ≡ Word) }
+{
+    match kind {
+        Kind::Word => emitter.fixed_subscript(array, kind, subscript),
+        Kind::Byte => None,
+    }
+}
+
+/// Whether a target is a word that takes any value as it is.
+fn is_word(emitter: &Emitter<'_>, target: &Target) -> bool
+    ensures { IsTrue result → IsWordTarget emitter.now target.now }
+{
+    match target {
+        Target::Variable(x) => match emitter.kind(*x) {
+            Kind::Word => true,
+            Kind::Byte => false,
+        },
+        Target::Element {
+            array,
+            kind,
+            subscript,
+        } => match fixed_word(emitter, *array, *kind, subscript) {
+            Some(_) => true,
+            None => false,
+        },
+    }
+}
+
+/// Whether all values can be in so many registers at once.
+fn fit_in_registers(emitter: &Emitter<'_>, all: &[Assignment], registers: u32) -> bool
+    ensures { IsTrue result → FitAll emitter.now all.now registers }
+{
+    let [one, rest @ ..] = all else {
+        return true;
+    };
+    if emitter.need(&one.value) > registers || !is_word(emitter, &one.target) {
+        return false;
+    }
+    fit_in_registers(emitter, rest, registers.saturating_sub(1))
+}
+
+/// Pushes all values, and stores them from the last to the first.
+fn assign_by_registers(
+    emitter: &mut Emitter<'_>,
+    code: &mut Code,
+    all: &[Assignment],
+    room: Room,
+) -> Result<(), CodeFault>
+    ensures knowledge { OnOk result (emitter.new ≡ emitter.old) }
+    ensures assigns { OnOk result (room.registers ≤ 3 → FitAll emitter.old all.now room.registers
+        → AssignsBelow emitter.old code.old code.new all.now room.registers) }
+{
+    let [one, rest @ ..] = all else {
+        return Ok(());
+    };
+    emitter.expression(code, &one.value, room)?;
+    assign_by_registers(emitter, code, rest, room.above())?;
+    store_in_word(emitter, code, &one.target, room.line)
+}
+
+/// Stores Areg in a target that is a word.
+fn store_in_word(
+    emitter: &mut Emitter<'_>,
+    code: &mut Code,
+    target: &Target,
+    line: u32,
+) -> Result<(), CodeFault>
+    ensures knowledge { OnOk result (emitter.new ≡ emitter.old) }
+    ensures stores { OnOk result (IsWordTarget emitter.old target.now
+        → StoresWord emitter.old code.old code.new target.now) }
+{
+    match target {
+        Target::Variable(x) => store_variable(code, line, *x),
+        Target::Element {
+            array,
+            kind,
+            subscript,
+        } => {
+            if let Some(word) = fixed_word(emitter, *array, *kind, subscript) {
+                return store_word(code, line, *array, word);
+            }
+            // the target is no such word
+            Err(CodeFault::Code { line })
+        }
+    }
+}
+
+/// Keeps all values and subscripts in words, two for each assignment, and stores the values from the last to the
+/// first.
+fn assign_by_words(
+    emitter: &mut Emitter<'_>,
+    code: &mut Code,
+    all: &[Assignment],
+    room: Room,
+) -> Result<(), CodeFault>
+    ensures knowledge { OnOk result (emitter.new ≡ emitter.old) }
+    ensures assigns { OnOk result (room.registers ≡ 3 → AssignsAbove emitter.old code.old code.new all.now room.kept) }
+{
+    let [one, rest @ ..] = all else {
+        return Ok(());
+    };
+    keep_parts(emitter, code, one, room)?;
+    assign_by_words(emitter, code, rest, room.beside()?.beside()?)?;
+    store_parts(emitter, code, &one.target, room)
+}
+
+/// Keeps a value as its target takes it, and the target's subscript, checked, if it has one.
+fn keep_parts(
+    emitter: &mut Emitter<'_>,
+    code: &mut Code,
+    assignment: &Assignment,
+    room: Room,
+) -> Result<(), CodeFault>
+    ensures knowledge { OnOk result (emitter.new ≡ emitter.old) }
+    ensures keeps { OnOk result (room.registers ≡ 3
+        → KeepsParts emitter.old code.old code.new assignment.now room.kept) }
+    ensures small { OnOk result (HasSmallValue emitter.old assignment.now.value) }
+{
+    value(emitter, code, assignment, room)?;
+    code.emit(room.line, Step::Store(room.word(), 0))?;
+    if let Target::Element {
+        array,
+        kind,
+        subscript,
+    } = &assignment.target
+    {
+        return keep_subscript(emitter, code, *array, *kind, subscript, room.beside()?);
+    }
+    Ok(())
+}
+
+/// Keeps a subscript, checked.
+fn keep_subscript(
+    emitter: &mut Emitter<'_>,
+    code: &mut Code,
+    array: usize,
+    kind: Kind,
+    subscript: &Expression,
+    room: Room,
+) -> Result<(), CodeFault>
+    ensures knowledge { OnOk result (emitter.new ≡ emitter.old) }
+    ensures keeps { OnOk result (room.registers ≡ 3
+        → KeepsSubscript emitter.old code.old code.new array kind subscript.now room.kept) }
+{
+    let i = emitter.expression(code, subscript, room)?;
+    checked(code, room.line, i, emitter.elements(array, kind))?;
+    code.emit(room.line, Step::Store(room.word(), 0))
+}
+
+/// Stores a value that was kept in its target.
+fn store_parts(
+    emitter: &Emitter<'_>,
+    code: &mut Code,
+    target: &Target,
+    room: Room,
+) -> Result<(), CodeFault>
+    ensures { OnOk result (StoresParts emitter.now code.old code.new target.now room.kept) }
+{
+    code.emit(room.line, Step::Load(room.word(), 0))?;
+    match target {
+        Target::Variable(x) => store_variable(code, room.line, *x),
+        Target::Element {
+            array,
+            kind,
+            subscript: _,
+        } => store_kept(emitter, code, *array, *kind, room.beside()?),
+    }
+}
+
+/// Stores Areg in an element whose subscript was kept.
+fn store_kept(
+    emitter: &Emitter<'_>,
+    code: &mut Code,
+    array: usize,
+    kind: Kind,
+    room: Room,
+) -> Result<(), CodeFault>
+    ensures { OnOk result (StoresKept emitter.now code.old code.new array kind room.kept) }
+{
+    code.emit(room.line, Step::Load(room.word(), 0))?;
+    reduce(code, room.line, FULL, emitter.elements(array, kind))?;
+    indexed(code, room.line, array, kind)?;
+    store_at(code, room.line, kind)
 }

@@ -6,9 +6,11 @@ ghost use Rattle.tpw_occam_symbolic.specs.Program.{HasLayout, Means, GivesRuled}
 ghost use Rattle.tpw_occam_symbolic.specs.Flowing.{Ends};
 ghost use Rattle.tpw_occam_code.specs.Starting.{Works};
 
-use crate::emitter::Emitter;
+use crate::messages::{receive, send};
+use crate::processes::process;
 use std::alloc::Global;
 use tpw_occam_core::Worker;
+use tpw_occam_expressions::Emitter;
 use tpw_occam_symbolic::{Code, CodeFault, Compiled, program_of};
 
 /// The code of a worker.
@@ -18,9 +20,9 @@ fn code_of(alloc: Global, worker: &Worker) -> Result<Code, CodeFault>
 {
     let mut emitter = Emitter::new(alloc, worker)?;
     let mut code = Code::new(alloc);
-    emitter.receive(&mut code, worker.receive, worker.receive_line)?;
-    emitter.process(&mut code, &worker.body, worker.receive_line)?;
-    emitter.send(&mut code, &worker.send, worker.send_line)?;
+    receive(&emitter, &mut code, worker.receive, worker.receive_line)?;
+    process(&mut emitter, &mut code, &worker.body, worker.receive_line)?;
+    send(&mut emitter, &mut code, &worker.send, worker.send_line)?;
     Ok(code)
 }
 

@@ -7,15 +7,8 @@
 mod analysis;
 mod assignments;
 mod compiled;
-mod emitter;
-mod expressions;
 mod messages;
-mod need;
-mod operands;
-mod operators;
 mod order;
 mod processes;
-mod range;
-mod subscripts;
 
 pub use compiled::compile;

@@ -6,9 +6,9 @@ ghost use Rattle.tpw_occam_code.specs.Sending.{HasRoom, KeepsValue, SendsBytes, 
 ghost use Rattle.tpw_occam_symbolic.specs.Flowing.{Ends};
 ghost use Rattle.tpw_occam_code.specs.Starting.{Inputs, Receives, Sends};
 
-use crate::emitter::{Emitter, Room};
 use tp_decode::Instr;
 use tpw_occam_core::{Expression, Message, Place};
+use tpw_occam_expressions::{Emitter, Room};
 use tpw_occam_symbolic::{Code, CodeFault, Item, Step};
 
 /// IMS T414 data sheet, memory map: the channels of links 0 and 1.
@@ -63,69 +63,87 @@ fn input(code: &mut Code, line: u32, item: Item, bytes: u32) -> Result<(), CodeF
     code.instr(line, Instr::Input)
 }
 
-impl Emitter<'_> {
-    /// Receives the packet.
-    pub(crate) fn receive(&self, code: &mut Code, place: Place, line: u32) -> Result<(), CodeFault>
-        ensures { OnOk result (Receives self.now code.old code.new place) }
-    {
-        match place {
-            Place::Variable(x) => input(code, line, Item::Variable(x), 4),
-            Place::Array(a) => input(code, line, Item::Array(a), self.bytes(a)),
+/// Receives the packet.
+pub(crate) fn receive(
+    emitter: &Emitter<'_>,
+    code: &mut Code,
+    place: Place,
+    line: u32,
+) -> Result<(), CodeFault>
+    ensures { OnOk result (Receives emitter.now code.old code.new place) }
+{
+    match place {
+        Place::Variable(x) => input(code, line, Item::Variable(x), 4),
+        Place::Array(a) => input(code, line, Item::Array(a), emitter.bytes(a)),
+    }
+}
+
+/// Leaves the value of an expression in the word of an item: a variable's own, or the first that is kept.
+fn keep_value(
+    emitter: &mut Emitter<'_>,
+    code: &mut Code,
+    e: &Expression,
+    line: u32,
+) -> Result<Item, CodeFault>
+    ensures knowledge { OnOk result (emitter.new ≡ emitter.old) }
+    ensures room { IfOk result (λ item. HasRoom item) }
+    ensures keeps { IfOk result (λ item. KeepsValue emitter.old code.old code.new e.now item) }
+{
+    if let Expression::Variable(x) = e {
+        if emitter.fact(*x).constant.is_none() {
+            return Ok(Item::Variable(*x));
         }
     }
+    let room = Room::from_word(0, line);
+    emitter.expression(code, e, room)?;
+    code.emit(line, Step::Store(room.word(), 0))?;
+    Ok(room.word())
+}
 
-    /// Leaves the value of an expression in the word of an item: a variable's own, or the first that is kept.
-    fn keep_value(&mut self, code: &mut Code, e: &Expression, line: u32) -> Result<Item, CodeFault>
-        ensures knowledge { OnOk result (self.new ≡ self.old) }
-        ensures room { IfOk result (λ item. HasRoom item) }
-        ensures keeps { IfOk result (λ item. KeepsValue self.old code.old code.new e.now item) }
-    {
-        if let Expression::Variable(x) = e {
-            if self.fact(*x).constant.is_none() {
-                return Ok(Item::Variable(*x));
-            }
-        }
-        let room = Room::from_word(0, line);
-        self.expression(code, e, room)?;
-        code.emit(line, Step::Store(room.word(), 0))?;
-        Ok(room.word())
-    }
-
-    /// Sends a message on a channel.
-    fn output(
-        &mut self,
-        code: &mut Code,
-        m: &Message,
-        channel: Channel,
-        line: u32,
-    ) -> Result<(), CodeFault>
-        ensures knowledge { OnOk result (self.new ≡ self.old) }
-        ensures sends { OnOk result (SendsMessage self.old code.old code.new channel m.now) }
-    {
-        match m {
-            Message::Array(a) => send_bytes(code, line, channel, Item::Array(*a), self.bytes(*a)),
-            Message::Value(e) => {
-                let item = self.keep_value(code, e, line)?;
-                send_bytes(code, line, channel, item, 4)
-            }
+/// Sends a message on a channel.
+fn output(
+    emitter: &mut Emitter<'_>,
+    code: &mut Code,
+    m: &Message,
+    channel: Channel,
+    line: u32,
+) -> Result<(), CodeFault>
+    ensures knowledge { OnOk result (emitter.new ≡ emitter.old) }
+    ensures sends { OnOk result (SendsMessage emitter.old code.old code.new channel m.now) }
+{
+    match m {
+        Message::Array(a) => send_bytes(code, line, channel, Item::Array(*a), emitter.bytes(*a)),
+        Message::Value(e) => {
+            let item = keep_value(emitter, code, e, line)?;
+            send_bytes(code, line, channel, item, 4)
         }
     }
+}
 
-    /// Sends a trace.
-    pub(crate) fn trace(&mut self, code: &mut Code, m: &Message, line: u32) -> Result<(), CodeFault>
-        ensures knowledge { OnOk result (self.new ≡ self.old) }
-        ensures traces { OnOk result (Traces self.old code.old code.new m.now) }
-    {
-        self.output(code, m, Channel::Trace, line)
-    }
+/// Sends a trace.
+pub(crate) fn trace(
+    emitter: &mut Emitter<'_>,
+    code: &mut Code,
+    m: &Message,
+    line: u32,
+) -> Result<(), CodeFault>
+    ensures knowledge { OnOk result (emitter.new ≡ emitter.old) }
+    ensures traces { OnOk result (Traces emitter.old code.old code.new m.now) }
+{
+    output(emitter, code, m, Channel::Trace, line)
+}
 
-    /// Sends the result, and stops.
-    pub(crate) fn send(&mut self, code: &mut Code, m: &Message, line: u32) -> Result<(), CodeFault>
-        ensures sends { OnOk result (Sends self.old code.old code.new m.now) }
-        ensures ends { OnOk result (Ends code.new) }
-    {
-        self.output(code, m, Channel::Result, line)?;
-        code.law_flows();
-        code.instr(line, Instr::Stopp)
-    }
+/// Sends the result, and stops.
+pub(crate) fn send(
+    emitter: &mut Emitter<'_>,
+    code: &mut Code,
+    m: &Message,
+    line: u32,
+) -> Result<(), CodeFault>
+    ensures sends { OnOk result (Sends emitter.old code.old code.new m.now) }
+    ensures ends { OnOk result (Ends code.new) }
+{
+    output(emitter, code, m, Channel::Result, line)?;
+    code.law_flows();
+    code.instr(line, Instr::Stopp)
 }

@@ -2,7 +2,7 @@
 
 ghost use Rattle.std.specs.Prelude.{◌≡◌, ◌≤◌, ◌*◌, ◌^◌, ◌<◌, ℕ, pos, ◌+ℤ◌, ◌-ℤ◌, ◌≤ℤ◌, OnOk};
 ghost use Rattle.tp_decode.specs.Words.{signed};
-ghost use Rattle.tpw_occam_code.specs.Ranges.{Contains};
+ghost use Rattle.tpw_occam_expressions.specs.Ranges.{Contains};
 ghost use Rattle.std.specs.Global.{Global};
 ghost use Rattle.tpw_occam_core.specs.declared.expression.Expression.TheVariants as expression;
 ghost use Rattle.tpw_occam_core.specs.declared.process.Process.TheVariants as process;
@@ -15,10 +15,11 @@ ghost use Rattle.tpw_occam_code.specs.Executing.{VariableKnown, ValueKnown};
 ghost use Rattle.tpw_occam_code.specs.Moving.{ClearsWords, Moves};
 
 use crate::analysis::{First, first_use};
-use crate::emitter::{Emitter, Room, constant, counted, fact_of};
-use crate::range::Range;
+use crate::assignments::assignments;
+use crate::messages::trace;
 use tp_decode::Instr;
 use tpw_occam_core::{Expression, Process};
+use tpw_occam_expressions::{Emitter, Range, Room, constant, counted, fact_of};
 use tpw_occam_symbolic::{Code, CodeFault, Item, MAX_CLEARED, Step, Turns};
 
 /// The most words that are cleared one by one.
@@ -111,188 +112,192 @@ fn begin_loop(code: &mut Code, line: u32, x: usize, start: u32, count: u32) -> R
     code.emit(line, Step::Store(Item::Variable(x), 1))
 }
 
-impl Emitter<'_> {
-    /// Appends the code of a process that comes from a line of the text.
-    #[cycle(process)]
-    pub(crate) fn process(
-        &mut self,
-        code: &mut Code,
-        p: &Process,
-        line: u32,
-    ) -> Result<(), CodeFault>
-        ensures knowledge { OnOk result (self.new ≡ self.old) }
-        ensures executes { OnOk result (Executes self.old code.old code.new p.now) }
-        ensures remains { OnOk result (Remains self.old p.now) }
-    {
-        match p {
-            Process::Skip => Ok(()),
-            Process::Stop => code.instr(line, Instr::Seterr),
-            Process::Assign(list) => self.assignments(code, list, line),
-            Process::Copy { to, from } => self.copy(code, *to, *from, line),
-            Process::Sequence(first, second) => {
-                self.process(code, first, line)?;
-                self.process(code, second, line)
-            }
-            Process::Repeat {
-                index,
-                start,
-                count,
-                body,
-            } => self.repeat(code, *index, *start, *count, body, line),
-            Process::If {
-                guard,
-                guarded,
-                rest,
-            } => self.choice(code, guard, guarded, rest, line),
-            Process::Variable { name, body } => self.with_variable(code, *name, body, line),
-            Process::Value { name, value, body } => {
-                self.with_value(code, *name, value, body, line)
-            }
-            Process::Array { name, body } => {
-                self.clear_array(code, *name, line)?;
-                self.process(code, body, line)
-            }
-            Process::Trace(m) => self.trace(code, m, line),
-            Process::At { line, body } => self.process(code, body, *line),
+/// Appends the code of a process that comes from a line of the text.
+#[cycle(process)]
+pub(crate) fn process(
+    emitter: &mut Emitter<'_>,
+    code: &mut Code,
+    p: &Process,
+    line: u32,
+) -> Result<(), CodeFault>
+    ensures knowledge { OnOk result (emitter.new ≡ emitter.old) }
+    ensures executes { OnOk result (Executes emitter.old code.old code.new p.now) }
+    ensures remains { OnOk result (Remains emitter.old p.now) }
+{
+    match p {
+        Process::Skip => Ok(()),
+        Process::Stop => code.instr(line, Instr::Seterr),
+        Process::Assign(list) => assignments(emitter, code, list, line),
+        Process::Copy { to, from } => copy(emitter, code, *to, *from, line),
+        Process::Sequence(first, second) => {
+            process(emitter, code, first, line)?;
+            process(emitter, code, second, line)
         }
-    }
-
-    /// A process with a variable of its own.
-    #[cycle(process)]
-    fn with_variable(
-        &mut self,
-        code: &mut Code,
-        x: usize,
-        body: &Process,
-        line: u32,
-    ) -> Result<(), CodeFault>
-        ensures knowledge { OnOk result (self.new ≡ self.old) }
-        ensures executes { OnOk result (DeclaresVariable self.old code.old code.new x body.now) }
-        ensures remains { OnOk result (VariableKnown self.old x body.now) }
-    {
-        let before = self.fact(x);
-        self.set_fact(x, fact_of(self.kind(x)));
-        clear_first(code, line, x, body)?;
-        self.process(code, body, line)?;
-        self.set_fact(x, before);
-        Ok(())
-    }
-
-    /// A process within which a name has a value.
-    #[cycle(process)]
-    fn with_value(
-        &mut self,
-        code: &mut Code,
-        x: usize,
-        e: &Expression,
-        body: &Process,
-        line: u32,
-    ) -> Result<(), CodeFault>
-        ensures knowledge { OnOk result (self.new ≡ self.old) }
-        ensures executes { OnOk result (DeclaresValue self.old code.old code.new x e.now body.now) }
-        ensures remains { OnOk result (ValueKnown self.old x e.now body.now) }
-    {
-        let before = self.fact(x);
-        self.bind(code, x, e, Room::from_word(0, line))?;
-        self.process(code, body, line)?;
-        self.set_fact(x, before);
-        Ok(())
-    }
-
-    /// Makes the bytes of an array 0.
-    fn clear_array(&self, code: &mut Code, a: usize, line: u32) -> Result<(), CodeFault>
-        ensures { OnOk result (Clears self.now code.old code.new a) }
-    {
-        let words = self.words(a);
-        if words <= FEW_WORDS {
-            clear_words(code, line, a, words)
-        } else {
-            clear_by_moves(code, line, a, words)
-        }
-    }
-
-    /// Copies an array.
-    fn copy(&self, code: &mut Code, to: usize, from: usize, line: u32) -> Result<(), CodeFault>
-        ensures { OnOk result (Executes self.now code.old code.new (process.Copy to from)) }
-    {
-        if to == from {
-            return Ok(());
-        }
-        let words = self.words(to);
-        move_words(code, line, Item::Array(from), (Item::Array(to), 0), words)
-    }
-
-    /// A guarded process, and what is done where the guard is FALSE.
-    #[cycle(process)]
-    fn choice(
-        &mut self,
-        code: &mut Code,
-        guard: &Expression,
-        guarded: &Process,
-        rest: &Process,
-        line: u32,
-    ) -> Result<(), CodeFault>
-        ensures knowledge { OnOk result (self.new ≡ self.old) }
-        ensures executes { OnOk result (Chooses self.old code.old code.new guard.now guarded.now rest.now) }
-        ensures remains { OnOk result (ChoosesKnown self.old guard.now guarded.now rest.now) }
-    {
-        if let Some(c) = self.constant_of(guard) {
-            if c == 0 {
-                return self.process(code, rest, line);
-            }
-            return self.process(code, guarded, line);
-        }
-        self.condition(code, guard, Room::from_word(0, line))?;
-        let mut yes = code.behind_one(self.alloc, line)?;
-        self.process(&mut yes, guarded, line)?;
-        if is_skip(rest) {
-            return code.branch(self.alloc, line, &yes);
-        }
-        let mut no = yes.behind_one(self.alloc, line)?;
-        self.process(&mut no, rest, line)?;
-        code.choose(self.alloc, line, &yes, &no)
-    }
-
-    /// So many turns. One turn is the body, with its index as a constant.
-    #[cycle(process)]
-    fn repeat(
-        &mut self,
-        code: &mut Code,
-        index: usize,
-        start: u32,
-        count: u32,
-        body: &Process,
-        line: u32,
-    ) -> Result<(), CodeFault>
-        ensures knowledge { OnOk result (self.new ≡ self.old) }
-        ensures executes { OnOk result (Repeats self.old code.old code.new index start count body.now) }
-        ensures remains { OnOk result (RepeatsKnown self.old index start count body.now) }
-    {
-        if count == 0 {
-            return Ok(());
-        }
-        let before = self.fact(index);
-        if count == 1 {
-            self.set_fact(index, constant(start));
-            self.process(code, body, line)?;
-            self.set_fact(index, before);
-            return Ok(());
-        }
-        self.set_fact(index, counted(indices(start, count)));
-        begin_loop(code, line, index, start, count)?;
-        let head = code.here();
-        let mut turn = code.behind(self.alloc);
-        self.process(&mut turn, body, line)?;
-        let turns = Turns {
-            head,
-            lend: head,
+        Process::Repeat {
             index,
             start,
             count,
-            source: line,
-        };
-        code.end_loop(self.alloc, &turn, turns)?;
-        self.set_fact(index, before);
-        Ok(())
+            body,
+        } => repeat(emitter, code, *index, *start, *count, body, line),
+        Process::If {
+            guard,
+            guarded,
+            rest,
+        } => choice(emitter, code, guard, guarded, rest, line),
+        Process::Variable { name, body } => with_variable(emitter, code, *name, body, line),
+        Process::Value { name, value, body } => {
+            with_value(emitter, code, *name, value, body, line)
+        }
+        Process::Array { name, body } => {
+            clear_array(emitter, code, *name, line)?;
+            process(emitter, code, body, line)
+        }
+        Process::Trace(m) => trace(emitter, code, m, line),
+        Process::At { line, body } => process(emitter, code, body, *line),
     }
+}
+
+/// A process with a variable of its own.
+#[cycle(process)]
+fn with_variable(
+    emitter: &mut Emitter<'_>,
+    code: &mut Code,
+    x: usize,
+    body: &Process,
+    line: u32,
+) -> Result<(), CodeFault>
+    ensures knowledge { OnOk result (emitter.new ≡ emitter.old) }
+    ensures executes { OnOk result (DeclaresVariable emitter.old code.old code.new x body.now) }
+    ensures remains { OnOk result (VariableKnown emitter.old x body.now) }
+{
+    let before = emitter.fact(x);
+    emitter.set_fact(x, fact_of(emitter.kind(x)));
+    clear_first(code, line, x, body)?;
+    process(emitter, code, body, line)?;
+    emitter.set_fact(x, before);
+    Ok(())
+}
+
+/// A process within which a name has a value.
+#[cycle(process)]
+fn with_value(
+    emitter: &mut Emitter<'_>,
+    code: &mut Code,
+    x: usize,
+    e: &Expression,
+    body: &Process,
+    line: u32,
+) -> Result<(), CodeFault>
+    ensures knowledge { OnOk result (emitter.new ≡ emitter.old) }
+    ensures executes { OnOk result (DeclaresValue emitter.old code.old code.new x e.now body.now) }
+    ensures remains { OnOk result (ValueKnown emitter.old x e.now body.now) }
+{
+    let before = emitter.fact(x);
+    emitter.bind(code, x, e, Room::from_word(0, line))?;
+    process(emitter, code, body, line)?;
+    emitter.set_fact(x, before);
+    Ok(())
+}
+
+/// Makes the bytes of an array 0.
+fn clear_array(emitter: &Emitter<'_>, code: &mut Code, a: usize, line: u32) -> Result<(), CodeFault>
+    ensures { OnOk result (Clears emitter.now code.old code.new a) }
+{
+    let words = emitter.words(a);
+    if words <= FEW_WORDS {
+        clear_words(code, line, a, words)
+    } else {
+        clear_by_moves(code, line, a, words)
+    }
+}
+
+/// Copies an array.
+fn copy(
+    emitter: &Emitter<'_>,
+    code: &mut Code,
+    to: usize,
+    from: usize,
+    line: u32,
+) -> Result<(), CodeFault>
+    ensures { OnOk result (Executes emitter.now code.old code.new (process.Copy to from)) }
+{
+    if to == from {
+        return Ok(());
+    }
+    let words = emitter.words(to);
+    move_words(code, line, Item::Array(from), (Item::Array(to), 0), words)
+}
+
+/// A guarded process, and what is done where the guard is FALSE.
+#[cycle(process)]
+fn choice(
+    emitter: &mut Emitter<'_>,
+    code: &mut Code,
+    guard: &Expression,
+    guarded: &Process,
+    rest: &Process,
+    line: u32,
+) -> Result<(), CodeFault>
+    ensures knowledge { OnOk result (emitter.new ≡ emitter.old) }
+    ensures executes { OnOk result (Chooses emitter.old code.old code.new guard.now guarded.now rest.now) }
+    ensures remains { OnOk result (ChoosesKnown emitter.old guard.now guarded.now rest.now) }
+{
+    if let Some(c) = emitter.constant_of(guard) {
+        if c == 0 {
+            return process(emitter, code, rest, line);
+        }
+        return process(emitter, code, guarded, line);
+    }
+    emitter.condition(code, guard, Room::from_word(0, line))?;
+    let mut yes = code.behind_one(emitter.alloc, line)?;
+    process(emitter, &mut yes, guarded, line)?;
+    if is_skip(rest) {
+        return code.branch(emitter.alloc, line, &yes);
+    }
+    let mut no = yes.behind_one(emitter.alloc, line)?;
+    process(emitter, &mut no, rest, line)?;
+    code.choose(emitter.alloc, line, &yes, &no)
+}
+
+/// So many turns. One turn is the body, with its index as a constant.
+#[cycle(process)]
+fn repeat(
+    emitter: &mut Emitter<'_>,
+    code: &mut Code,
+    index: usize,
+    start: u32,
+    count: u32,
+    body: &Process,
+    line: u32,
+) -> Result<(), CodeFault>
+    ensures knowledge { OnOk result (emitter.new ≡ emitter.old) }
+    ensures executes { OnOk result (Repeats emitter.old code.old code.new index start count body.now) }
+    ensures remains { OnOk result (RepeatsKnown emitter.old index start count body.now) }
+{
+    if count == 0 {
+        return Ok(());
+    }
+    let before = emitter.fact(index);
+    if count == 1 {
+        emitter.set_fact(index, constant(start));
+        process(emitter, code, body, line)?;
+        emitter.set_fact(index, before);
+        return Ok(());
+    }
+    emitter.set_fact(index, counted(indices(start, count)));
+    begin_loop(code, line, index, start, count)?;
+    let head = code.here();
+    let mut turn = code.behind(emitter.alloc);
+    process(emitter, &mut turn, body, line)?;
+    let turns = Turns {
+        head,
+        lend: head,
+        index,
+        start,
+        count,
+        source: line,
+    };
+    code.end_loop(emitter.alloc, &turn, turns)?;
+    emitter.set_fact(index, before);
+    Ok(())
 }

@@ -1,5 +1,0 @@
-use Rattle.std.proofs.Common.{length}
-use Rattle.tpw_occam_code.proofs.emitter.Emitter.+fit_in_registers.Given as goal
-
-abbrev pub decreases-fit_in_registers : goal.decreases-fit_in_registers
-decreases-fit_in_registers l = length l.all.now

@@ -1,9 +1,0 @@
-use Rattle.std.proofs.lemmas.Result.{on_ok_weaker}
-use Rattle.tpw_occam_code.proofs.Sending.{traces}
-use Rattle.tpw_occam_code.proofs.emitter.Emitter.trace.Goals as goal
-
-pub returns : goal.returns
-returns c = record {
-  knowledge = c.output.ensures.knowledge;
-  traces = on_ok_weaker c.output.result (traces c.args.self.now c.args.code.now c.output.new.code c.args.m.now) c.output.ensures.sends;
-}

@@ -1,0 +1,15 @@
+pub mod Machines
+pub mod Answering
+pub mod Indexing
+pub mod Elements
+pub mod Computing
+pub mod Standing
+pub mod Constructs
+pub mod Immediates
+pub mod Ranges
+pub mod Keeping
+pub mod TwoOperands
+pub mod Inverses
+pub mod Conditions
+pub mod Naming
+pub mod Deciding
