@@ -4,7 +4,7 @@ ghost use Rattle.std.specs.Prelude.{◌≡◌, length};
 ghost use Rattle.tp_flow.specs.NestRanges.{ranges};
 ghost use Rattle.tp_state.specs.Conditions.{HasGoodLoops};
 
-use crate::asserts::assert_same;
+use crate::asserts::{assert_same, unwrap};
 use crate::images::*;
 use crate::reading::read;
 use std::process::Abort;
@@ -72,6 +72,31 @@ fn judges_small_codes(rt: HostRuntime) {
     for (bytes, expected) in codes {
         assert_first_refusal(&rt, bytes, expected);
     }
+}
+
+/// Of a code that is refused by its states a code and an address are printed.
+#[test]
+fn prints_faults(rt: HostRuntime) {
+    for (code, text) in [
+        (StateCode::S1, "S1 at 14"),
+        (StateCode::S2, "S2 at 14"),
+        (StateCode::S3, "S3 at 14"),
+        (StateCode::S4, "S4 at 14"),
+        (StateCode::S5, "S5 at 14"),
+        (StateCode::S6, "S6 at 14"),
+        (StateCode::S7, "S7 at 14"),
+        (StateCode::S8, "S8 at 14"),
+        (StateCode::S9, "S9 at 14"),
+        (StateCode::S10, "S10 at 14"),
+        (StateCode::S11, "S11 at 14"),
+    ] {
+        let fault = StateFault::Refused { code, place: 14 };
+        let printed = unwrap(&rt, format!(in rt.alloc(); "{fault}"));
+        assert_same(&rt, &printed.as_str(), &text);
+    }
+    let memory = StateFault::Memory;
+    let printed = unwrap(&rt, format!(in rt.alloc(); "{memory}"));
+    assert_same(&rt, &printed.as_str(), &"out of memory");
 }
 
 /// A copy of the state at the start of a worker.

@@ -25,6 +25,24 @@ fn load_constants(rt: HostRuntime) {
     spells(&rt, -257, &[0x21, 0x60, 0x4F]);
 }
 
+/// Of a code that is not decoded a code and an address are printed.
+#[test]
+fn prints_faults(rt: HostRuntime) {
+    let codes = [
+        (DecodeCode::D1, "D1 at byte 0"),
+        (DecodeCode::D2, "D2 at byte 1"),
+        (DecodeCode::D3, "D3 at byte 2"),
+    ];
+    for (place, (code, text)) in codes.into_iter().enumerate() {
+        let fault = DecodeFault::Refused { code, place };
+        let printed = unwrap(&rt, format!(in rt.alloc(); "{fault}"));
+        assert_same(&rt, &printed.as_str(), &text);
+    }
+    let memory = DecodeFault::Memory;
+    let printed = unwrap(&rt, format!(in rt.alloc(); "{memory}"));
+    assert_same(&rt, &printed.as_str(), &"out of memory");
+}
+
 #[test]
 fn one_at_a_place(rt: HostRuntime) {
     let code = [0x41, 0x21, 0x60, 0x4F, 0x20, 0x20];

@@ -25,6 +25,20 @@ fn sizes_refused(rt: HostRuntime) {
     assert!(rt; Board::new(rt.alloc(), 1024, 64).is_ok());
 }
 
+/// A fault's text begins with its code: A1 tells the members, A2 the packets, A3 an empty hand.
+#[test]
+fn prints_faults(rt: HostRuntime) {
+    for (fault, text) in [
+        (BoardFault::Members, "A1: not 1 to 64 members"),
+        (BoardFault::Packets, "A2: more than 1024 packets"),
+        (BoardFault::EmptyHand, "A3: nothing in hand"),
+        (BoardFault::Memory, "memory"),
+    ] {
+        let printed = unwrap(&rt, format!(in rt.alloc(); "{fault}"));
+        assert_same(&rt, &printed.as_str(), &text);
+    }
+}
+
 /// The last two of a board's seats that are left.
 pub(crate) fn last_two(board: &Board, seats: &mut Vec<Seat>) -> Option<(Seat, Seat)>
     requires { All (IsSeatOf board.now) seats.old.items }

@@ -6,7 +6,6 @@ ghost use Rattle.tpw_assembly.specs.Programs.{AreImageOf, IsAtStatement, IsRefus
 
 use crate::assembly::assembled;
 use std::alloc::Global;
-use tp_image::limits::MAX_WORKSPACE_WORDS_1;
 use tp_image::{ImageCode, Version};
 use tpw_asm::{AssemblyFault, Program};
 use tpw_files::{Failure, InputFault};
@@ -61,7 +60,8 @@ const NO_CODE: &str = "the text has no instruction";
 
 /// The statement that makes a workspace large that none states: `start` where it is beyond any by itself, else `local`.
 fn larger(program: &Program) -> &'static str {
-    if program.start >= MAX_WORKSPACE_WORDS_1 {
+    let (_, words) = program.version.most();
+    if program.start >= words {
         "start"
     } else {
         "local"

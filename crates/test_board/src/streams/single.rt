@@ -291,6 +291,33 @@ fn feeder_that_stops(rt: HostRuntime) {
     );
 }
 
+/// The stop mark is loaded at each try, also where all is pushed.
+#[test]
+fn feeder_that_stops_when_all_is_pushed(rt: HostRuntime) {
+    let steps = [
+        Step::Fill(2, Fed::Over),
+        Step::Feed(Fed::Over),
+        Step::Stop,
+        Step::Feed(Fed::Stopped),
+        Step::FindStopped,
+    ];
+    let wanted = StreamLedger {
+        pushed: 1,
+        ledger: Ledger {
+            drawn: 0,
+            done: 0,
+            lost: 0,
+            in_hand: 0,
+            stopped: true,
+        },
+    };
+    assert_same(
+        &rt,
+        &ledger_after(&rt, rt.alloc(), 1, &steps),
+        &Some(wanted),
+    );
+}
+
 /// How many hands come back where a stream of two is closed without one of them.
 fn refused_close<R: Wait + Abort>(rt: &R, alloc: Global, packets: &[Packet]) -> Option<usize> {
     let (stream, feeder, mut hands) = unwrap(rt, StreamQueue::new(alloc, packets, 2));
