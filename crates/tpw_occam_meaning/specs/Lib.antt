@@ -1,0 +1,7 @@
+-- What a reader must believe: what a text means by its names.
+pub mod Expressions
+pub mod Literals
+pub mod Maybe
+pub mod Names
+pub mod States
+pub mod Values
