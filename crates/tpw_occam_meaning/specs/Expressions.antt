@@ -1,9 +1,8 @@
 -- What expressions mean by their names, where `d` things are declared.
-use Rattle.std.specs.Prelude.{ℕ, zero, ◌+◌, ◌-◌, ◌^◌, Bool, true, false, not, ◌&&◌, ◌||◌, ◌==◌, nat_lt, if◌then◌else◌}
+use Rattle.std.specs.Prelude.{ℕ, ◌+◌, ◌-◌, ◌^◌, Bool, true, false, not, ◌&&◌, ◌||◌, ◌==◌, nat_lt, if◌then◌else◌}
 use Rattle.std.specs.Prelude.{Option, Some, None}
 use Rattle.std.specs.Prelude.{List, [], ◌∷◌, ◌++◌, length}
 use Rattle.std.specs.Int.{w32, to_le_bytes}
-use Rattle.std.specs.Borrow.{Bor}
 use Rattle.tp_step.specs.Numbers.{truth}
 use Rattle.tpw_occam_core.specs.declared.kind.Kind.{Kind}
 use Rattle.tpw_occam_core.specs.declared.kind.Kind.TheVariants as elements
@@ -23,7 +22,7 @@ use Rattle.tpw_occam_meaning.specs.Names.{Word, Constant, Kept, Table, View, Fix
 use Rattle.tpw_occam_meaning.specs.Names.{Shape, Form, OfValue, OfArray, Body, behind, Entry, Is, Function, Names, found}
 use Rattle.tpw_occam_meaning.specs.Names.{word_value, element_of}
 use Rattle.tpw_occam_meaning.specs.States.{with_cell}
-use Rattle.tpw_occam_meaning.specs.Values.{Value, Known, Varying, known, at, of_one, of_two, constant_in, as_type}
+use Rattle.tpw_occam_meaning.specs.Values.{Value, Known, Varying, at, of_one, of_two, constant_in, as_type}
 use Rattle.tpw_occam_meaning.specs.Values.{element_type, number_of, type_of_one, operand_of, converted, monadic}
 use Rattle.tpw_occam_meaning.specs.Values.{type_of_two, operands_of, combined}
 

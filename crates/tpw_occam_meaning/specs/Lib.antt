@@ -3,5 +3,8 @@ pub mod Expressions
 pub mod Literals
 pub mod Maybe
 pub mod Names
+pub mod Processes
 pub mod States
+pub mod Texts
+pub mod Types
 pub mod Values
