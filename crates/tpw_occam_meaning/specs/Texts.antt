@@ -1,12 +1,7 @@
 -- What a text means: of a packet its worker makes a result, an error flag and traces, or the packet is lost for its
 -- traces.
-use Rattle.std.specs.Prelude.{◌≡◌, ℕ, true, ◌==◌, nat_lt, if◌then◌else◌, Option, Some, None, List, [], ◌∷◌, length}
-use Rattle.tpw_occam_core.specs.declared.kind.Kind.TheVariants as elements
-use Rattle.tpw_occam_core.specs.Arithmetic.{plain}
-use Rattle.tpw_occam_core.specs.Arrays.{element}
+use Rattle.std.specs.Prelude.{◌≡◌, ℕ, ◌==◌, nat_lt, if◌then◌else◌, Option, Some, None, List, [], ◌∷◌, length}
 use Rattle.tpw_occam_core.specs.Meaning.{Meant, most_traced}
-use Rattle.tpw_occam_tree.specs.declared.expression.Primitive.TheVariants.{Int}
-use Rattle.tpw_occam_meaning.specs.declared.expression.Expression.{Expression}
 use Rattle.tpw_occam_meaning.specs.declared.types.Parameters.{Parameters}
 use Rattle.tpw_occam_meaning.specs.declared.tree.Declaration.TheVariants as declaration
 use Rattle.tpw_occam_meaning.specs.declared.tree.Declarations.{Declarations}
@@ -16,35 +11,21 @@ use Rattle.tpw_occam_meaning.specs.declared.tree.Process.TheVariants as process
 use Rattle.tpw_occam_meaning.specs.declared.tree.Processes.{Processes}
 use Rattle.tpw_occam_meaning.specs.declared.tree.Processes.TheVariants as processes
 use Rattle.tpw_occam_meaning.specs.declared.tree.Source.{Source}
-use Rattle.tpw_occam_meaning.specs.Expressions.{array_of}
+use Rattle.tpw_occam_meaning.specs.Effects.{Effect, followed_by}
+use Rattle.tpw_occam_meaning.specs.Messages.{received, message_of, carried, sending}
 use Rattle.tpw_occam_meaning.specs.Maybe.{and_then, where_true}
-use Rattle.tpw_occam_meaning.specs.Names.{Protocol, OneWord, Several, Packet, Output, Traces, Place, Carrier}
+use Rattle.tpw_occam_meaning.specs.Names.{Packet, Output, Traces, Place, Carrier}
 use Rattle.tpw_occam_meaning.specs.Names.{Form, OfChannel, Names, found, bound}
-use Rattle.tpw_occam_meaning.specs.Processes.{Effect, followed_by, run, declared, target_of, assigned, written_array}
-use Rattle.tpw_occam_meaning.specs.Processes.{message_of, Message, carried}
-use Rattle.tpw_occam_meaning.specs.States.{State, first, with_array, with_result, flagged}
+use Rattle.tpw_occam_meaning.specs.Processes.{run, declared}
+use Rattle.tpw_occam_meaning.specs.States.{State, first}
 use Rattle.tpw_occam_meaning.specs.Types.{forms_of}
-use Rattle.tpw_occam_meaning.specs.Values.{as_type}
 
 -- ---- workers
-
--- the packet goes to a variable or an element, or to an array
-abbrev pub received : Protocol → Expression → Names → ℕ → Effect
-received OneWord e names d =
-    and_then (target_of e names d) (λ target. as_type Int target.of
-    (Some (λ s. assigned target (target.subscript s) (plain (element elements.Word s.packet 0)) s)))
-received (Several kind n) e names d =
-    and_then (array_of e (record { kind = kind; size = Some n; is_variable = true }) names) (λ view.
-    and_then (written_array view) (λ a. Some (λ s. with_array a s.packet s)))
-
-abbrev pub sent : Message → State → State
-sent message s = with_result (message.bytes s) (flagged (message.flag s) s)
 
 -- the steps behind the packet, of which the last sends the result
 abbrev pub finished : Processes → Names → ℕ → Effect
 finished (processes.More' p (process.Send channel e span) q processes.End) names d =
-    and_then (carried Output (found channel names)) (λ protocol. and_then (message_of protocol e names d) (λ message.
-    Some (sent message)))
+    and_then (carried Output (found channel names)) (λ protocol. and_then (message_of protocol e names d) sending)
 finished (processes.More' p step q more) names d = followed_by (run step names d) (finished more names d)
 finished processes.End names d = None
 

@@ -66,7 +66,10 @@ impl Drop for Sizes<'_> {
 
 impl Drop for Type<'_> {
     fn drop(self) {
-        let Type { sizes: _sizes, of: _ } = self;
+        let Type {
+            sizes: _sizes,
+            of: _,
+        } = self;
     }
 }
 
