@@ -5,6 +5,7 @@
 #![tactic(auto)]
 
 mod expression;
+pub mod laws;
 mod operator;
 mod tree;
 mod types;
