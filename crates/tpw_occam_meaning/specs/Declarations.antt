@@ -1,5 +1,6 @@
 -- Declarations: what is done behind them, with the names and the numbers that they take.
-use Rattle.std.specs.Prelude.{ℕ, ◌+◌, ◌/◌, ◌%◌, Bool, true, false, not, ◌==◌, if◌then◌else◌, Option, Some, None}
+use Rattle.std.specs.Prelude.{ℕ, ◌+◌, ◌/◌, ◌%◌, Bool, true, false, not, ◌==◌, if◌then◌else◌}
+use Rattle.std.specs.Prelude.{Option, Some, None}
 use Rattle.std.specs.List.{list_all}
 use Rattle.tpw_occam_core.specs.declared.kind.Kind.{Kind}
 use Rattle.tpw_occam_core.specs.declared.kind.Kind.TheVariants as elements
@@ -57,6 +58,7 @@ abbrev pub table_entry : Option written.Type → Expression → Names → Option
 table_entry of e names =
     and_then (shape_of_table of e names) (λ shape. and_then (array_of e shape names) (λ view. Some (Is (Whole view))))
 
+-- a value, or a table
 abbrev pub value_declared : Option written.Type → Name → Expression → (Names → ℕ → Effect) → Names → ℕ → Effect
 value_declared of name e after names d =
     if is_table e then naming name (table_entry of e names) after names d
@@ -79,7 +81,7 @@ arrays kind (Some n) (listed.More' name p more) after names d =
     within_array d (bytes_of kind n)
     (arrays kind (Some n) more after (with_name name (Is (Whole (array_view kind n d))) names) (d + 1))
 
--- an array, seen as words or as bytes: words only where it has whole ones
+-- an array, seen as words or as bytes: as words only where it has whole ones
 abbrev pub seen_as : Kind → View → Option View
 seen_as elements.Byte view =
     Some (record view { kind = elements.Byte; size = bytes_of view.kind view.size })
@@ -89,7 +91,7 @@ seen_as elements.Word view =
 
 abbrev pub retyped : written.Type → Name → Names → Option Entry
 retyped of array names =
-    and_then (view_in (found array names)) (λ view. and_then (shape_of of false names) (λ shape.
+    and_then (view_in (found array names)) (λ view. and_then (shape_of of view.is_variable names) (λ shape.
     and_then (seen_as shape.kind view) (λ seen. and_then (fitting shape seen) (λ view. Some (Is (Whole view))))))
 
 abbrev pub procedure : Parameters → (Names → ℕ → Effect) → Names → Option Entry

@@ -89,11 +89,11 @@ abbrev pub has_size : Option ℕ → ℕ → Bool
 has_size None n = true
 has_size (Some size) n = n == size
 
--- an array, where it has the shape that is wanted
+-- an array, where it has the shape that is wanted; it may be written to only where that is wanted
 abbrev pub fitting : Shape → View → Option View
 fitting shape view =
     where_true (has_kind shape.kind view.kind && has_size shape.size view.size && (view.is_variable || not shape.is_variable))
-    (Some view)
+    (Some (record view { is_variable = shape.is_variable }))
 
 -- a table has elements, and is not written to
 abbrev pub table : Kind → List ℕ → Option View

@@ -24,13 +24,12 @@ use Rattle.tpw_occam_meaning.specs.Effects.{Effect, skipped, stopped, followed_b
 use Rattle.tpw_occam_meaning.specs.Messages.{carried, message_of, tracing}
 use Rattle.tpw_occam_meaning.specs.Expressions.{value_of, constant, type_of}
 use Rattle.tpw_occam_meaning.specs.Maybe.{and_then, where_true}
-use Rattle.tpw_occam_meaning.specs.Names.{Word, Kept}
-use Rattle.tpw_occam_meaning.specs.Names.{Traces, Fixed}
-use Rattle.tpw_occam_meaning.specs.Names.{Is, Names, found, with_name}
+use Rattle.tpw_occam_meaning.specs.Names.{Word, Kept, Traces, Fixed, Is, Names, found, with_name}
 use Rattle.tpw_occam_meaning.specs.Types.{shape_of, by_sizes}
 
 -- ---- CASE
 
+-- of an INT or a BYTE
 abbrev pub is_cased : Primitive → Bool
 is_cased Truth = false
 is_cased other = true
@@ -52,7 +51,7 @@ abbrev pub are_distinct : List ℕ → Bool
 are_distinct [] = true
 are_distinct (word ∷ more) = not (list_any (λ other. other == word) more) && are_distinct more
 
--- so many choices begin with ELSE
+-- how many choices begin with ELSE
 abbrev pub elses : Cases → ℕ
 elses cases.End = 0
 elses (cases.Constants' list p body q more) = elses more
