@@ -1,0 +1,232 @@
+-- What two texts mean, computed on the definitions. The first:
+--
+--     VAL INT n IS 3:
+--     PROC p (VAL INT v, INT y)
+--       y := y + v
+--     :
+--     PROC w (CHAN OF INT c, CHAN OF INT r)
+--       INT x, y:
+--       [2]INT a:
+--       SEQ
+--         c ? x
+--         SEQ i = 0 FOR n
+--           p (i, a[1])
+--         IF
+--           x = 2
+--             y := a[1]
+--         r ! y
+--     :
+--
+-- .. and the second:
+--
+--     VAL []BYTE t IS "a*n":
+--     INT FUNCTION f (VAL INT x, VAL []BYTE m) IS (INT m[1]) + x:
+--     PROC w (CHAN OF [2]INT c, CHAN OF INT r, CHAN OF INT T)
+--       [2]INT a:
+--       INT x, y:
+--       SEQ
+--         c ? a
+--         [8]BYTE m RETYPES a:
+--         SEQ
+--           x, y := 1, f (2, t)
+--           x, y := y, x
+--           CASE m[0]
+--             7
+--               T ! x
+--             ELSE
+--               STOP
+--         r ! a[2]
+--     :
+use Rattle.std.proofs.Common.{◌≡◌, ℕ, true, false, List, [], ◌∷◌, Option, Some, None, refl}
+use Rattle.std.specs.Borrow.{Bor}
+use Rattle.std.specs.declared.boxed.Box.{Box}
+use Rattle.std.specs.declared.alloc.Global.{Global}
+use Rattle.std.specs.Option.{option_map}
+use Rattle.tpw_occam_core.specs.Meaning.{Meant}
+use Rattle.tpw_occam_tree.specs.declared.expression.Primitive.TheVariants.{Int, Byte}
+use Rattle.tpw_occam_tree.specs.declared.span.Span.{Span}
+use Rattle.tpw_occam_tree.specs.declared.tree.Name.{Name}
+use Rattle.tpw_occam_tree.specs.declared.tree.Passing.{Passing}
+use Rattle.tpw_occam_tree.specs.declared.tree.Passing.TheVariants as passing
+use Rattle.tpw_occam_meaning.specs.declared.expression.Expression.{Expression}
+use Rattle.tpw_occam_meaning.specs.declared.expression.Expression.TheVariants as tree
+use Rattle.tpw_occam_meaning.specs.declared.expression.Expressions.{Expressions}
+use Rattle.tpw_occam_meaning.specs.declared.expression.Expressions.TheVariants as expressions
+use Rattle.tpw_occam_meaning.specs.declared.operator.Monadic.TheVariants.{Convert}
+use Rattle.tpw_occam_meaning.specs.declared.operator.Dyadic.{Dyadic}
+use Rattle.tpw_occam_meaning.specs.declared.operator.Dyadic.TheVariants as two
+use Rattle.tpw_occam_meaning.specs.declared.types.Names.TheVariants as names
+use Rattle.tpw_occam_meaning.specs.declared.types.Names as list
+use Rattle.tpw_occam_meaning.specs.declared.types.Sizes.{Sizes}
+use Rattle.tpw_occam_meaning.specs.declared.types.Sizes.TheVariants as sizes
+use Rattle.tpw_occam_meaning.specs.declared.types.Type as written
+use Rattle.tpw_occam_meaning.specs.declared.types.Parameters.{Parameters}
+use Rattle.tpw_occam_meaning.specs.declared.types.Parameters.TheVariants as parameters
+use Rattle.tpw_occam_meaning.specs.declared.tree.Declaration.{Declaration}
+use Rattle.tpw_occam_meaning.specs.declared.tree.Declaration.TheVariants as declaration
+use Rattle.tpw_occam_meaning.specs.declared.tree.Declarations.{Declarations}
+use Rattle.tpw_occam_meaning.specs.declared.tree.Declarations.TheVariants as declarations
+use Rattle.tpw_occam_meaning.specs.declared.tree.Process.{Process}
+use Rattle.tpw_occam_meaning.specs.declared.tree.Process.TheVariants as process
+use Rattle.tpw_occam_meaning.specs.declared.tree.Processes.{Processes}
+use Rattle.tpw_occam_meaning.specs.declared.tree.Processes.TheVariants as processes
+use Rattle.tpw_occam_meaning.specs.declared.tree.Choices.{Choices}
+use Rattle.tpw_occam_meaning.specs.declared.tree.Choices.TheVariants as choices
+use Rattle.tpw_occam_meaning.specs.declared.tree.Cases.{Cases}
+use Rattle.tpw_occam_meaning.specs.declared.tree.Cases.TheVariants as cases
+use Rattle.tpw_occam_meaning.specs.declared.tree.Source.{Source}
+use Rattle.tpw_occam_meaning.specs.Texts.{meaning_of_text}
+
+-- wherever the tree and its text lie
+module _ (place : Span) (text : Bor (List ℕ)) (expression : Box Expression Global) (expressions' : Box Expressions Global)
+    (names' : Box list.Names Global) (sizes' : Box Sizes Global) (parameters' : Box Parameters Global)
+    (process' : Box Process Global) (processes' : Box Processes Global) (choices' : Box Choices Global) (cases' : Box Cases Global)
+    (declaration' : Box Declaration Global) (declarations' : Box Declarations Global) where
+  abbrev name : ℕ → Name
+  name c = record { text = record text { now = c ∷ [] }; span = place }
+
+  abbrev boxed : Expression → Box Expression Global
+  boxed e = record expression { value = e }
+
+  abbrev number : ℕ → Expression
+  number c = tree.Number (record text { now = c ∷ [] }) place
+
+  abbrev element : ℕ → Expression → Expression
+  element a i = tree.Element (boxed (tree.Name (name a))) (boxed i) place
+
+  abbrev dyadic : Dyadic → Expression → Expression → Expression
+  dyadic o e f = tree.Dyadic o place (boxed e) (boxed f)
+
+  abbrev more : Expression → Expressions → Expressions
+  more e es = expressions.More (boxed e) (record expressions' { value = es })
+
+  abbrev one : Expression → Expressions
+  one e = more e expressions.End
+
+  abbrev assign : Expression → Expression → Process
+  assign t e = process.Assign (one t) (one e) place
+
+  abbrev then : Process → Processes → Processes
+  then p ps = processes.More (record process' { value = p }) (record processes' { value = ps })
+
+  abbrev sequence : Processes → Process
+  sequence ps = process.Sequence (record processes' { value = ps }) place
+
+  abbrev declared : Declaration → Process → Process
+  declared d p = process.Declared (record declaration' { value = d }) (record process' { value = p })
+
+  abbrev int : Sizes → written.Type
+  int s = record { sizes = s; of = Int }
+
+  abbrev byte : Sizes → written.Type
+  byte s = record { sizes = s; of = Byte }
+
+  abbrev of_size : ℕ → Sizes
+  of_size c = sizes.Of (number c) (record sizes' { value = sizes.End })
+
+  abbrev of_any_size : Sizes
+  of_any_size = sizes.Open (record sizes' { value = sizes.End })
+
+  abbrev with_type : Passing → written.Type → ℕ → Parameters → Parameters
+  with_type passing of c ps = parameters.Typed passing of (name c) None (record parameters' { value = ps })
+
+  abbrev takes : Passing → ℕ → Parameters → Parameters
+  takes passing c ps = with_type passing (int sizes.End) c ps
+
+  abbrev procedure : ℕ → Parameters → Process → Declaration
+  procedure c ps p = declaration.Procedure (name c) ps (record process' { value = p })
+
+  abbrev variable : ℕ → Expression
+  variable c = tree.Name (name c)
+
+  -- n, p, v, y, w, c, r, x, a, i are 110, 112, 118, 121, 119, 99, 114, 120, 97, 105; 0, 1, 2, 3 are 48, 49, 50, 51
+  abbrev adding : Declaration
+  adding = procedure 112 (takes passing.Value 118 (takes passing.Variable 121 parameters.End))
+      (assign (variable 121) (dyadic two.Add (variable 121) (variable 118)))
+
+  abbrev turning : Process
+  turning = process.Replicated (name 105) (number 48) (variable 110)
+      (record processes' { value = then (process.Call (name 112) (more (variable 105) (one (element 97 (number 49)))) place) processes.End }) place
+
+  abbrev choosing : Process
+  choosing = process.If
+      (record choices' { value = choices.More (dyadic two.Equal (variable 120) (number 50))
+        (record process' { value = assign (variable 121) (element 97 (number 49)) }) (record choices' { value = choices.End }) }) place
+
+  abbrev body : Process
+  body = declared (declaration.Variables (int sizes.End) (names.More (name 120) (record names' { value = names.More (name 121) (record names' { value = names.End }) })))
+      (declared (declaration.Variables (int (of_size 50)) (names.More (name 97) (record names' { value = names.End })))
+      (sequence (then (process.Receive (name 99) (variable 120) place) (then turning (then choosing
+      (then (process.Send (name 114) (variable 121) place) processes.End))))))
+
+  abbrev behind : Declaration → Declarations → Declarations
+  behind d ds = declarations.More d (record declarations' { value = ds })
+
+  abbrev source : Source
+  source = record { declarations =
+    behind (declaration.Value (Some (int sizes.End)) (name 110) (number 51))
+    (behind adding
+    (behind (procedure 119 (takes passing.Channel 99 (takes passing.Channel 114 parameters.End)) body) declarations.End)) }
+
+  abbrev given : Source → List ℕ → Option (Option Meant)
+  given source packet = option_map (λ meaning. meaning packet) (meaning_of_text source)
+
+  pub sums : given source (2 ∷ 0 ∷ 0 ∷ 0 ∷ []) ≡ Some (Some (record { result = 3 ∷ 0 ∷ 0 ∷ 0 ∷ []; flag = false; traced = [] }))
+  unfolding meaning_of_text
+  sums = refl
+
+  pub stops : given source (1 ∷ 0 ∷ 0 ∷ 0 ∷ []) ≡ Some (Some (record { result = 0 ∷ 0 ∷ 0 ∷ 0 ∷ []; flag = true; traced = [] }))
+  unfolding meaning_of_text
+  stops = refl
+
+  -- t, f, m, T are 116, 102, 109, 84; 7, 8 are 55, 56; a*n is 97, 42, 110
+  abbrev texts : Declaration
+  texts = declaration.Value (Some (byte of_any_size)) (name 116) (tree.Text (record text { now = 97 ∷ 42 ∷ 110 ∷ [] }) place)
+
+  abbrev function : Declaration
+  function = declaration.Function Int (name 102)
+      (takes passing.Value 120 (with_type passing.Value (byte of_any_size) 109 parameters.End))
+      (dyadic two.Add (tree.Bracketed (boxed (tree.Monadic (Convert Int) place (boxed (element 109 (number 49))))) place)
+        (variable 120))
+
+  abbrev pair : Expression → Expression → Expressions
+  pair e f = more e (one f)
+
+  abbrev calling : Expression
+  calling = tree.Call (name 102) (record expressions' { value = pair (number 50) (variable 116) })
+
+  abbrev case : Process
+  case = process.Case (element 109 (number 48))
+      (record cases' { value = cases.Constants (one (number 55))
+        (record process' { value = process.Send (name 84) (variable 120) place })
+        (record cases' { value = cases.Else (record process' { value = process.Stop place }) (record cases' { value = cases.End }) }) })
+      place
+
+  abbrev retyping : Process
+  retyping = declared (declaration.Retypes (byte (of_size 56)) (name 109) (name 97))
+      (sequence
+        (then (process.Assign (pair (variable 120) (variable 121)) (pair (number 49) calling) place)
+        (then (process.Assign (pair (variable 120) (variable 121)) (pair (variable 121) (variable 120)) place)
+        (then case processes.End))))
+
+  abbrev body' : Process
+  body' = declared (declaration.Variables (int (of_size 50)) (names.More (name 97) (record names' { value = names.End })))
+      (declared (declaration.Variables (int sizes.End) (names.More (name 120) (record names' { value = names.More (name 121) (record names' { value = names.End }) })))
+      (sequence (then (process.Receive (name 99) (variable 97) place) (then retyping
+      (then (process.Send (name 114) (element 97 (number 50)) place) processes.End)))))
+
+  abbrev channels : Parameters
+  channels = with_type passing.Channel (int (of_size 50)) 99 (takes passing.Channel 114 (takes passing.Channel 84 parameters.End))
+
+  abbrev source' : Source
+  source' = record { declarations = behind texts (behind function (behind (procedure 119 channels body') declarations.End)) }
+
+  pub traces : given source' (7 ∷ 0 ∷ 0 ∷ 0 ∷ 5 ∷ 0 ∷ 0 ∷ 0 ∷ [])
+      ≡ Some (Some (record { result = 7 ∷ 0 ∷ 0 ∷ 0 ∷ []; flag = true; traced = 12 ∷ 0 ∷ 0 ∷ 0 ∷ [] }))
+  unfolding meaning_of_text
+  traces = refl
+
+  pub goes_elsewhere : given source' (6 ∷ 0 ∷ 0 ∷ 0 ∷ 5 ∷ 0 ∷ 0 ∷ 0 ∷ [])
+      ≡ Some (Some (record { result = 6 ∷ 0 ∷ 0 ∷ 0 ∷ []; flag = true; traced = [] }))
+  unfolding meaning_of_text
+  goes_elsewhere = refl

@@ -1,0 +1,69 @@
+-- Calls of PROCs.
+use Rattle.std.specs.Prelude.{ℕ, Bool, true, false, ◌==◌, Option, Some, None, List, [], ◌∷◌}
+use Rattle.tpw_occam_core.specs.declared.kind.Kind.TheVariants as elements
+use Rattle.tpw_occam_core.specs.Arithmetic.{subscript}
+use Rattle.tpw_occam_core.specs.Meaning.{followed}
+use Rattle.tpw_occam_tree.specs.declared.expression.Primitive.{Primitive}
+use Rattle.tpw_occam_tree.specs.declared.expression.Primitive.TheVariants.{Int}
+use Rattle.tpw_occam_meaning.specs.declared.expression.Expression.{Expression}
+use Rattle.tpw_occam_meaning.specs.declared.expression.Expression.TheVariants as tree
+use Rattle.tpw_occam_meaning.specs.declared.expression.Expressions.{Expressions}
+use Rattle.tpw_occam_meaning.specs.declared.expression.Expressions.TheVariants.{End, More'}
+use Rattle.tpw_occam_meaning.specs.Assignments.{written_array}
+use Rattle.tpw_occam_meaning.specs.Effects.{Effect, given}
+use Rattle.tpw_occam_meaning.specs.Expressions.{value_of, array_of, named}
+use Rattle.tpw_occam_meaning.specs.Maybe.{and_then, where_true}
+use Rattle.tpw_occam_meaning.specs.Messages.{carried}
+use Rattle.tpw_occam_meaning.specs.Names.{Protocol, OneWord, Several, Traces, Place, Fixed, Variable, Element, Whole, Carrier}
+use Rattle.tpw_occam_meaning.specs.Names.{Form, OfValue, OfVariable, OfArray, OfChannel, Body, behind}
+use Rattle.tpw_occam_meaning.specs.Names.{Entry, Is, Procedure, Names, found}
+use Rattle.tpw_occam_meaning.specs.States.{State}
+use Rattle.tpw_occam_meaning.specs.Values.{of_one, as_type, element_type}
+
+-- another name for a variable of a type
+abbrev pub lent : Primitive → Entry → Option Place
+lent of (Is (Variable other x)) = as_type of other (Some (Variable other x))
+lent of (Is (Element view i)) = as_type of (element_type view.kind) (Some (Element view i))
+lent of other = None
+
+-- an argument that is another name for a variable or an element, whose subscript is worked out at the call
+abbrev pub referred : Expression → Primitive → Names → ℕ → (Place → ℕ → Effect) → Effect
+referred (tree.Name name) of names d next = and_then (lent of (found name names)) (λ place. next place d)
+referred (tree.Element' p a q i span) of names d next =
+    and_then (named a names) (λ view. and_then (written_array view) (λ a. as_type of (element_type view.kind)
+    (and_then (value_of i Int names d) (λ i.
+    given d (of_one (λ i. followed i (subscript view.size)) i) (λ word n. next (Element view word) n)))))
+referred (tree.Bracketed' p e span) of names d next = referred e of names d next
+referred other of names d next = None
+
+abbrev pub same_protocol : Protocol → Protocol → Bool
+same_protocol OneWord OneWord = true
+same_protocol (Several elements.Word n) (Several elements.Word m) = n == m
+same_protocol (Several elements.Byte n) (Several elements.Byte m) = n == m
+same_protocol one other = false
+
+-- an argument that is the traces' channel
+abbrev pub traces_of : Expression → Names → Option Protocol
+traces_of (tree.Name name) names = carried Traces (found name names)
+traces_of (tree.Channel name direction) names = carried Traces (found name names)
+traces_of (tree.Bracketed' p e span) names = traces_of e names
+traces_of other names = None
+
+-- what the body of a PROC does with what is passed
+abbrev pub entered : Expressions → List Form → Body (State → State) → Names → ℕ → Effect
+entered End [] does names d = does [] d
+entered (More' p e q more) (OfValue of ∷ forms) does names d =
+    and_then (value_of e of names d) (λ v. given d v (λ word n.
+    entered more forms (behind (Fixed of word) does) names n))
+entered (More' p e q more) (OfVariable of ∷ forms) does names d =
+    referred e of names d (λ place n. entered more forms (behind place does) names n)
+entered (More' p e q more) (OfArray shape ∷ forms) does names d =
+    and_then (array_of e shape names) (λ view. entered more forms (behind (Whole view) does) names d)
+entered (More' p e q more) (OfChannel wanted ∷ forms) does names d =
+    and_then (traces_of e names) (λ protocol. where_true (same_protocol wanted protocol)
+    (entered more forms (behind (Carrier Traces protocol) does) names d))
+entered arguments forms does names d = None
+
+abbrev pub called : Entry → Expressions → Names → ℕ → Effect
+called (Procedure forms does) arguments names d = entered arguments forms does names d
+called other arguments names d = None

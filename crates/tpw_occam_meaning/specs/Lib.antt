@@ -1,0 +1,15 @@
+-- What a reader must believe: what a text means by its names.
+pub mod Assignments
+pub mod Calls
+pub mod Declarations
+pub mod Effects
+pub mod Expressions
+pub mod Literals
+pub mod Maybe
+pub mod Messages
+pub mod Names
+pub mod Processes
+pub mod States
+pub mod Texts
+pub mod Types
+pub mod Values

@@ -1,0 +1,12 @@
+-- What there may be: an ill-formed tree means nothing.
+use Rattle.std.specs.Prelude.{Option, Some, None, Bool, true, false}
+
+-- goes on with what there is
+abbrev pub and_then : {A B : Type 0} → Option A → (A → Option B) → Option B
+and_then None next = None
+and_then (Some a) next = next a
+
+-- what there is, where a test holds
+abbrev pub where_true : {A : Type 0} → Bool → Option A → Option A
+where_true true a = a
+where_true false a = None

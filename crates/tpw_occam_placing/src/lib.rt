@@ -1,0 +1,16 @@
+//! Scoped cores as workers: each cell lies in a variable, and each array in an array of the worker, as long as it is in
+//! scope. What is declared in scopes that are never open together may lie in the same.
+#![tactic(auto)]
+
+mod assignments;
+mod expressions;
+mod parts;
+mod process_parts;
+mod processes;
+mod scope;
+mod tables;
+
+pub use expressions::expression;
+pub use processes::process;
+pub use scope::Scope;
+pub use tables::{Fault, Tables};

@@ -1,0 +1,2 @@
+-- What a reader must believe: what a scoped core means.
+pub mod Meaning
