@@ -54,11 +54,17 @@ pub fn value<'a>(
         },
         Expression::Truth { value, .. } => Ok(known(u32::from(*value))),
         Expression::Most { is_negative, .. } => {
-            Ok(known(if *is_negative { 0x8000_0000 } else { 0x7fff_ffff }))
+            Ok(known(if *is_negative {
+                0x8000_0000
+            } else {
+                0x7fff_ffff
+            }))
         }
         Expression::Name(name) => named_value(cells, scope, *name),
         Expression::Element {
-            array, subscript, ..
+            array,
+            subscript,
+            ..
         } => match named(scope, array) {
             Some(view) => {
                 let i = value(cells, scope, d, subscript, room - 1)?;
@@ -68,7 +74,9 @@ pub fn value<'a>(
         },
         Expression::Bracketed { within, .. } => value(cells, scope, d, within, room - 1),
         Expression::Monadic {
-            operator, operand, ..
+            operator,
+            operand,
+            ..
         } => {
             if is_applied(*operator) {
                 let a = value(cells, scope, d, operand, room - 1)?;

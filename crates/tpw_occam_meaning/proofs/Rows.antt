@@ -150,8 +150,10 @@ module _ (place : Span) (text : Bor (List ℕ)) (expression : Box Expression Glo
 
   abbrev choosing : Process
   choosing = process.If
-      (record choices' { value = choices.More (dyadic two.Equal (variable 120) (number 50))
-        (record process' { value = assign (variable 121) (element 97 (number 49)) }) (record choices' { value = choices.End }) }) place
+      (record choices' {
+        value = choices.More (dyadic two.Equal (variable 120) (number 50))
+            (record process' { value = assign (variable 121) (element 97 (number 49)) }) (record choices' { value = choices.End });
+      }) place
 
   abbrev body : Process
   body = declared (declaration.Variables (int sizes.End) (names.More (name 120) (record names' { value = names.More (name 121) (record names' { value = names.End }) })))
@@ -163,10 +165,12 @@ module _ (place : Span) (text : Bor (List ℕ)) (expression : Box Expression Glo
   behind d ds = declarations.More d (record declarations' { value = ds })
 
   abbrev source : Source
-  source = record { declarations =
-    behind (declaration.Value (Some (int sizes.End)) (name 110) (number 51))
-    (behind adding
-    (behind (procedure 119 (takes passing.Channel 99 (takes passing.Channel 114 parameters.End)) body) declarations.End)) }
+  source = record {
+    declarations =
+        behind (declaration.Value (Some (int sizes.End)) (name 110) (number 51))
+        (behind adding
+        (behind (procedure 119 (takes passing.Channel 99 (takes passing.Channel 114 parameters.End)) body) declarations.End));
+  }
 
   abbrev given : Source → List ℕ → Option (Option Meant)
   given source packet = option_map (λ meaning. meaning packet) (meaning_of_text source)
@@ -187,7 +191,7 @@ module _ (place : Span) (text : Bor (List ℕ)) (expression : Box Expression Glo
   function = declaration.Function Int (name 102)
       (takes passing.Value 120 (with_type passing.Value (byte of_any_size) 109 parameters.End))
       (dyadic two.Add (tree.Bracketed (boxed (tree.Monadic (Convert Int) place (boxed (element 109 (number 49))))) place)
-        (variable 120))
+      (variable 120))
 
   abbrev pair : Expression → Expression → Expressions
   pair e f = more e (one f)
@@ -197,17 +201,19 @@ module _ (place : Span) (text : Bor (List ℕ)) (expression : Box Expression Glo
 
   abbrev case : Process
   case = process.Case (element 109 (number 48))
-      (record cases' { value = cases.Constants (one (number 55))
-        (record process' { value = process.Send (name 84) (variable 120) place })
-        (record cases' { value = cases.Else (record process' { value = process.Stop place }) (record cases' { value = cases.End }) }) })
+      (record cases' {
+        value = cases.Constants (one (number 55))
+            (record process' { value = process.Send (name 84) (variable 120) place })
+            (record cases' { value = cases.Else (record process' { value = process.Stop place }) (record cases' { value = cases.End }) });
+      })
       place
 
   abbrev retyping : Process
   retyping = declared (declaration.Retypes (byte (of_size 56)) (name 109) (name 97))
       (sequence
-        (then (process.Assign (pair (variable 120) (variable 121)) (pair (number 49) calling) place)
-        (then (process.Assign (pair (variable 120) (variable 121)) (pair (variable 121) (variable 120)) place)
-        (then case processes.End))))
+      (then (process.Assign (pair (variable 120) (variable 121)) (pair (number 49) calling) place)
+      (then (process.Assign (pair (variable 120) (variable 121)) (pair (variable 121) (variable 120)) place)
+      (then case processes.End))))
 
   abbrev body' : Process
   body' = declared (declaration.Variables (int (of_size 50)) (names.More (name 97) (record names' { value = names.End })))
