@@ -13,6 +13,8 @@ mod failing;
 #[cfg(test)]
 mod members;
 #[cfg(test)]
+mod noticing;
+#[cfg(test)]
 mod recording;
 #[cfg(test)]
 mod refusing;
