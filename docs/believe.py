@@ -80,7 +80,8 @@ def counted(lines):
             total += count
             lines[number] = line[: row.start(2)] + f"{count:,}" + line[row.end(2) :]
         elif start and not line.startswith("|"):
-            above = next(it for it in range(start - 1, -1, -1) if re.search(r"[\d,]+ lines", lines[it]) or not lines[it - 1])
+            # Between the paragraph and the rows are an empty line, the head and its rule.
+            above = next(it for it in range(start - 4, -1, -1) if re.search(r"[\d,]+ lines", lines[it]) or not lines[it - 1])
             lines[above] = re.sub(r"[\d,]+ lines", f"{total:,} lines", lines[above], count=1)
             start, total = None, 0
     return lines
