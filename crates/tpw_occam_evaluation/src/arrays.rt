@@ -65,7 +65,10 @@ pub(crate) fn element_of(cells: &Cells<'_>, view: View<'_>, i: Evaluated) -> Eva
 {
     match view.storage {
         Storage::Array(a) => Evaluated {
-            answer: followed(i.answer, element_at(view.kind, bytes(cells, a), i.answer.word)),
+            answer: followed(
+                i.answer,
+                element_at(view.kind, bytes(cells, a), i.answer.word),
+            ),
             is_known: false,
         },
         Storage::Table(table) => Evaluated {

@@ -15,7 +15,7 @@ use crate::memory::Cells;
 use crate::names::{named, named_value, type_of};
 use crate::operators::{converted, is_applied, of_one, of_two};
 use crate::scope::Scope;
-use crate::spelled::number;
+use crate::spelled::{character, number};
 use crate::values::{Evaluated, Fault, known};
 use tpw_occam_meaning::{Expression, Monadic};
 
@@ -52,13 +52,23 @@ pub fn value<'a>(
             Some(word) => Ok(known(word)),
             None => Err(Fault::Wrong),
         },
+        Expression::Character { spelled, .. } => match character(spelled) {
+            Some(word) => Ok(known(word)),
+            None => Err(Fault::Wrong),
+        },
         Expression::Truth { value, .. } => Ok(known(u32::from(*value))),
         Expression::Most { is_negative, .. } => {
-            Ok(known(if *is_negative { 0x8000_0000 } else { 0x7fff_ffff }))
+            Ok(known(if *is_negative {
+                0x8000_0000
+            } else {
+                0x7fff_ffff
+            }))
         }
         Expression::Name(name) => named_value(cells, scope, *name),
         Expression::Element {
-            array, subscript, ..
+            array,
+            subscript,
+            ..
         } => match named(scope, array) {
             Some(view) => {
                 let i = value(cells, scope, d, subscript, room - 1)?;
@@ -68,7 +78,9 @@ pub fn value<'a>(
         },
         Expression::Bracketed { within, .. } => value(cells, scope, d, within, room - 1),
         Expression::Monadic {
-            operator, operand, ..
+            operator,
+            operand,
+            ..
         } => {
             if is_applied(*operator) {
                 let a = value(cells, scope, d, operand, room - 1)?;

@@ -12,7 +12,5 @@ mod values;
 
 pub use expressions::value;
 pub use memory::{Cells, Memory};
-pub use scope::{
-    Channel, Form, Meaning, Protocol, Scope, Shape, Storage, View, Word, look_up,
-};
+pub use scope::{Channel, Form, Meaning, Protocol, Scope, Shape, Storage, View, Word, look_up};
 pub use values::{Evaluated, Fault};

@@ -30,13 +30,7 @@ pub(crate) fn read(cells: &Cells<'_>, x: usize) -> u32
             Some(word) => *word,
             None => 0,
         },
-        Cells::With(y, word, before) => {
-            if x == *y {
-                *word
-            } else {
-                read(before, x)
-            }
-        }
+        Cells::With(y, word, before) => { if x == *y { *word } else { read(before, x) } }
     }
 }
 
