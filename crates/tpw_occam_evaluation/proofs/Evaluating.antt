@@ -1,13 +1,12 @@
 -- What is worked out of a value that is made of others.
-use Rattle.std.proofs.Common.{◌≡◌, ℕ, Bool, true, false, Option, Some, None, refl, sym, ap, ◌∙◌, nat_lt}
+use Rattle.std.proofs.Common.{◌≡◌, ℕ, Bool, true, false, Option, Some, None, refl, ap, ◌∙◌, nat_lt}
 use Rattle.tpw_occam_core.specs.declared.arithmetic.Answer.{Answer}
 use Rattle.tpw_occam_core.specs.Arithmetic.{plain}
-use Rattle.tpw_occam_core.specs.Meaning.{followed}
 use Rattle.tpw_occam_tree.specs.declared.expression.Primitive.{Primitive}
 use Rattle.tpw_occam_tree.specs.declared.expression.Primitive.TheVariants.{Int, Bool as Truth, Byte}
 use Rattle.tpw_occam_meaning.specs.Maybe.{and_then, where_true}
 use Rattle.tpw_occam_meaning.specs.States.{State}
-use Rattle.tpw_occam_meaning.specs.Values.{Value, Known, Varying, as_type, number_of, of_one, of_two, converted}
+use Rattle.tpw_occam_meaning.specs.Values.{Value, Known, Varying, as_type, number_of, of_one, of_two}
 use Rattle.tpw_occam_evaluation.specs.declared.values.Evaluated.{Evaluated}
 use Rattle.tpw_occam_evaluation.specs.Evaluations.{evaluation, evaluated, IsEvaluated, made, joined}
 

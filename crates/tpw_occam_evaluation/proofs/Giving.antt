@@ -1,5 +1,5 @@
 -- What is worked out of an expression, by its parts.
-use Rattle.std.proofs.Common.{◌≡◌, ℕ, Bool, true, false, List, Option, Some, None, if◌then◌else◌, refl, sym, subst, ap, ◌∙◌}
+use Rattle.std.proofs.Common.{◌≡◌, ℕ, true, false, List, Option, Some, None, if◌then◌else◌, refl, sym, subst, ap, ◌∙◌}
 use Rattle.std.specs.Borrow.{Bor}
 use Rattle.std.specs.declared.boxed.Box.{Box}
 use Rattle.std.specs.declared.alloc.Global.{Global}
@@ -21,7 +21,7 @@ use Rattle.tpw_occam_meaning.specs.Maybe.{and_then}
 use Rattle.tpw_occam_meaning.specs.Names.{View, Names, element_of}
 use Rattle.tpw_occam_meaning.specs.States.{State}
 use Rattle.tpw_occam_meaning.specs.Values.{Value, Known, of_one, of_two, monadic, combined, converted, element_type, as_type}
-use Rattle.tpw_occam_meaning.specs.Values.{type_of_one, type_of_two, operand_of, operands_of}
+use Rattle.tpw_occam_meaning.specs.Values.{type_of_two, operands_of}
 use Rattle.tpw_occam_evaluation.specs.declared.values.Evaluated.{Evaluated}
 use Rattle.tpw_occam_evaluation.specs.Evaluations.{evaluation, evaluated, IsEvaluated, made, joined, is_applied, is_narrowing}
 use Rattle.tpw_occam_evaluation.proofs.Evaluating.{as_type_evaluated, spelled_evaluated, one_evaluated}

@@ -1,5 +1,5 @@
 -- The state that a memory holds. What it has no room for is 0, or empty.
-use Rattle.std.specs.Prelude.{ℕ, List, [], map, slice_index, slice_index_or}
+use Rattle.std.specs.Prelude.{[], map, slice_index, slice_index_or}
 use Rattle.tpw_occam_meaning.specs.States.{State, with_cell}
 use Rattle.tpw_occam_evaluation.specs.declared.memory.Memory.{Memory}
 use Rattle.tpw_occam_evaluation.specs.declared.memory.Cells.{Cells}

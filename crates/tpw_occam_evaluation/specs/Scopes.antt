@@ -1,5 +1,5 @@
 -- The names that a scope stands for.
-use Rattle.std.specs.Prelude.{◌≡◌, ℕ, List, [], ◌∷◌, map, Option, Some, None}
+use Rattle.std.specs.Prelude.{[], ◌∷◌, map}
 use Rattle.tpw_occam_meaning.specs.Expressions.{value_of}
 use Rattle.tpw_occam_meaning.specs.Names as text
 use Rattle.tpw_occam_meaning.specs.Names.{Names, Entry, Is, Procedure, Function, taking}

@@ -15,7 +15,7 @@ use crate::memory::Cells;
 use crate::names::{named, named_value, type_of};
 use crate::operators::{converted, is_applied, of_one, of_two};
 use crate::scope::Scope;
-use crate::spelled::number;
+use crate::spelled::{character, number};
 use crate::values::{Evaluated, Fault, known};
 use tpw_occam_meaning::{Expression, Monadic};
 
@@ -49,6 +49,10 @@ pub fn value<'a>(
     }
     match e {
         Expression::Number { spelled, .. } => match number(spelled) {
+            Some(word) => Ok(known(word)),
+            None => Err(Fault::Wrong),
+        },
+        Expression::Character { spelled, .. } => match character(spelled) {
             Some(word) => Ok(known(word)),
             None => Err(Fault::Wrong),
         },

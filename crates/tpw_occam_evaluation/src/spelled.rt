@@ -1,10 +1,8 @@
 //! What numbers and characters spell.
 
-ghost use Rattle.std.specs.Prelude.{◌≡◌, ◌≤◌, ◌<◌, ◌^◌, Some, length, MatchOption, IfSome};
-ghost use Rattle.tpw_occam_tree.specs.Spelling.{digit};
+ghost use Rattle.std.specs.Prelude.{◌≡◌, ◌<◌, Some, IfSome};
+ghost use Rattle.tpw_occam_tree.specs.Spelling.{digit, letter};
 ghost use Rattle.tpw_occam_meaning.specs.Literals as text;
-
-use tpw_occam_tree::quoted;
 
 /// The number that a digit stands for.
 fn digit(c: u8) -> Option<u32>
@@ -50,5 +48,35 @@ pub(crate) fn number(spelled: &str) -> Option<u32>
         Some(number)
     } else {
         None
+    }
+}
+
+/// The byte that a character behind `*` stands for.
+fn letter(c: u8) -> Option<u8>
+    ensures { result ≡ letter c }
+{
+    match c {
+        b'c' | b'C' => Some(13),
+        b'n' | b'N' => Some(10),
+        b't' | b'T' => Some(9),
+        b's' | b'S' => Some(32),
+        b'\'' | b'"' | b'*' => Some(c),
+        _ => None,
+    }
+}
+
+/// The byte that is spelled as one character, where one is.
+pub(crate) fn character(spelled: &str) -> Option<u32>
+    ensures { IfSome result (λ n. text.character spelled.now ≡ Some n) }
+{
+    match spelled.as_bytes() {
+        [c] if *c != b'*' && *c < 128 => Some(u32::from(*c)),
+        [b'*', c] if *c != b'#' => Some(u32::from(letter(*c)?)),
+        [b'*', b'#', high, low] => {
+            let high = digit(*high)?;
+            let low = digit(*low)?;
+            Some(16 * high + low)
+        }
+        _ => None,
     }
 }

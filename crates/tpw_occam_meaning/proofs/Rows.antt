@@ -164,13 +164,25 @@ module _ (place : Span) (text : Bor (List ℕ)) (expression : Box Expression Glo
   abbrev behind : Declaration → Declarations → Declarations
   behind d ds = declarations.More d (record declarations' { value = ds })
 
-  abbrev source : Source
-  source = record {
+  abbrev with_procedure : Declaration → Source
+  with_procedure p = record {
     declarations =
         behind (declaration.Value (Some (int sizes.End)) (name 110) (number 51))
-        (behind adding
+        (behind p
         (behind (procedure 119 (takes passing.Channel 99 (takes passing.Channel 114 parameters.End)) body) declarations.End));
   }
+
+  abbrev source : Source
+  source = with_procedure adding
+
+  -- a PROC that assigns to its VAL parameter
+  abbrev wrong : Source
+  wrong = with_procedure
+      (procedure 112 (takes passing.Value 118 (takes passing.Variable 121 parameters.End)) (assign (variable 118) (variable 121)))
+
+  pub means_nothing : meaning_of_text wrong ≡ None
+  unfolding meaning_of_text
+  means_nothing = refl
 
   abbrev given : Source → List ℕ → Option (Option Meant)
   given source packet = option_map (λ meaning. meaning packet) (meaning_of_text source)
