@@ -20,6 +20,7 @@ FREE = ['PLUS', 'MINUS', 'TIMES', '/\\', '\\/', '><', 'BITAND', 'BITOR', '>>', '
 CHAINED = ['+', '*', 'PLUS', 'TIMES', '/\\', '\\/', '><']
 # Where a line may be broken, but for operators.
 BREAKS = re.compile(r', |\bIS |:= |\(|\[(?!\])')
+WORD = re.compile(r'[A-Za-z][A-Za-z0-9.]*')
 
 
 class Entry:
@@ -148,7 +149,15 @@ class Maker:
         if pick < 0.96:
             return f'({self.closed(INT, depth - 1)} /\\ MOSTPOS INT) \\ {size}'
         byte = self.element(BYTE, depth - 1) if depth > 0 and self.chance(0.3) else None
-        return f'INT {byte}' if byte else self.whole(INT, depth - 1)
+        return self.varying(f'INT {byte}' if byte else self.whole(INT, depth - 1))
+
+    def varying(self, text):
+        """A subscript that is no constant, since one of these beyond the size is a fault."""
+        found = [self.scope.get(word) for word in WORD.findall(text)]
+        if any(entry and entry.kind in ('variable', 'array') for entry in found):
+            return text
+        names = self.names(lambda entry: entry.kind == 'variable' and entry.of == INT)
+        return f'({text}) PLUS ({names[0]} /\\ 1)' if names else '0'
 
     def call(self, of, depth):
         name = self.pick(lambda entry: entry.kind == 'function' and entry.of == of)

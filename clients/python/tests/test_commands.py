@@ -50,7 +50,9 @@ class Command(Case):
     def wants_end_by_signals(self, ready: str, *words: str) -> None:
         """Wants each signal to end a run, and all that it has started, while it waits for a farm that hangs."""
         for it in (signal.SIGHUP, signal.SIGINT, signal.SIGQUIT, signal.SIGTERM):
-            with self.subTest(it), self.start(*words) as process:
+            # (the tests themselves may run in the background, where a shell has signals ignored)
+            heeds = lambda it=it: signal.signal(it, signal.SIG_DFL)  # noqa: E731
+            with self.subTest(it), self.start(*words, preexec_fn=heeds) as process:
                 self.wait_for(ready)
                 pid = int((self.folder / ready).read_text())
                 (self.folder / ready).unlink()

@@ -114,9 +114,10 @@ class Real(Case):
             "    for it in loop: pass\n"
         )
         top = Path(__file__).parents[1]
-        process = subprocess.Popen(
-            [sys.executable, "-c", code], cwd=top, stdout=subprocess.PIPE, stderr=subprocess.PIPE, process_group=0
-        )
+        # (the tests themselves may run in the background, where a shell has signals ignored)
+        heeds = lambda: signal.signal(signal.SIGINT, signal.SIG_DFL)  # noqa: E731
+        pipes = {"stdout": subprocess.PIPE, "stderr": subprocess.PIPE}
+        process = subprocess.Popen([sys.executable, "-c", code], cwd=top, process_group=0, preexec_fn=heeds, **pipes)
         assert process.stdout
         process.stdout.readline()
         time.sleep(0.3)

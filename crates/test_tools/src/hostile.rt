@@ -3,8 +3,8 @@
 use crate::asserts::unwrap;
 use std::alloc::Global;
 use std::process::Abort;
-use tpw_source::SourceText;
-use tpw_why::explain;
+use tpw_debug::SourceText;
+use tpw_why::{explain, judge};
 
 /// How many words the worker's loop moves on by one place.
 const MOVED: u16 = 464;
@@ -60,10 +60,11 @@ fn local(function: u8, word: u16) -> [u8; 3] {
 fn explains_a_late_refusal(rt: HostRuntime) {
     let image = moving(&rt, rt.alloc());
     let mut output = Vec::new(rt.alloc());
-    let answer = explain(rt.alloc(), &image, SourceText::NONE, &mut output);
-    let is_accepted = unwrap(&rt, answer.map_err(|_| "no answer"));
+    let verdict = unwrap(&rt, judge(rt.alloc(), &image).map_err(|_| "no verdict"));
+    let written = explain(rt.alloc(), &image, &verdict, SourceText::NONE, &mut output);
+    unwrap(&rt, written.map_err(|_| "no answer"));
     let text = unwrap(&rt, str::from_utf8(&output).map_err(|_| "no text"));
-    assert!(rt; !is_accepted);
+    assert!(rt; !verdict.is_accepted());
     assert!(rt; text.starts_with("NO S3 8188\n"));
     assert!(rt;
         text.contains("\nfound    in pass 464, on the edge Next of the instruction at 8188\n")

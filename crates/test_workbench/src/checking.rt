@@ -7,9 +7,9 @@ use std::process::Abort;
 use std::sync::Wait;
 use std::thread::Threads;
 use std::time::Clock;
-use tp_accept::accept;
-use tpw_files::Input;
+use tp_accept::{Accepted, accept};
 use tpw_inputs::read_occam;
+use tpw_occam_core::Worker;
 use tpw_running::Checking;
 use tpw_runs::{Notation, Progress, Style, packets_of, run_on_members};
 
@@ -66,20 +66,26 @@ const OTHERS: &str = "\
   trace
 ";
 
+/// The worker that a text is compiled to, accepted.
+fn accepted(rt: &impl Abort, alloc: Global, text: &str) -> Accepted {
+    let read = unwrap(rt, read_occam(alloc, text.as_bytes()));
+    let bytes = unwrap(rt, read.image_bytes(alloc));
+    unwrap(rt, accept(alloc, bytes))
+}
+
+/// The core of a text, which has its meaning.
+fn meaning_of(rt: &impl Abort, alloc: Global, text: &str) -> Worker {
+    let read = unwrap(rt, read_occam(alloc, text.as_bytes()));
+    read.compiled.worker
+}
+
 /// What a check of the runs of a text's worker by another text's meaning writes, and the packets that it finds.
 fn checked<T>(rt: &T, alloc: Global, text: &str, other: &str) -> (Vec<u8>, Vec<usize>)
 where
     T: Threads + Wait + Clock + Eprint + Sync + Abort,
 {
-    let mut errors = Vec::new(alloc);
-    let ran = read_occam(alloc, &mut errors, &Input::Standard, text.as_bytes());
-    let bytes = unwrap(
-        rt,
-        unwrap(rt, ran).assembled(alloc, &mut errors, &Input::Standard),
-    );
-    let image = unwrap(rt, accept(alloc, bytes));
-    let meant = read_occam(alloc, &mut errors, &Input::Standard, other.as_bytes());
-    let worker = unwrap(rt, meant).compiled.worker;
+    let image = accepted(rt, alloc, text);
+    let worker = meaning_of(rt, alloc, other);
     let bytes = image.packet_bytes();
     let packets = packets_of(alloc, "0\n2\n3\n65\n", bytes, Notation::Words);
     let packets = unwrap(rt, packets);

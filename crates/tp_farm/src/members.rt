@@ -1,8 +1,9 @@
 //! The members of a batch, each in a thread of its own.
 
-ghost use Rattle.std.specs.Prelude.{◌≡◌, ◌≤◌, ◌+◌, ◌++◌, ◌∷◌, [], true, map, IfSome, IfOk, IfErr, All, vec_len};
-ghost use Rattle.std.specs.Prelude.{vec_capacity};
+ghost use Rattle.std.specs.Prelude.{◌≡◌, ◌≤◌, ◌+◌, ◌++◌, ◌∷◌, [], true, List, map, IfSome, IfOk, IfErr, All};
+ghost use Rattle.std.specs.Prelude.{vec_len, vec_capacity};
 ghost use Rattle.std.specs.List.{AllZip};
+ghost use Rattle.tp_link.specs.declared.links.Links.{Links};
 ghost use Rattle.tp_stream.specs.Streams.{IsFeederOf};
 ghost use Rattle.tp_farm.specs.Feeding.{HasOnlyFed, HasEnded};
 ghost use Rattle.tp_farm.specs.Refused.{IsEnvironmental};
@@ -91,6 +92,8 @@ fn start_all<'s, 'e, R: Wait + Sync, D: LinkDevice + Send + 'e, G: Gate>(
     requires fresh { All (IsFresh shared.now.stream.now) hands.items }
     requires hands { vec_len hands ≡ vec_len all }
     requires members { vec_len all ≤ 64 }
+    ensures first { IfOk result
+        (λ s. (rest : List (Links D)) × (map (λ h. h.promise.before.value) s.handles.items ++ rest ≡ all.items)) }
     ensures before { IfOk result
         (λ s. s.all_started ≡ true → map (λ h. h.promise.before.value) s.handles.items ≡ all.items) }
     ensures shared { IfOk result (λ s. All (λ h. h.promise.shared.now ≡ shared.now) s.handles.items) }

@@ -47,10 +47,10 @@ module _ (alone : AllowedAlone) where
   in_time image budget is_stated packet is (Some run) outcome =
       let ends = never_goes_wrong image budget (alone is_stated.0 image budget is_stated.1.0 is_stated.1.1) packet is in
       let same = one_run image packet ends.run (run_of_parts run.result run.error run.steps run.trace) ends.alone outcome.0 in
-      record { is = outcome; budget = budget; is_stated = is_stated; ends = ends; steps = subst (λ (r : Run). r.steps ≤ budget) same ends.within }
+      record { is = outcome; whole = is; budget = budget; is_stated = is_stated; ends = ends; steps = subst (λ (r : Run). r.steps ≤ budget) same ends.within }
   in_time image budget is_stated packet is None outcome =
       let ends = never_goes_wrong image budget (alone is_stated.0 image budget is_stated.1.0 is_stated.1.1) packet is in
-      record { is = outcome; budget = budget; is_stated = is_stated; ends = ends; steps = tt }
+      record { is = outcome; whole = is; budget = budget; is_stated = is_stated; ends = ends; steps = tt }
 
   all_in_time : (image : ImageValue) (budget : ℕ) → IsBudgetOf image budget → (packets : List (List ℕ)) (os : List (Option RunResult))
       → AllByRecursion (IsPacket image) packets → AllZip (IsOutcome image) packets os → AllZip (IsOutcomeInTime image) packets os

@@ -17,6 +17,7 @@ use Rattle.tpw_asm.specs.declared.program.Loop.{Loop}
 use Rattle.tpw_asm.specs.declared.fault.LineFault.{LineFault}
 use Rattle.tpw_asm.specs.Faults.{line_fault, first_fault, is_row_behind, first_row, is_stated, first_narrow, AreSound}
 use Rattle.tpw_asm.specs.declared.program.Program.{Program}
+use Rattle.tpw_asm.specs.declared.assembling.Assembled.{Assembled}
 use Rattle.tpw_asm.specs.declared.fault.AssemblyFault.{AssemblyFault}
 use Rattle.tpw_asm.specs.declared.fault.AssemblyFault.TheVariants.{Line as LineRefused, Row, TooLong, Narrow, Field, Memory}
 use Rattle.tpw_asm.specs.Layout.{addresses_from, spelled_from, spellings, code_of, IsLayout, IsLeastLayout}
@@ -58,9 +59,10 @@ assembly_refused program image (Field code) is refusal =
     cc
 assembly_refused program image Memory is refusal = refl
 
-pub assembly_only : (program : Program) (r : Result ImageValue AssemblyFault) → IfOk r (λ image. IsAssembly program image) → IfErr r (λ e. IsRefused program e)
-    → (image : ImageValue) → IsAssembly program image → MatchResult r (λ found. found ≡ image) (λ e. e ≡ Memory)
-assembly_only program (Ok found) ok err image is = one_assembly program found image ok is
+pub assembly_only : (program : Program) (r : Result Assembled AssemblyFault) → IfOk r (λ made. IsAssembly program made.image)
+    → IfErr r (λ e. IsRefused program e) → (image : ImageValue) → IsAssembly program image
+    → MatchResult r (λ made. made.image ≡ image) (λ e. e ≡ Memory)
+assembly_only program (Ok made) ok err image is = one_assembly program made.image image ok is
 assembly_only program (Err e) ok err image is = assembly_refused program image e is err
 
 pub length-concat : (xss : List (List ℕ)) → length (concat xss) ≡ sum (map length xss)

@@ -36,9 +36,18 @@ pub fn addresses(alloc: Global, program: &Program) -> Result<Vec<u32>, AssemblyF
     Ok(layout_of(alloc, program)?.addresses)
 }
 
-/// The image of a program.
-fn assembly_of(alloc: Global, program: &Program) -> Result<Image, AssemblyFault>
-    ensures image { IfOk result (λ image. IsAssembly program.now image) }
+/// A program, assembled.
+#[derive(Drop)]
+pub struct Assembled {
+    pub image: Image,
+    /// The address of each place of the program: one more than there are lines.
+    pub addresses: Vec<u32>,
+}
+
+/// A program, assembled.
+fn assembly_of(alloc: Global, program: &Program) -> Result<Assembled, AssemblyFault>
+    ensures image { IfOk result (λ made. IsAssembly program.now made.image) }
+    ensures addresses { IfOk result (λ made. AreItsAddresses program.now made.addresses.items) }
     ensures refused { IfErr result (λ fault. IsRefused program.now fault) }
 {
     let layout = layout_of(alloc, program)?;
@@ -55,21 +64,26 @@ fn assembly_of(alloc: Global, program: &Program) -> Result<Image, AssemblyFault>
         code,
     };
     match Image::new(fields) {
-        Ok(image) => Ok(image),
+        Ok(image) => Ok(Assembled {
+            image,
+            addresses: layout.addresses,
+        }),
         Err(ImageFault::Refused { code, .. }) => Err(AssemblyFault::Field(code)),
         Err(ImageFault::Memory) => Err(AssemblyFault::Memory),
     }
 }
 
-/// The image of a program, or the first fault. Its instructions are those of the lines, one by one: each in its
-/// canonical spelling where no other length is stated, and a jump to a label with the distance to the label's address.
-/// Its rows are those of the loops. Of all layouts for which this holds, it has the least.
-pub fn assemble(alloc: Global, program: &Program) -> Result<Image, AssemblyFault>
-    ensures image { IfOk result (λ image. IsAssembly program.now image) }
+/// The image of a program with the addresses of its places, or the first fault. Its instructions are those of the
+/// lines, one by one: each in its canonical spelling where no other length is stated, and a jump to a label with the
+/// distance to the label's address. Its rows are those of the loops. Of all layouts for which this holds, it has the
+/// least.
+pub fn assemble(alloc: Global, program: &Program) -> Result<Assembled, AssemblyFault>
+    ensures image { IfOk result (λ made. IsAssembly program.now made.image) }
+    ensures addresses { IfOk result (λ made. AreItsAddresses program.now made.addresses.items) }
     ensures refused { IfErr result (λ fault. IsRefused program.now fault) }
     // A program has no other image, and one that is refused has none.
     ensures only { (image : ImageValue) → IsAssembly program.now image
-        → MatchResult result (λ found. found ≡ image) (λ fault. fault ≡ AssemblyFault.Memory) }
+        → MatchResult result (λ made. made.image ≡ image) (λ fault. fault ≡ AssemblyFault.Memory) }
 {
     assembly_of(alloc, program)
 }

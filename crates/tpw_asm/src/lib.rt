@@ -15,7 +15,7 @@ mod placing;
 mod program;
 mod rows;
 
-pub use assembling::{addresses, assemble};
+pub use assembling::{Assembled, addresses, assemble};
 pub use disassembling::disassemble;
 pub use fault::{AssemblyFault, LineFault};
 pub use program::{Line, Loop, Operation, Program, Spot};

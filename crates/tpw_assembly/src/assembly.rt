@@ -1,13 +1,15 @@
 //! The images of programs that assembly texts say.
 
 ghost use Rattle.std.specs.Prelude.{◌≡◌, IfOk, IfErr};
+ghost use Rattle.tp_image.specs.Text.{text as image_text};
+ghost use Rattle.tpw_asm.specs.Assembly.{AreItsAddresses};
 ghost use Rattle.tpw_files.specs.Failures.{of_assembly};
 ghost use Rattle.tpw_assembly.specs.Programs.{AreImageOf, IsRefusalOf, IsAssembledTo, IsUnassembled};
 
 use crate::fields::assembled_text;
 use std::alloc::Global;
-use tp_image::write_image;
-use tpw_asm::{AssemblyFault, assemble};
+use tp_image::{ImageFault, write_image};
+use tpw_asm::{Assembled, AssemblyFault, assemble};
 use tpw_files::{Failure, InputFault, text_of};
 use tpw_text::{Position, Source, read_source};
 
@@ -31,20 +33,42 @@ fn failure_of(fault: AssemblyFault, positions: &[Position]) -> Failure
     }
 }
 
+/// The bytes of a program's image, and the addresses of its places.
+#[derive(Drop)]
+pub struct Encoded {
+    pub bytes: Vec<u8>,
+    pub addresses: Vec<u32>,
+}
+
+impl Encoded {
+    /// Those of a program that is assembled.
+    pub fn of(alloc: Global, made: Assembled) -> Result<Encoded, ImageFault>
+        ensures bytes { IfOk result (λ encoded. encoded.bytes.items ≡ image_text made.image) }
+        ensures addresses { IfOk result (λ encoded. encoded.addresses ≡ made.addresses) }
+        ensures memory { IfErr result (λ fault. fault ≡ ImageFault.Memory) }
+    {
+        Ok(Encoded {
+            bytes: write_image(alloc, &made.image)?,
+            addresses: made.addresses,
+        })
+    }
+}
+
 /// The bytes of the image of a program that a text says.
-pub fn assembled(alloc: Global, source: &Source<'_>) -> Result<Vec<u8>, Failure>
-    ensures image { IfOk result (λ bytes. AreImageOf source.now.program bytes.items) }
+pub fn assembled(alloc: Global, source: &Source<'_>) -> Result<Encoded, Failure>
+    ensures image { IfOk result (λ made. AreImageOf source.now.program made.bytes.items) }
+    ensures addresses { IfOk result (λ made. AreItsAddresses source.now.program made.addresses.items) }
     ensures refused { IfErr result (λ e. IsRefusalOf source.now e) }
 {
     match assemble(alloc, &source.program) {
-        Ok(image) => Ok(write_image(alloc, &image)?),
+        Ok(made) => Ok(Encoded::of(alloc, made)?),
         Err(fault) => Err(failure_of(fault, &source.positions)),
     }
 }
 
 /// The bytes of the image that an assembly text says.
-pub fn assembled_from(alloc: Global, text: &[u8]) -> Result<Vec<u8>, Failure>
-    ensures image { IfOk result (λ bytes. IsAssembledTo text.now bytes.items) }
+pub fn assembled_from(alloc: Global, text: &[u8]) -> Result<Encoded, Failure>
+    ensures image { IfOk result (λ made. IsAssembledTo text.now made.bytes.items) }
     ensures refused { IfErr result (IsUnassembled text.now) }
 {
     let text = text_of(text)?;

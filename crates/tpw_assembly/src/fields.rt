@@ -2,9 +2,10 @@
 
 ghost use Rattle.std.specs.Prelude.{◌≡◌, ◌⊎◌, IfOk, IfErr};
 ghost use Rattle.tpw_files.specs.declared.failure.Failure.TheVariants as failure;
+ghost use Rattle.tpw_asm.specs.Assembly.{AreItsAddresses};
 ghost use Rattle.tpw_assembly.specs.Programs.{AreImageOf, IsAtStatement, IsRefusalIn};
 
-use crate::assembly::assembled;
+use crate::assembly::{Encoded, assembled};
 use std::alloc::Global;
 use tp_image::{ImageCode, Version};
 use tpw_asm::{AssemblyFault, Program};
@@ -55,7 +56,7 @@ fn position_of(alloc: Global, text: &str, word: &str) -> Result<Option<Position>
     Ok(found)
 }
 
-/// What is said of a text without code.
+/// The message for a text without code.
 const NO_CODE: &str = "the text has no instruction";
 
 /// The statement that makes a workspace large that none states: `start` where it is beyond any by itself, else `local`.
@@ -101,12 +102,13 @@ fn at_statement(
 
 /// The bytes of the image of a program that a text says. A field that is out of range is reported at the statement that
 /// says it.
-pub fn assembled_text(alloc: Global, text: &str, source: &Source<'_>) -> Result<Vec<u8>, Failure>
-    ensures image { IfOk result (λ bytes. AreImageOf source.now.program bytes.items) }
+pub fn assembled_text(alloc: Global, text: &str, source: &Source<'_>) -> Result<Encoded, Failure>
+    ensures image { IfOk result (λ made. AreImageOf source.now.program made.bytes.items) }
+    ensures addresses { IfOk result (λ made. AreItsAddresses source.now.program made.addresses.items) }
     ensures refused { IfErr result (IsRefusalIn source.now) }
 {
     match assembled(alloc, source) {
-        Ok(bytes) => Ok(bytes),
+        Ok(made) => Ok(made),
         Err(failure) => Err(at_statement(alloc, text, &source.program, failure)?),
     }
 }

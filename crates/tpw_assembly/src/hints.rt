@@ -1,157 +1,86 @@
-//! What is expected where a text has a fault, and which name may be meant.
+//! The form that is expected where a text has a fault, and remedies.
 
-use crate::near::nearest;
 use crate::reports::{line_of, word_at};
 use std::alloc::{AllocError, Global};
+use tp_decode::{FUNCTIONS, Instr, OPERATIONS};
 use tpw_text::{SourceFault, TextFault};
 
-/// What helps beside the message of a fault.
-#[derive(Clone, Copy)]
-pub struct Hint<'a> {
-    pub expected: Option<&'a str>,
-    pub help: Option<&'a str>,
-    pub nearest: Option<&'a str>,
-}
-
-impl Hint<'static> {
-    /// Nothing.
-    pub const NONE: Hint<'static> = Hint {
-        expected: None,
-        help: None,
-        nearest: None,
-    };
-}
-
-/// The first words of statements.
-const FIRST_WORDS: [&str; 58] = [
-    "packet",
-    "result",
-    "start",
-    "workspace",
-    "version",
-    "init",
-    "const",
-    "worker",
-    "local",
-    "receive",
-    "send",
-    "trace",
-    "load",
-    "store",
-    "for",
-    "end",
-    "byte",
-    "loop",
-    "j",
-    "ldlp",
-    "ldnl",
-    "ldc",
-    "ldnlp",
-    "ldl",
-    "adc",
-    "cj",
-    "ajw",
-    "eqc",
-    "stl",
-    "stnl",
-    "rev",
-    "lb",
-    "bsub",
-    "diff",
-    "add",
-    "in",
-    "prod",
-    "gt",
-    "wsub",
-    "out",
-    "sub",
-    "seterr",
-    "csub0",
-    "stopp",
-    "rem",
-    "lend",
-    "div",
-    "not",
-    "xor",
-    "sb",
-    "shr",
-    "shl",
-    "mint",
-    "and",
-    "move",
-    "or",
-    "sum",
-    "mul",
+/// How the statement of each keyword is written.
+const FORMS: [(&str, &str); 18] = [
+    ("packet", "packet N"),
+    ("result", "result N"),
+    ("start", "start N"),
+    ("workspace", "workspace N"),
+    ("version", "version 1 or version 2"),
+    ("init", "init WORD: VALUE, VALUE or init NAME: VALUE, VALUE"),
+    ("const", "const NAME = VALUE"),
+    ("worker", "worker NAME"),
+    ("local", "local NAME, NAME[SIZE]"),
+    ("receive", "receive NAME"),
+    ("send", "send NAME"),
+    ("trace", "trace NAME"),
+    ("load", "load NAME[INDEX], with a local as its INDEX"),
+    ("store", "store NAME[INDEX], with a local as its INDEX"),
+    ("for", "for NAME = START for COUNT"),
+    ("end", "end NAME"),
+    ("byte", "byte N, N"),
+    (
+        "loop",
+        "loop head SPOT lend SPOT control WORD turns N start N",
+    ),
 ];
 
-/// How the statement of each is written.
-const FORMS: [&str; 58] = [
-    "packet N",
-    "result N",
-    "start N",
-    "workspace N",
-    "version 1 or version 2",
-    "init WORD: VALUE, VALUE or init NAME: VALUE, VALUE",
-    "const NAME = VALUE",
-    "worker NAME",
-    "local NAME, NAME[SIZE]",
-    "receive NAME",
-    "send NAME",
-    "trace NAME",
-    "load NAME[INDEX], with a local as its INDEX",
-    "store NAME[INDEX], with a local as its INDEX",
-    "for NAME = START for COUNT",
-    "end NAME",
-    "byte N, N",
-    "loop head SPOT lend SPOT control WORD turns N start N",
-    "j LABEL",
-    "ldlp N, ldlp NAME or ldlp NAME + N",
-    "ldnl N",
-    "ldc N or ldc LABEL - LABEL",
-    "ldnlp N",
-    "ldl N, ldl NAME or ldl NAME + N",
-    "adc N",
-    "cj LABEL",
-    "ajw N",
-    "eqc N",
-    "stl N, stl NAME or stl NAME + N",
-    "stnl N",
-    "rev, without an operand",
-    "lb, without an operand",
-    "bsub, without an operand",
-    "diff, without an operand",
-    "add, without an operand",
-    "in, without an operand",
-    "prod, without an operand",
-    "gt, without an operand",
-    "wsub, without an operand",
-    "out, without an operand",
-    "sub, without an operand",
-    "seterr, without an operand",
-    "csub0, without an operand",
-    "stopp, without an operand",
-    "rem, without an operand",
-    "lend, without an operand",
-    "div, without an operand",
-    "not, without an operand",
-    "xor, without an operand",
-    "sb, without an operand",
-    "shr, without an operand",
-    "shl, without an operand",
-    "mint, without an operand",
-    "and, without an operand",
-    "move, without an operand",
-    "or, without an operand",
-    "sum, without an operand",
-    "mul, without an operand",
-];
+/// How the statement of a keyword is written.
+fn form_of_keyword(word: &str) -> Option<&'static str> {
+    FORMS
+        .iter()
+        .find(|(keyword, _)| word.eq_ignore_ascii_case(*keyword))
+        .map(|(_, form)| *form)
+}
+
+/// The instruction of a name, at the operand 0.
+fn instr_named(instrs: &[Instr], word: &str) -> Option<Instr> {
+    instrs
+        .iter()
+        .copied()
+        .find(|instr| word.eq_ignore_ascii_case(instr.name()))
+}
+
+/// How an instruction with an operand of its own is written.
+fn form_of_function(alloc: Global, instr: Instr) -> Result<String, AllocError> {
+    let name = instr.name();
+    match instr {
+        Instr::Jump(_) | Instr::Cj(_) => format!(in alloc; "{name} LABEL"),
+        Instr::Ldc(_) => format!(in alloc; "{name} N or {name} LABEL - LABEL"),
+        Instr::Ldl(_) | Instr::Stl(_) | Instr::Ldlp(_) => {
+            format!(in alloc; "{name} N, {name} NAME or {name} NAME + N")
+        }
+        _ => format!(in alloc; "{name} N"),
+    }
+}
 
 /// How a statement is written that begins with a word, if one does.
-fn form_of(word: &str) -> Option<&'static str> {
-    let number = FIRST_WORDS
-        .iter()
-        .position(|first| word.eq_ignore_ascii_case(*first))?;
-    FORMS.get(number).copied()
+fn form_of(alloc: Global, word: &str) -> Result<Option<String>, AllocError> {
+    if let Some(form) = form_of_keyword(word) {
+        return Ok(Some(String::from_str(alloc, form)?));
+    }
+    if let Some(instr) = instr_named(&FUNCTIONS, word) {
+        return Ok(Some(form_of_function(alloc, instr)?));
+    }
+    match instr_named(&OPERATIONS, word) {
+        Some(instr) => {
+            let name = instr.name();
+            Ok(Some(format!(in alloc; "{name}, without an operand")?))
+        }
+        None => Ok(None),
+    }
+}
+
+/// Whether a statement begins with a word.
+fn is_first_word(word: &str) -> bool {
+    form_of_keyword(word).is_some()
+        || instr_named(&FUNCTIONS, word).is_some()
+        || instr_named(&OPERATIONS, word).is_some()
 }
 
 /// The statement of a line: what is behind its label.
@@ -163,11 +92,14 @@ fn statement_in(line: &str) -> &str {
 }
 
 /// How the statement of a line is written.
-fn form_in(line: &str) -> Option<&'static str> {
-    form_of(word_at(statement_in(line), 1)).or(form_of(word_at(line.trim_ascii_start(), 1)))
+fn form_in(alloc: Global, line: &str) -> Result<Option<String>, AllocError> {
+    match form_of(alloc, word_at(statement_in(line), 1))? {
+        Some(form) => Ok(Some(form)),
+        None => form_of(alloc, word_at(line.trim_ascii_start(), 1)),
+    }
 }
 
-/// What is said of the first word of a statement that is no instruction.
+/// A remedy where the first word of a statement is no instruction.
 fn of_unknown(line: &str, fault: SourceFault) -> Option<&'static str> {
     let word = word_at(line, fault.column);
     if fault.line == 1 && (line.starts_with("YES ") || line.starts_with("NO ")) {
@@ -183,13 +115,13 @@ fn of_unknown(line: &str, fault: SourceFault) -> Option<&'static str> {
         .get(fault.column.saturating_sub(1)..)
         .and_then(|rest| rest.strip_prefix(word))
         .unwrap_or("");
-    if form_of(word_at(behind.trim_ascii_start(), 1)).is_some() {
+    if is_first_word(word_at(behind.trim_ascii_start(), 1)) {
         return Some("a label has a colon behind it");
     }
     None
 }
 
-/// What is said of a name that nothing has.
+/// A remedy where nothing has a name.
 fn of_name(word: &str) -> Option<&'static str> {
     if word.starts_with('\'') || word.starts_with('"') {
         return Some("there are no characters: write the number, as 97 for an a");
@@ -200,7 +132,7 @@ fn of_name(word: &str) -> Option<&'static str> {
     None
 }
 
-/// What is expected at a field that is settled.
+/// A remedy where a field is settled.
 fn of_settled(line: &str) -> Option<&'static str> {
     let word = word_at(statement_in(line), 1);
     if word.eq_ignore_ascii_case("packet") {
@@ -214,17 +146,17 @@ fn of_settled(line: &str) -> Option<&'static str> {
     }
 }
 
-/// What is said where a number is out of range.
+/// The form that is expected where a number is out of range.
 fn of_range(line: &str) -> Option<&'static str> {
     let word = word_at(statement_in(line), 1);
     if word.eq_ignore_ascii_case("version") {
-        form_of(word)
+        form_of_keyword(word)
     } else {
         None
     }
 }
 
-/// What is expected where a number is wanted.
+/// The form that is expected where a number is wanted.
 fn of_number(line: &str) -> Option<&'static str> {
     if word_at(statement_in(line), 1).eq_ignore_ascii_case("for") {
         Some("a constant: turns are known before the loop runs")
@@ -233,64 +165,36 @@ fn of_number(line: &str) -> Option<&'static str> {
     }
 }
 
-/// What is expected, and what helps, at a word of a line that has a fault.
-fn help_of(
-    line: &str,
-    word: &str,
-    fault: SourceFault,
-) -> (Option<&'static str>, Option<&'static str>) {
-    match fault.fault {
-        TextFault::Unknown => (None, of_unknown(line, fault)),
-        TextFault::Missing | TextFault::Unexpected | TextFault::Extra => (form_in(line), None),
-        TextFault::NoNumber => (of_number(line), of_name(word)),
-        TextFault::NoLocal | TextFault::NoLabel | TextFault::NoLoop => (None, of_name(word)),
-        TextFault::Settled => (None, of_settled(line)),
-        TextFault::OutOfRange => (of_range(line), None),
-        _ => (None, None),
-    }
-}
-
-/// The first word of a statement that is nearest to a word.
-fn nearest_form(alloc: Global, word: &str) -> Result<Option<&'static str>, AllocError> {
-    let word = word.to_ascii_lowercase(alloc)?;
-    nearest(alloc, word.as_str(), &FIRST_WORDS)
-}
-
-/// The name that is near to a word that has a fault, of some names, or of the first words of statements.
-fn near_to<'a>(
-    alloc: Global,
-    word: &str,
-    fault: TextFault,
-    names: &[&'a str],
-) -> Result<Option<&'a str>, AllocError> {
-    match fault {
-        TextFault::Unknown => nearest_form(alloc, word),
-        TextFault::NoNumber | TextFault::NoLocal | TextFault::NoLabel | TextFault::NoLoop => {
-            nearest(alloc, word, names)
-        }
-        _ => Ok(None),
-    }
-}
-
-/// What helps against a fault of a text that gives some names.
-pub fn hint_of<'a>(
+/// The form that is expected at a fault of a text.
+pub fn expected_at(
     alloc: Global,
     text: &str,
     fault: SourceFault,
-    names: &[&'a str],
-) -> Result<Hint<'a>, AllocError> {
+) -> Result<Option<String>, AllocError> {
     let line = line_of(text, fault.line);
-    let word = word_at(line, fault.column);
-    let (expected, help) = help_of(line, word, fault);
-    let near = near_to(alloc, word, fault.fault, names)?;
-    // Where help is given, or the name itself is of another kind, no name is near.
-    let nearest = match (help, near) {
-        (None, Some(name)) if name != word => Some(name),
+    let said = match fault.fault {
+        TextFault::Missing | TextFault::Unexpected | TextFault::Extra => {
+            return form_in(alloc, line);
+        }
+        TextFault::NoNumber => of_number(line),
+        TextFault::OutOfRange => of_range(line),
         _ => None,
     };
-    Ok(Hint {
-        expected,
-        help,
-        nearest,
-    })
+    match said {
+        Some(said) => Ok(Some(String::from_str(alloc, said)?)),
+        None => Ok(None),
+    }
+}
+
+/// A remedy for a fault of a text.
+pub fn help_at(text: &str, fault: SourceFault) -> Option<&'static str> {
+    let line = line_of(text, fault.line);
+    match fault.fault {
+        TextFault::Unknown => of_unknown(line, fault),
+        TextFault::NoNumber | TextFault::NoLocal | TextFault::NoLabel | TextFault::NoLoop => {
+            of_name(word_at(line, fault.column))
+        }
+        TextFault::Settled => of_settled(line),
+        _ => None,
+    }
 }

@@ -1,14 +1,10 @@
-//! Faults of a text, reported: all that it has, each with its line.
+//! Faults of a text as diagnostics: all that it has.
 
-use crate::hints::{Hint, hint_of};
+use crate::hints::{expected_at, help_at};
 use std::alloc::{AllocError, Global};
-use std::io::Write;
-use tpw_files::{Failure, Input, InputFault};
-use tpw_source::{Reported, Spot, write_report};
+use tpw_debug::{Diagnostic, MAX_DIAGNOSTICS, Severity, Span};
+use tpw_files::{Failure, InputFault};
 use tpw_text::{Position, SourceFault, TextFault, read_source};
-
-/// The most faults of a text that are reported.
-const MAX_FAULTS: usize = 20;
 
 /// How often a text is read for its faults, each time without the lines of those before.
 const MAX_READS: usize = 60;
@@ -70,32 +66,17 @@ fn is_caused(text: &str, left_out: &[usize], fault: SourceFault) -> bool {
             .any(|number| has_word(line_of(text, *number), word))
 }
 
-/// Writes a message at a place of a text, and the line there.
-fn write_at<E: Write>(
-    errors: &mut E,
-    name: &str,
-    text: &str,
-    position: Position,
-    message: &str,
-    hint: Hint<'_>,
-) {
+/// The word at a place of a text.
+fn span_of(text: &str, position: Position) -> Span {
     let Position { line, column } = position;
-    let width = word_at(line_of(text, line), column).len();
-    let fault = Reported {
-        spot: Spot {
-            line,
-            column,
-            width,
-        },
-        message,
-        expected: hint.expected,
-        help: hint.help,
-        nearest: hint.nearest,
-    };
-    let _ = write_report(name, text, &fault, errors);
+    Span {
+        line,
+        column,
+        width: word_at(line_of(text, line), column).len(),
+    }
 }
 
-/// What is said of a fault of a text: the word at its place, and where a name that is given twice was given before.
+/// The message of a fault: with the word at its place, and the line above that gives a name given twice.
 fn message_of(alloc: Global, text: &str, fault: SourceFault) -> Result<String, AllocError> {
     let kind = fault.fault;
     let word = word_at(line_of(text, fault.line), fault.column);
@@ -109,21 +90,17 @@ fn message_of(alloc: Global, text: &str, fault: SourceFault) -> Result<String, A
     }
 }
 
-/// Writes a fault of a text.
-fn write_fault<E: Write>(
-    alloc: Global,
-    errors: &mut E,
-    name: &str,
-    text: &str,
-    fault: SourceFault,
-) -> Result<(), AllocError> {
+/// A fault of a text.
+fn diagnostic_of(alloc: Global, text: &str, fault: SourceFault) -> Result<Diagnostic, AllocError> {
     let SourceFault { line, column, .. } = fault;
-    let message = message_of(alloc, text, fault)?;
-    let names = names_of(alloc, text)?;
-    let hint = hint_of(alloc, text, fault, &names)?;
-    let position = Position { line, column };
-    write_at(errors, name, text, position, message.as_str(), hint);
-    Ok(())
+    Ok(Diagnostic {
+        severity: Severity::Error,
+        span: span_of(text, Position { line, column }),
+        message: message_of(alloc, text, fault)?,
+        expected: expected_at(alloc, text, fault)?,
+        help: help_at(text, fault),
+        nearest: None,
+    })
 }
 
 /// Appends the names that a line gives: a label's, and those behind `local`, `const` and `for`.
@@ -173,15 +150,6 @@ fn line_giving(alloc: Global, text: &str, name: &str) -> Result<Option<usize>, A
     Ok(None)
 }
 
-/// The names that a text gives.
-fn names_of(alloc: Global, text: &str) -> Result<Vec<&str>, AllocError> {
-    let mut names = Vec::new(alloc);
-    for line in text.lines() {
-        push_names(&mut names, line)?;
-    }
-    Ok(names)
-}
-
 /// The next fault of a text, where some of its lines are left out.
 fn next_fault(
     alloc: Global,
@@ -202,55 +170,57 @@ fn next_fault(
     }
 }
 
-/// Writes the faults of a text, the first of which is known: of each line the first, but for those that come from
-/// another line's.
-fn write_faults<E: Write>(
-    alloc: Global,
-    errors: &mut E,
-    name: &str,
-    text: &str,
-    first: SourceFault,
-) -> Result<(), AllocError> {
+/// The faults of a text, the first of which is known: of each line the first, but for those that come from another
+/// line's.
+fn faults_of(alloc: Global, text: &str, first: SourceFault) -> Result<Vec<Diagnostic>, AllocError> {
     let mut left_out = Vec::new(alloc);
+    let mut found = Vec::new(alloc);
     let mut fault = first;
-    let mut reported = 0usize;
     for _ in 0..MAX_READS {
         if !is_caused(text, &left_out, fault) {
-            write_fault(alloc, errors, name, text, fault)?;
-            reported = reported.saturating_add(1);
+            found.push(diagnostic_of(alloc, text, fault)?)?;
         }
         left_out.push(fault.line)?;
-        if reported >= MAX_FAULTS || text.len() > MAX_BYTES {
-            return Ok(());
+        if found.len() >= MAX_DIAGNOSTICS || text.len() > MAX_BYTES {
+            return Ok(found);
         }
         match next_fault(alloc, text, &left_out)? {
             Some(next) => fault = next,
-            None => return Ok(()),
+            None => return Ok(found),
         }
     }
-    Ok(())
+    Ok(found)
 }
 
-/// Reports what is wrong with a text of a name, if it is at a place of it. Returns whether it is.
-fn write_placed<E: Write>(
+/// A message at a place of a text.
+fn at_place(
     alloc: Global,
-    errors: &mut E,
-    name: &str,
+    text: &str,
+    position: Position,
+    message: String,
+) -> Result<Option<Vec<Diagnostic>>, AllocError> {
+    let mut found = Vec::new(alloc);
+    found.push(Diagnostic::new(Severity::Error, span_of(text, position), message))?;
+    Ok(Some(found))
+}
+
+/// The diagnostics of a fault, if it is at places of the text.
+fn placed(
+    alloc: Global,
     text: &str,
     fault: &InputFault,
-) -> Result<bool, AllocError> {
+) -> Result<Option<Vec<Diagnostic>>, AllocError> {
     match fault {
-        InputFault::Source(first) => write_faults(alloc, errors, name, text, *first)?,
+        InputFault::Source(first) => Ok(Some(faults_of(alloc, text, *first)?)),
         InputFault::Line(position, wrong) => {
-            let message = format!(in alloc; "{wrong}")?;
-            write_at(errors, name, text, *position, message.as_str(), Hint::NONE);
+            at_place(alloc, text, *position, format!(in alloc; "{wrong}")?)
         }
         InputFault::Narrow(position) => {
-            let message = "its operand needs a longer spelling";
-            write_at(errors, name, text, *position, message, Hint::NONE);
+            let message = String::from_str(alloc, "its operand needs a longer spelling")?;
+            at_place(alloc, text, *position, message)
         }
         InputFault::Field(position, range) => {
-            write_at(errors, name, text, *position, range, Hint::NONE);
+            at_place(alloc, text, *position, String::from_str(alloc, range)?)
         }
         InputFault::Unread(_)
         | InputFault::Empty
@@ -261,29 +231,19 @@ fn write_placed<E: Write>(
         | InputFault::HalfAByte(_)
         | InputFault::Image(_)
         | InputFault::NotUtf8(_)
-        | InputFault::Assembly(_) => return Ok(false),
+        | InputFault::Assembly(_)
+        | InputFault::Compiler(_) => Ok(None),
     }
-    Ok(true)
 }
 
-/// Reports what is wrong with the text of an input. Returns the failure that is left to be reported.
-pub fn report_fault<E: Write>(
-    alloc: Global,
-    errors: &mut E,
-    input: &Input,
-    text: &[u8],
-    fault: InputFault,
-) -> Failure {
+/// The failure of a command whose input has a fault: diagnostics, where the fault is at places of the text.
+pub fn diagnosed(alloc: Global, text: &[u8], fault: InputFault) -> Failure {
     let Ok(text) = str::from_utf8(text) else {
         return Failure::Input(fault);
     };
-    let placed = match format!(in alloc; "{input}") {
-        Ok(name) => write_placed(alloc, errors, name.as_str(), text, &fault),
-        Err(_) => Err(AllocError),
-    };
-    match placed {
-        Ok(true) => Failure::Reported,
-        Ok(false) => Failure::Input(fault),
+    match placed(alloc, text, &fault) {
+        Ok(Some(diagnostics)) => Failure::Text(diagnostics),
+        Ok(None) => Failure::Input(fault),
         Err(_) => Failure::Memory,
     }
 }

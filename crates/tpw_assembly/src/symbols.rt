@@ -1,9 +1,8 @@
-//! What an assembly text says of its code, by address and by word.
+//! Debug information of an assembly text.
 
 use std::alloc::Global;
-use tpw_asm::addresses;
+use tpw_debug::{DebugInfo, Label, Named, Printable, Statement};
 use tpw_files::{Failure, Input};
-use tpw_source::{DebugInfo, Label, Named, Printable, Statement};
 use tpw_text::{Local, Position, Source, statement_of};
 
 /// The statements of a text, each at the address of an instruction that it says.
@@ -67,18 +66,18 @@ fn words_of<'a>(alloc: Global, source: &Source<'a>) -> Result<Vec<Named<'a>>, Fa
     Ok(words)
 }
 
-/// What the text of an input says of its code.
+/// Debug information of the text of an input, whose program has its places at these addresses.
 pub fn debug_info<'a>(
     alloc: Global,
     input: &Input,
     text: &'a str,
     source: &Source<'a>,
+    addresses: &[u32],
 ) -> Result<DebugInfo<'a>, Failure> {
-    let places = addresses(alloc, &source.program)?;
     Ok(DebugInfo {
         name: format!(in alloc; "{input}")?,
-        statements: statements_of(alloc, text, &source.positions, &places)?,
-        labels: labels_of(alloc, source, &places)?,
+        statements: statements_of(alloc, text, &source.positions, addresses)?,
+        labels: labels_of(alloc, source, addresses)?,
         words: words_of(alloc, source)?,
     })
 }

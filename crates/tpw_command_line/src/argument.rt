@@ -5,7 +5,7 @@ use std::alloc::Global;
 
 /// An argument of a command.
 pub(crate) struct Argument {
-    /// What it is found by; of an option also what it is given by, behind two hyphens.
+    /// The name that it is found by; of an option also the one that it is given by, behind two hyphens.
     pub(crate) name: &'static str,
     pub(crate) kind: Kind,
     pub(crate) help: &'static str,

@@ -1,10 +1,10 @@
-//! What is given for the arguments that several commands take.
+//! The values of arguments that several commands take.
 
-use crate::asking::{Asking, Expecting, PacketFile};
 use crate::ending::Ending;
 use crate::options::{EXPECT, HEX, HEX_EXPECT, HEX_PACKETS, MEMBERS, PACKETS, RAW, TRACE, WORDS};
+use crate::output_options::OutputOptions;
+use crate::packet_source::{Expecting, PacketFile, PacketSource};
 use crate::refusal::Refusal;
-use crate::showing::Showing;
 use clap::ArgMatches;
 use std::alloc::Global;
 use tpw_runs::{Notation, Style};
@@ -64,7 +64,7 @@ pub fn has_packets(matches: &ArgMatches<'_>) -> bool {
 }
 
 /// The packets that are asked for.
-pub fn asking(alloc: Global, matches: &ArgMatches<'_>) -> Result<Asking, Ending> {
+pub fn packet_source(alloc: Global, matches: &ArgMatches<'_>) -> Result<PacketSource, Ending> {
     let words = texts_given(alloc, matches, WORDS)?;
     let file = match text_given(alloc, matches, PACKETS)? {
         Some(name) => Some(PacketFile {
@@ -76,7 +76,7 @@ pub fn asking(alloc: Global, matches: &ArgMatches<'_>) -> Result<Asking, Ending>
     if words.is_empty() && file.is_none() {
         return Err(Ending::Refused(Refusal::NoPackets));
     }
-    Ok(Asking {
+    Ok(PacketSource {
         words,
         file,
         notation: notation(matches, HEX_PACKETS),
@@ -95,9 +95,9 @@ fn expecting(alloc: Global, matches: &ArgMatches<'_>) -> Result<Option<Expecting
 }
 
 /// The packets that are asked for, and how what is made of them is shown.
-pub fn showing(alloc: Global, matches: &ArgMatches<'_>) -> Result<Showing, Ending> {
-    Ok(Showing {
-        asking: asking(alloc, matches)?,
+pub fn output_options(alloc: Global, matches: &ArgMatches<'_>) -> Result<OutputOptions, Ending> {
+    Ok(OutputOptions {
+        source: packet_source(alloc, matches)?,
         expect: expecting(alloc, matches)?,
         style: Style {
             hexadecimal: matches.get_flag(HEX),

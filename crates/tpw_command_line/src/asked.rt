@@ -1,6 +1,6 @@
-//! What a command line asks for.
+//! The task of a command line.
 
-use crate::arguments::showing;
+use crate::arguments::output_options;
 use crate::assembler::{ASM, line_name};
 use crate::command_line::matches_of;
 use crate::disassembler::DIS;
@@ -9,18 +9,18 @@ use crate::evaluator::EVAL;
 use crate::explainer::WHY;
 use crate::lister::LIST;
 use crate::options::{FILE, IN_OCCAM};
-use crate::profiler::{PROFILE, Profiling, profiling_of};
+use crate::output_options::OutputOptions;
+use crate::profiler::{PROFILE, ProfileOptions, profiling_of};
 use crate::refusal::Refusal;
-use crate::runner::{RUN, Running, running_of};
-use crate::showing::Showing;
-use crate::stepper::{STEP, Stepping, stepping_of};
+use crate::runner::{RUN, RunOptions, running_of};
+use crate::stepper::{STEP, StepOptions, stepping_of};
 use crate::translator::OCCAM;
 use clap::ArgMatches;
 use std::alloc::Global;
 use std::convert::AsStr;
 use tpw_files::{Input, Language};
 
-/// What a command line asks for: a task, where its text is read, and what that is written in.
+/// The task of a command line, with where its text is read and the language of that.
 #[derive(Drop)]
 pub struct Asked {
     pub task: Task,
@@ -28,7 +28,7 @@ pub struct Asked {
     pub language: Language,
 }
 
-/// What is to be done with a text.
+/// A task on a text.
 #[derive(Drop)]
 pub enum Task {
     Work(Work),
@@ -36,8 +36,8 @@ pub enum Task {
     Assemble(Option<String>),
     /// An assembly text of one in occam.
     Translate,
-    /// What a text in occam means by packets.
-    Evaluate(Showing),
+    /// The meaning of packets by a text in occam.
+    Evaluate(OutputOptions),
     Disassemble,
 }
 
@@ -50,12 +50,12 @@ pub enum Report {
     List,
 }
 
-/// What is to be done with a worker.
+/// A task on a worker.
 #[derive(Drop)]
 pub enum Work {
-    Run(Running),
-    Profile(Profiling),
-    Step(Stepping),
+    Run(RunOptions),
+    Profile(ProfileOptions),
+    Step(StepOptions),
     /// The verdict on an image.
     Judge(Report),
 }
@@ -68,7 +68,7 @@ fn input_of(alloc: Global, matches: &ArgMatches<'_>) -> Result<Input, Ending> {
     }
 }
 
-/// What the worker of a command is written in, where it reads one.
+/// The language of the worker of a command, where it reads one.
 fn language_of(matches: &ArgMatches<'_>, task: &Task, input: &Input) -> Language {
     match task {
         Task::Translate | Task::Evaluate(_) => Language::Occam,
@@ -81,10 +81,10 @@ fn language_of(matches: &ArgMatches<'_>, task: &Task, input: &Input) -> Language
 /// Refuses a task with an input where standard input is named for more than one of them.
 fn check_standard(task: &Task, input: &Input) -> Result<(), Refusal> {
     let (packets, expected) = match task {
-        Task::Work(Work::Run(Running { showing, .. })) | Task::Evaluate(showing) => {
-            (showing.asking.is_standard(), showing.is_standard())
+        Task::Work(Work::Run(RunOptions { output, .. })) | Task::Evaluate(output) => {
+            (output.source.is_standard(), output.is_standard())
         }
-        Task::Work(Work::Profile(profiling)) => (profiling.asking.is_standard(), false),
+        Task::Work(Work::Profile(profiling)) => (profiling.source.is_standard(), false),
         Task::Work(Work::Step(stepping)) => (stepping.is_standard(), false),
         Task::Work(Work::Judge(_)) | Task::Assemble(_) | Task::Translate | Task::Disassemble => {
             (false, false)
@@ -107,7 +107,7 @@ fn check_language(task: &Task, language: Language) -> Result<(), Refusal> {
     }
 }
 
-/// What a command by its name is to do, with what is given for it.
+/// The task of a command by its name, with its arguments.
 fn task_of(alloc: Global, name: &str, matches: &ArgMatches<'_>) -> Result<Task, Ending> {
     Ok(match name {
         PROFILE => Task::Work(Work::Profile(profiling_of(alloc, matches)?)),
@@ -117,13 +117,13 @@ fn task_of(alloc: Global, name: &str, matches: &ArgMatches<'_>) -> Result<Task, 
         WHY => Task::Work(Work::Judge(Report::Why)),
         ASM => Task::Assemble(line_name(alloc, matches)?),
         OCCAM => Task::Translate,
-        EVAL => Task::Evaluate(showing(alloc, matches)?),
+        EVAL => Task::Evaluate(output_options(alloc, matches)?),
         DIS => Task::Disassemble,
         _ => return Err(Ending::Refused(Refusal::NoCommand)),
     })
 }
 
-/// What words ask for, the first of which names the program.
+/// The task that words ask for, the first of which names the program.
 pub fn asked_by<S: AsStr>(alloc: Global, words: &[S]) -> Result<Asked, Ending> {
     let matches = matches_of(alloc, words)?;
     let Some((name, found)) = matches.subcommand() else {

@@ -1,6 +1,6 @@
 //! The names of arguments and options, by which what they are given is found.
 
-/// What a command reads in place of standard input.
+/// The file that a command reads in place of standard input.
 pub(crate) const FILE: &str = "file";
 
 /// The worker is in occam.

@@ -1,8 +1,8 @@
 //! `profile`, as the command line has it, and what it is asked for.
 
-use crate::arguments::{asking, members};
-use crate::asking::Asking;
+use crate::arguments::{members, packet_source};
 use crate::ending::Ending;
+use crate::packet_source::PacketSource;
 use crate::shared::{
     FILE_ARGUMENT, HEX_PACKETS_ARGUMENT, MEMBERS_ARGUMENT, OCCAM_ARGUMENT, PACKETS_ARGUMENT,
     WORDS_ARGUMENT,
@@ -34,17 +34,17 @@ Status 0: each worker stopped. Status 1: not so, or what is read says no worker.
     ],
 };
 
-/// What `profile` is to count, and on how many members.
+/// The options of `profile`: the packets to be counted, and the members.
 #[derive(Drop)]
-pub struct Profiling {
-    pub asking: Asking,
+pub struct ProfileOptions {
+    pub source: PacketSource,
     pub members: usize,
 }
 
-/// What it is asked for.
-pub fn profiling_of(alloc: Global, matches: &ArgMatches<'_>) -> Result<Profiling, Ending> {
-    Ok(Profiling {
-        asking: asking(alloc, matches)?,
+/// The options that are given.
+pub fn profiling_of(alloc: Global, matches: &ArgMatches<'_>) -> Result<ProfileOptions, Ending> {
+    Ok(ProfileOptions {
+        source: packet_source(alloc, matches)?,
         members: members(matches),
     })
 }

@@ -3,7 +3,7 @@
 use thiserror::Error;
 use tpw_runs::PacketKind;
 
-/// What is wrong with a word that names no place.
+/// The fault of a word that names no place.
 #[derive(Clone, Copy, Debug, PartialEq, Eq, Error)]
 pub enum PlaceKind {
     #[error("it is no address, as 36 or 0x24, and no count of steps, as +100")]
@@ -16,7 +16,7 @@ pub enum PlaceKind {
     NoLabel,
 }
 
-/// What is wrong with a word that names no word of a workspace.
+/// The fault of a word that names no word of a workspace.
 #[derive(Clone, Copy, Debug, PartialEq, Eq, Error)]
 pub enum WatchKind {
     #[error("no local has this name")]

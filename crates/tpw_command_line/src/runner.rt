@@ -1,15 +1,15 @@
 //! `run`, as the command line has it, and what it is asked for.
 
 use crate::argument::{Argument, Kind};
-use crate::arguments::{members, showing};
+use crate::arguments::{members, output_options};
 use crate::ending::Ending;
 use crate::options::{CHECK, EXPECT, RAW};
+use crate::output_options::OutputOptions;
 use crate::shared::{
     EXPECT_ARGUMENT, FILE_ARGUMENT, HEX_ARGUMENT, HEX_EXPECT_ARGUMENT, HEX_PACKETS_ARGUMENT,
     MEMBERS_ARGUMENT, OCCAM_ARGUMENT, PACKETS_ARGUMENT, RAW_ARGUMENT, TRACE_ARGUMENT,
     WORDS_ARGUMENT,
 };
-use crate::showing::Showing;
 use crate::subcommand::Subcommand;
 use clap::ArgMatches;
 use std::alloc::Global;
@@ -51,19 +51,19 @@ so, or the worker is refused, as `why` explains it.",
     ],
 };
 
-/// What `run` is to run, and how.
+/// The options of `run`.
 #[derive(Drop)]
-pub struct Running {
-    pub showing: Showing,
+pub struct RunOptions {
+    pub output: OutputOptions,
     pub members: usize,
     /// Whether what is made of packets is compared with what the text means by them.
     pub check: bool,
 }
 
-/// What it is asked for.
-pub fn running_of(alloc: Global, matches: &ArgMatches<'_>) -> Result<Running, Ending> {
-    Ok(Running {
-        showing: showing(alloc, matches)?,
+/// The options that are given.
+pub fn running_of(alloc: Global, matches: &ArgMatches<'_>) -> Result<RunOptions, Ending> {
+    Ok(RunOptions {
+        output: output_options(alloc, matches)?,
         members: members(matches),
         check: matches.get_flag(CHECK),
     })

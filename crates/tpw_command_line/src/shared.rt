@@ -12,7 +12,7 @@ pub(crate) const FILE_ARGUMENT: Argument = Argument {
     help: "Read in place of standard input",
 };
 
-/// What a worker is written in.
+/// The language of a worker.
 pub(crate) const OCCAM_ARGUMENT: Argument = Argument {
     name: IN_OCCAM,
     kind: Kind::Flag,

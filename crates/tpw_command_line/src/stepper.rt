@@ -3,10 +3,10 @@
 ghost use Rattle.std.specs.Prelude.{◌≤◌};
 
 use crate::argument::{Argument, Kind};
-use crate::arguments::{asking, has_packets, text_given};
-use crate::asking::Asking;
+use crate::arguments::{has_packets, packet_source, text_given};
 use crate::ending::Ending;
 use crate::options::{FROM, HEX, NUMBER, UNTIL, WATCH};
+use crate::packet_source::PacketSource;
 use crate::refusal::Refusal;
 use crate::shared::{
     FILE_ARGUMENT, HEX_PACKETS_ARGUMENT, OCCAM_ARGUMENT, PACKETS_ARGUMENT, WORDS_ARGUMENT,
@@ -83,7 +83,7 @@ docs/WORKERS.md reads a run.",
 /// A packet of those that are asked for, by its number.
 #[derive(Drop)]
 pub struct Picked {
-    pub asking: Asking,
+    pub source: PacketSource,
     pub number: usize,
 }
 
@@ -97,7 +97,7 @@ impl Picked {
     ) -> Result<Vec<u8>, Ending>
         requires { bytes ≤ 256 }
     {
-        let packets = self.asking.packets(alloc, inputs, bytes)?;
+        let packets = self.source.packets(alloc, inputs, bytes)?;
         match packets.get(self.number) {
             Some(packet) => Ok(Vec::from_slice(alloc, packet)?),
             None => Err(Ending::Refused(Refusal::NoNumber(self.number, packets.len()))),
@@ -108,7 +108,7 @@ impl Picked {
 /// What `step` is to show: a packet's run, from the place that a word names and as far as another, and of it the
 /// changes of some words.
 #[derive(Drop)]
-pub struct Stepping {
+pub struct StepOptions {
     /// The packet, where one is given.
     pub packet: Option<Picked>,
     pub from: Option<String>,
@@ -117,16 +117,16 @@ pub struct Stepping {
     pub hexadecimal: bool,
 }
 
-impl Stepping {
+impl StepOptions {
     /// Whether the file of packets is standard input.
     pub fn is_standard(&self) -> bool {
         match &self.packet {
-            Some(picked) => picked.asking.is_standard(),
+            Some(picked) => picked.source.is_standard(),
             None => false,
         }
     }
 
-    /// The packet of so many bytes whose run is shown; an empty one where none is given.
+    /// The packet of `bytes` bytes whose run is shown; an empty one where none is given.
     pub fn packet<T: Files, R: Read>(
         &self,
         alloc: Global,
@@ -148,14 +148,14 @@ fn packet_given(alloc: Global, matches: &ArgMatches<'_>) -> Result<Option<Picked
         return Ok(None);
     }
     Ok(Some(Picked {
-        asking: asking(alloc, matches)?,
+        source: packet_source(alloc, matches)?,
         number: matches.get_one::<usize>(NUMBER).unwrap_or(0),
     }))
 }
 
-/// What it is asked for.
-pub fn stepping_of(alloc: Global, matches: &ArgMatches<'_>) -> Result<Stepping, Ending> {
-    Ok(Stepping {
+/// The options that are given.
+pub fn stepping_of(alloc: Global, matches: &ArgMatches<'_>) -> Result<StepOptions, Ending> {
+    Ok(StepOptions {
         packet: packet_given(alloc, matches)?,
         from: text_given(alloc, matches, FROM)?,
         until: text_given(alloc, matches, UNTIL)?,

@@ -7,9 +7,9 @@ use std::alloc::Global;
 /// A command of the program.
 pub(crate) struct Subcommand {
     pub(crate) name: &'static str,
-    /// What help says of it.
+    /// Its line of help.
     pub(crate) about: &'static str,
-    /// What help says below its arguments.
+    /// The text of help below its arguments.
     pub(crate) lines: &'static str,
     /// Its arguments, in the order of help.
     pub(crate) arguments: &'static [Argument],

@@ -37,8 +37,8 @@ pub fn assemble_text<W: Write>(
     ensures refused { IfErr result (λ e. (e ≡ failure.Write)
         ⊎ ((W.contents writer.new ≡ W.contents writer.old) × IsUnassembled text.now e)) }
 {
-    let image = assembled_from(alloc, text)?;
-    let line = image_line(alloc, image.as_slice(), name)?;
+    let made = assembled_from(alloc, text)?;
+    let line = image_line(alloc, made.bytes.as_slice(), name)?;
     write_line(writer, line.as_str())
 }
 

@@ -52,8 +52,8 @@ impl<W: Write> Write for Output<W> {
     }
 }
 
-/// What a command answers that has failed, beside why its output could not be written: that the reader of that has gone
-/// is no fault.
+/// The outcome of a command that has failed, beside why its output could not be written: that the reader of that has
+/// gone is no fault.
 pub fn settle(failure: Failure, fault: Option<io::Error>) -> Result<Outcome, Ending>
     ensures said { result ≡ settled fault failure }
     ensures status { status_by result ≤ 1 }

@@ -1,6 +1,6 @@
-//! What is asked for with a worker, done.
+//! The commands on a worker.
 
-ghost use Rattle.std.specs.Prelude.{◌≡◌, ◌≤◌, ◌*◌, All, IfOk, IfErr, length};
+ghost use Rattle.std.specs.Prelude.{◌≡◌, ◌≤◌, ◌*◌, All, IfOk, IfErr, IfSome, length};
 ghost use Rattle.tp_image.specs.Text.{IsTextOf};
 ghost use Rattle.tpw_command_line.specs.Endings.{status_of};
 ghost use Rattle.tpw_occam.specs.Compilation.{IsCompiled};
@@ -14,25 +14,27 @@ use std::time::Clock;
 use tp_accept::Accepted;
 use tp_image::layout::WORD_BYTES;
 use tpw_command_line::{
-    Asked, Asking, Ending, Profiling, Report, Running, Showing, Stepping, Work,
+    Asked, Ending, OutputOptions, PacketSource, ProfileOptions, Report, RunOptions, StepOptions,
+    Work,
 };
-use tpw_files::{Failure, Input, Inputs, Outcome, Terminal};
-use tpw_inputs::{Occam, Worker};
-use tpw_judging::{accepted_of, write_list, write_why};
+use tpw_files::{Failure, Inputs, Outcome, Terminal};
+use tpw_inputs::{Built, Occam};
+use tpw_judging::{write_list, write_why};
 use tpw_running::{Prepared, evaluate_packets, write_check, write_run};
 use tpw_stepping::{Counted, excerpt_of, write_profile, write_step};
+use tpw_why::Verdict;
 
-/// What is to be run on an accepted image: the packets that are asked for, each as long as its own.
+/// A run of an accepted image, prepared: the packets that are asked for, each as long as its own.
 fn prepare_run<T: Files, R: Read>(
     alloc: Global,
     inputs: &mut Inputs<'_, T, R>,
     image: Accepted,
-    showing: &Showing,
+    output: &OutputOptions,
 ) -> Result<Prepared, Ending>
     ensures { IfOk result (λ run. All (λ p. length p.items ≡ 4 * run.image.image.packet) run.packets.items) }
 {
-    let packets = showing.asking.packets(alloc, inputs, image.packet_bytes())?;
-    let expected = showing.expected(alloc, inputs, image.result_bytes())?;
+    let packets = output.source.packets(alloc, inputs, image.packet_bytes())?;
+    let expected = output.expected(alloc, inputs, image.result_bytes())?;
     Ok(Prepared {
         image,
         packets,
@@ -40,17 +42,34 @@ fn prepare_run<T: Files, R: Read>(
     })
 }
 
-/// The image of a worker, where it is accepted. Where it is refused, `errors` has the fault of the text in occam, or of
-/// any other worker the explanation of `why`.
+/// The image of a worker, where it is accepted. Where it is refused, that is a fault of a text in occam; of any other
+/// worker `errors` has the explanation of `why`.
 fn accepted_worker<E: Write>(
     alloc: Global,
-    worker: &Worker<'_>,
+    worker: &Built<'_>,
     errors: &mut E,
-    input: &Input,
-) -> Result<Option<Accepted>, Failure> {
-    match &worker.occam {
-        Some(occam) => Ok(Some(occam.accepted(alloc, errors, input, &worker.bytes)?)),
-        None => accepted_of(alloc, &worker.bytes, worker.source_text(), errors),
+) -> Result<Option<Accepted>, Failure>
+    ensures { IfOk result (λ found. IfSome found (λ accepted. IsTextOf worker.now.bytes.items accepted.image)) }
+{
+    match (worker.verdict(alloc)?, &worker.occam) {
+        (Verdict::Accepted(accepted), _) => Ok(Some(accepted)),
+        (Verdict::Refused { code, place }, Some(occam)) => {
+            Err(occam.refused(alloc, &worker.bytes, code, place)?)
+        }
+        (verdict, None) => {
+            write_why(alloc, &worker.bytes, &verdict, worker.source_text(), errors)?;
+            Ok(None)
+        }
+    }
+}
+
+/// Finds that the verifier accepts a worker in occam.
+pub fn check_acceptance(alloc: Global, worker: &Built<'_>) -> Result<(), Failure> {
+    match (worker.verdict(alloc)?, &worker.occam) {
+        (Verdict::Refused { code, place }, Some(occam)) => {
+            Err(occam.refused(alloc, &worker.bytes, code, place)?)
+        }
+        _ => Ok(()),
     }
 }
 
@@ -59,20 +78,20 @@ fn run_worker<T, R: Read, W: Write, E: Write>(
     rt: &T,
     alloc: Global,
     inputs: &mut Inputs<'_, T, R>,
-    worker: &Worker<'_>,
+    worker: &Built<'_>,
     writer: &mut W,
     terminal: &mut Terminal<'_, E>,
     asked: &Asked,
-    running: &Running,
+    running: &RunOptions,
 ) -> Result<Outcome, Ending>
 where
     T: Files + Threads + Wait + Clock + Eprint + Sync,
     ensures { IfErr result (λ e. status_of e ≡ 2 → W.contents writer.new ≡ W.contents writer.old) }
 {
-    let Some(image) = accepted_worker(alloc, worker, terminal.errors, &asked.input)? else {
+    let Some(image) = accepted_worker(alloc, worker, terminal.errors)? else {
         return Ok(Outcome::Bad);
     };
-    let prepared = prepare_run(alloc, inputs, image, &running.showing)?;
+    let prepared = prepare_run(alloc, inputs, image, &running.output)?;
     match &worker.occam {
         Some(occam) if running.check => Ok(write_check(
             rt,
@@ -96,12 +115,12 @@ where
     }
 }
 
-/// What is to be counted: the packets that are asked for, each as long as those of a worker.
+/// A profile, prepared: the packets that are asked for, each as long as those of a worker.
 fn prepare_profile<T: Files, R: Read>(
     alloc: Global,
     inputs: &mut Inputs<'_, T, R>,
-    worker: &Worker<'_>,
-    asking: &Asking,
+    worker: &Built<'_>,
+    source: &PacketSource,
 ) -> Result<Counted, Ending>
     ensures packets { IfOk result (λ counted.
         All (λ p. length p.items ≡ 4 * counted.image.packet) counted.packets.items) }
@@ -109,7 +128,7 @@ fn prepare_profile<T: Files, R: Read>(
 {
     let image = worker.image(alloc)?;
     let bytes = WORD_BYTES * image.packet as usize;
-    let packets = asking.packets(alloc, inputs, bytes)?;
+    let packets = source.packets(alloc, inputs, bytes)?;
     Ok(Counted { image, packets })
 }
 
@@ -118,16 +137,16 @@ fn profile_worker<T, R: Read, W: Write, E: Write>(
     rt: &T,
     alloc: Global,
     inputs: &mut Inputs<'_, T, R>,
-    worker: &Worker<'_>,
+    worker: &Built<'_>,
     writer: &mut W,
     terminal: &mut Terminal<'_, E>,
-    profiling: &Profiling,
+    profiling: &ProfileOptions,
 ) -> Result<Outcome, Ending>
 where
     T: Files + Threads + Wait + Clock + Eprint + Sync,
     ensures { IfErr result (λ e. status_of e ≡ 2 → W.contents writer.new ≡ W.contents writer.old) }
 {
-    let counted = prepare_profile(alloc, inputs, worker, &profiling.asking)?;
+    let counted = prepare_profile(alloc, inputs, worker, &profiling.source)?;
     Ok(write_profile(
         rt,
         alloc,
@@ -144,9 +163,9 @@ where
 fn step_worker<T: Files, R: Read, W: Write>(
     alloc: Global,
     inputs: &mut Inputs<'_, T, R>,
-    worker: &Worker<'_>,
+    worker: &Built<'_>,
     writer: &mut W,
-    stepping: &Stepping,
+    stepping: &StepOptions,
 ) -> Result<Outcome, Ending>
     ensures { IfErr result (λ e. status_of e ≡ 2 → W.contents writer.new ≡ W.contents writer.old) }
 {
@@ -159,14 +178,15 @@ fn step_worker<T: Files, R: Read, W: Write>(
 /// Judges a worker, and writes the verdict as it is asked for.
 fn judge_worker<W: Write>(
     alloc: Global,
-    worker: &Worker<'_>,
+    worker: &Built<'_>,
     writer: &mut W,
     report: Report,
 ) -> Result<Outcome, Failure> {
     let source = worker.source_text();
+    let verdict = worker.verdict(alloc)?;
     match report {
-        Report::Why => write_why(alloc, &worker.bytes, source, writer),
-        Report::List => write_list(alloc, &worker.bytes, source, writer),
+        Report::Why => write_why(alloc, &worker.bytes, &verdict, source, writer),
+        Report::List => write_list(alloc, &worker.bytes, &verdict, source, writer),
     }
 }
 
@@ -175,7 +195,7 @@ pub fn perform_on<T, R: Read, W: Write, E: Write>(
     rt: &T,
     inputs: &mut Inputs<'_, T, R>,
     alloc: Global,
-    worker: &Worker<'_>,
+    worker: &Built<'_>,
     writer: &mut W,
     terminal: &mut Terminal<'_, E>,
     asked: &Asked,
@@ -204,14 +224,14 @@ pub fn evaluate_text<T: Files, R: Read, W: Write, E: Write>(
     occam: &Occam<'_>,
     writer: &mut W,
     terminal: &mut Terminal<'_, E>,
-    showing: &Showing,
+    output: &OutputOptions,
 ) -> Result<Outcome, Ending>
     requires { IsCompiled occam.now.text.now occam.now.compiled }
     ensures { IfErr result (λ e. status_of e ≡ 2 → W.contents writer.new ≡ W.contents writer.old) }
 {
-    let packets = showing.asking.packets(alloc, inputs, occam.packet_bytes())?;
-    let expected = showing.expected(alloc, inputs, occam.result_bytes())?;
-    let form = showing.form(&expected);
+    let packets = output.source.packets(alloc, inputs, occam.packet_bytes())?;
+    let expected = output.expected(alloc, inputs, occam.result_bytes())?;
+    let form = output.form(&expected);
     let worker = &occam.compiled.worker;
     Ok(evaluate_packets(alloc, worker, &packets, form, writer, terminal.errors)?)
 }

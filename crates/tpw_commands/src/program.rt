@@ -1,13 +1,15 @@
 //! The program, from its words and streams to its status.
 
-ghost use Rattle.std.specs.Prelude.{◌≡◌, ◌≤◌, IfErr};
+ghost use Rattle.std.specs.Prelude.{◌≡◌, ◌≤◌, IfErr, IfOk};
 ghost use Rattle.std.specs.Process.{exit_status};
 ghost use Rattle.tpw_command_line.specs.Endings.{status_of};
 ghost use Rattle.tpw_commands.specs.Endings.{EndsEarly, status_by};
+ghost use Rattle.tpw_occam.specs.Compilation.{IsCompiled};
 
 use crate::assembling::{assemble_text, write_image};
 use crate::output::{Output, settle};
-use crate::performing::{evaluate_text, perform_on};
+use crate::performing::{check_acceptance, evaluate_text, perform_on};
+use crate::reporting::{report, report_failure};
 use crate::translating::translate;
 use std::alloc::Global;
 use std::env::Env;
@@ -18,11 +20,24 @@ use std::rt::Files;
 use std::sync::Wait;
 use std::thread::Threads;
 use std::time::Clock;
-use tpw_assembly::{note_traps, report_fault};
 use tpw_command_line::{Asked, Ending, Task, asked_by, words_of};
 use tpw_files::{Failure, Input, Inputs, Language, Outcome, Terminal};
-use tpw_inputs::{read_occam, read_worker};
+use tpw_inputs::{Occam, build, read_occam};
 use tpw_judging::disassemble_image;
+
+/// Compiles a worker in occam, and reports its warnings.
+fn read_reported<'a, E: Write>(
+    alloc: Global,
+    errors: &mut E,
+    input: &Input,
+    text: &'a [u8],
+) -> Result<Occam<'a>, Failure>
+    ensures { IfOk result (λ occam. IsCompiled occam.text.now occam.compiled) }
+{
+    let occam = read_occam(alloc, text)?;
+    report(alloc, errors, input, text, &occam.compiled.warnings)?;
+    Ok(occam)
+}
 
 /// Writes the image that a text says, behind a name where one is given.
 fn assemble<W: Write, E: Write>(
@@ -35,15 +50,12 @@ fn assemble<W: Write, E: Write>(
 ) -> Result<Outcome, Failure> {
     let input = &asked.input;
     match asked.language {
-        Language::Assembly => {
-            note_traps(alloc, terminal.errors, input, text)?;
-            assemble_text(alloc, text, writer, name)
-        }
+        Language::Assembly => assemble_text(alloc, text, writer, name),
         Language::Occam => {
-            let occam = read_occam(alloc, terminal.errors, input, text)?;
-            let bytes = occam.assembled(alloc, terminal.errors, input)?;
-            occam.accepted(alloc, terminal.errors, input, &bytes)?;
-            write_image(alloc, &bytes, writer, name)
+            let built = build(alloc, input, Language::Occam, text)?;
+            report(alloc, terminal.errors, input, text, built.warnings())?;
+            check_acceptance(alloc, &built)?;
+            write_image(alloc, &built.bytes, writer, name)
         }
     }
 }
@@ -65,15 +77,16 @@ where
     let input = &asked.input;
     match &asked.task {
         Task::Work(work) => {
-            let worker = read_worker(alloc, terminal.errors, input, asked.language, text)?;
-            perform_on(rt, inputs, alloc, &worker, writer, terminal, asked, work)
+            let built = build(alloc, input, asked.language, text)?;
+            report(alloc, terminal.errors, input, text, built.warnings())?;
+            perform_on(rt, inputs, alloc, &built, writer, terminal, asked, work)
         }
-        Task::Evaluate(showing) => {
-            let occam = read_occam(alloc, terminal.errors, input, text)?;
-            evaluate_text(alloc, inputs, &occam, writer, terminal, showing)
+        Task::Evaluate(output) => {
+            let occam = read_reported(alloc, terminal.errors, input, text)?;
+            evaluate_text(alloc, inputs, &occam, writer, terminal, output)
         }
         Task::Translate => {
-            let occam = read_occam(alloc, terminal.errors, input, text)?;
+            let occam = read_reported(alloc, terminal.errors, input, text)?;
             Ok(translate(alloc, &occam, writer)?)
         }
         Task::Assemble(name) => Ok(assemble(
@@ -103,13 +116,12 @@ where
 {
     let text = inputs.read(alloc, &asked.input)?;
     match perform(rt, inputs, alloc, &text, writer, terminal, asked) {
-        Err(Ending::Failed(Failure::Input(fault))) => Err(Ending::Failed(report_fault(
-            alloc,
-            terminal.errors,
-            &asked.input,
-            &text,
-            fault,
-        ))),
+        Err(Ending::Failed(failure)) => {
+            match report_failure(alloc, terminal.errors, &asked.input, &text, failure) {
+                Some(failure) => Err(Ending::Failed(failure)),
+                None => Ok(Outcome::Bad),
+            }
+        }
         ended => ended,
     }
 }
@@ -143,7 +155,7 @@ fn show<W: Write, T: fmt::Display>(writer: &mut Output<W>, text: &T) -> Result<O
     }
 }
 
-/// What the words ask for.
+/// The command that the words ask for.
 fn read_words(words: &impl Env, alloc: Global) -> Result<Asked, Ending> {
     let words = words_of(words, alloc)?;
     asked_by(alloc, &words)

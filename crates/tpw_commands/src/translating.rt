@@ -2,10 +2,10 @@
 
 use std::alloc::{AllocError, Global};
 use std::io::Write;
+use tpw_debug::Printable;
 use tpw_files::{Failure, Outcome, write_line};
 use tpw_inputs::Occam;
 use tpw_occam::Located;
-use tpw_source::Printable;
 use tpw_text::{Position, read_source, source_text};
 
 /// Appends the names of local words, each a comment. The local word 0 is this word of the workspace.

@@ -11,6 +11,6 @@ abbrev pub behind_all : Position → List ℕ → Position
 behind_all p [] = p
 behind_all p (b ∷ bytes) = behind_all (behind p b) bytes
 
--- behind so many bytes of a text
+-- behind the first bytes of a text
 abbrev pub position_behind : List ℕ → ℕ → Position
 position_behind text bytes = behind_all record { line = 1; column = 1 } (take bytes text)

@@ -12,7 +12,7 @@ use std::io;
 use thiserror::Error;
 use tp_image::ImageFault;
 use tpw_asm::AssemblyFault;
-use tpw_source::ShowFault;
+use tpw_debug::{Diagnostic, ShowFault};
 use tpw_text::{SourceFault, TextFault as SourceKind};
 
 /// Why a command fails, with its text.
@@ -24,9 +24,9 @@ pub enum Failure {
     /// Standard input, where a file is asked for, is none that the command takes.
     #[error("tpw: standard input{0}\n")]
     InStandard(InputFault),
-    /// An input is none that the command takes, and that is reported.
+    /// The text of the command's input is none that it takes: what is wrong with it, which the program reports.
     #[error("")]
-    Reported,
+    Text(Vec<Diagnostic>),
     /// A thread could not be started.
     #[error("tpw: thread\n")]
     Thread,

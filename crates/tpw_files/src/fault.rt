@@ -1,4 +1,4 @@
-//! What is wrong with an input.
+//! Faults of inputs.
 
 ghost use Rattle.std.specs.Prelude.{◌≡◌, ◌≤◌, ◌<◌, ◌^◌, length};
 ghost use Rattle.tpw_files.specs.Positions.{behind, position_behind};
@@ -55,6 +55,9 @@ pub enum InputFault {
     /// It says a program that has no image.
     #[error(": {0}")]
     Assembly(AssemblyFault),
+    /// The compiler of occam does wrong with it.
+    #[error(": a fault of the compiler: {0}; please report it, with the text")]
+    Compiler(String),
 }
 
 /// The place of the byte behind one.
@@ -77,7 +80,7 @@ fn behind(position: Position, byte: u8) -> Position
     }
 }
 
-/// The place of the byte behind so many bytes of a text.
+/// The place of the byte behind the first `bytes` of a text.
 pub fn position_behind(text: &[u8], bytes: usize) -> Position
     requires { bytes ≤ length text.now }
     ensures { result ≡ position_behind text.now bytes }

@@ -1,8 +1,8 @@
-//! What a worker is written in.
+//! Languages of workers.
 
 use crate::input::Input;
 
-/// What a worker is written in.
+/// The language that a worker is written in.
 #[derive(Clone, Copy, Debug, PartialEq, Eq)]
 pub enum Language {
     /// Assembly text, or an image in hexadecimal.
@@ -10,7 +10,7 @@ pub enum Language {
     Occam,
 }
 
-/// What the names of files end with whose texts are in occam.
+/// The end of the names of files in occam.
 const OCCAM: &str = ".occ";
 
 impl Language {

@@ -1,5 +1,5 @@
-//! What the commands of `tpw` read, standard input and files, as text or as bytes in hexadecimal; what a command
-//! answers, and why it fails.
+//! The inputs of the commands of `tpw`, standard input and files, as text or as bytes in hexadecimal; the outcome of a
+//! command, and why it fails.
 #![tactic(auto)]
 
 mod failure;

@@ -1,4 +1,4 @@
-//! What a command answers.
+//! The outcome of a command.
 
 ghost use Rattle.std.specs.Prelude.{◌≡◌, IfOk, IfErr, OnOk, if◌then◌else◌};
 ghost use Rattle.std.specs.Io.KnownBytes.{Appends};
@@ -9,7 +9,7 @@ ghost use Rattle.tpw_files.specs.Outcomes.{status_on};
 use crate::failure::Failure;
 use std::io::Write;
 
-/// What a command that has run answers.
+/// The outcome of a command that has run.
 #[derive(Clone, Copy, Debug, PartialEq, Eq)]
 pub enum Outcome {
     /// It has done what it was asked for, and what it was asked about is good.

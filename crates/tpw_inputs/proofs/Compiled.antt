@@ -2,6 +2,7 @@
 use Rattle.std.proofs.Common.{◌≡◌, ◌∙◌, ◌≤◌, ℕ, ◌*◌, List, length, true, ap, arith}
 use Rattle.std.proofs.lemmas.Bool.{leb-true}
 use Rattle.tp_image.specs.Image.{ImageValue}
+use Rattle.tp_image.specs.Text.{text as image_text}
 use Rattle.tpw_asm.specs.declared.program.Program.{Program}
 use Rattle.tpw_asm.specs.Assembly.{IsAssembly}
 use Rattle.tpw_occam_core.specs.declared.process.Message.{Message}
@@ -12,7 +13,6 @@ use Rattle.tpw_occam_core.specs.declared.worker.Worker.{Worker}
 use Rattle.tpw_occam_core.specs.Sound.{is_sound, is_sound_place, is_sound_message, are_declared, globals}
 use Rattle.tpw_occam_symbolic.specs.Program.{Means, place_bytes, message_bytes}
 use Rattle.tpw_occam_symbolic.proofs.Sizes.{and_first, and_second}
-use Rattle.tpw_assembly.specs.Programs.{AreImageOf}
 use Rattle.tpw_inputs.specs.Meanings.{AreImageOfWorker, DoesWhatIsMeant}
 
 does_what_is_meant : (worker : Worker) (program : Program) (image : ImageValue) → Means worker program → IsAssembly program image
@@ -23,12 +23,12 @@ does_what_is_meant worker program image means is = record {
   runs = λ bytes run. means.runs image bytes run is;
 }
 
-pub is_image_of_worker : (worker : Worker) (program : Program) (bytes : List ℕ) → Means worker program → AreImageOf program bytes
-    → AreImageOfWorker worker bytes
-is_image_of_worker worker program bytes means of_program = record {
-  image = of_program.image;
-  read = (of_program.assembly.in_range, of_program.spelled);
-  does = does_what_is_meant worker program of_program.image means of_program.assembly;
+pub is_image_of_worker : (worker : Worker) (program : Program) (image : ImageValue) (bytes : List ℕ) → Means worker program
+    → IsAssembly program image → bytes ≡ image_text image → AreImageOfWorker worker bytes
+is_image_of_worker worker program image bytes means assembly spelled = record {
+  image = image;
+  read = (assembly.in_range, spelled);
+  does = does_what_is_meant worker program image means assembly;
 }
 
 -- a sound worker's packet has at most 64 words, and so has its result

@@ -1,14 +1,19 @@
--- The failure that is left once a text in occam is reported that says no worker.
-use Rattle.std.specs.Prelude.{◌≡◌, ◌⊎◌}
+-- The failure of a command whose text in occam has no program.
+use Rattle.std.specs.Prelude.{◌≡◌, ⊤}
 use Rattle.tpw_occam.specs.declared.fault.OccamFault.{OccamFault}
 use Rattle.tpw_occam.specs.declared.fault.OccamFault.TheVariants as occam
 use Rattle.tpw_files.specs.declared.failure.Failure.{Failure}
 use Rattle.tpw_files.specs.declared.failure.Failure.TheVariants as failure
+use Rattle.tpw_files.specs.declared.fault.InputFault.TheVariants as input
 
--- it is reported, or a growth was refused on the way
-abbrev pub IsReported : Failure → Type 0
-IsReported e = (e ≡ failure.Reported) ⊎ (e ≡ failure.Memory)
+-- it is a fault of the compiler, or a growth was refused on the way
+abbrev pub IsFault : Failure → Type 0
+IsFault (failure.Input (input.Compiler text)) = ⊤
+IsFault failure.Memory = ⊤
+IsFault e = ⊥
 
+-- it has the diagnostics of the text
 abbrev pub IsOfOccam : OccamFault → Failure → Type 0
 IsOfOccam occam.Memory e = e ≡ failure.Memory
-IsOfOccam fault e = IsReported e
+IsOfOccam (occam.Refused diagnostics) e = e ≡ failure.Text diagnostics
+IsOfOccam (occam.Compiler defect) e = IsFault e

@@ -5,8 +5,9 @@ use std::fmt;
 use tp_accept::{Counted, costs};
 use tp_decode::{DecodeFault, decode};
 use tp_image::{Image, read_image};
+use tpw_debug::Diagnostic;
 use tpw_files::Failure;
-use tpw_occam::{CompiledText, Message, message_at};
+use tpw_occam::{CompiledText, fault_at};
 
 /// A replicated SEQ: the line that it begins in, its turns, and the bytes of a turn.
 #[derive(Clone, Copy)]
@@ -51,14 +52,14 @@ fn largest_share(image: &Image, lines: &[u32], costs: &[Counted]) -> Option<Shar
     largest
 }
 
-/// What is said of a text whose image has these bytes and too large a budget: at the replicated SEQ with the largest
-/// share. Nothing is, where there is none.
+/// The fault of a text whose image has these bytes and too large a budget: at the replicated SEQ with the largest share.
+/// Where there is none, the text has no fault.
 pub fn over_budget(
     alloc: Global,
     text: &str,
     compiled: &CompiledText<'_>,
     bytes: &[u8],
-) -> Result<Option<Message>, Failure> {
+) -> Result<Option<Diagnostic>, Failure> {
     let image = read_image(alloc, bytes)?;
     let costs = match decode(alloc, &image.code) {
         Ok(listing) => costs(alloc, &image, &listing)?,
@@ -72,5 +73,5 @@ pub fn over_budget(
     let said = format!(in alloc;
         "a budget of {all} instruction bytes, of at most 16,777,216: this SEQ has the largest share, {share}"
     )?;
-    Ok(Some(message_at(text, share.line as usize, said)))
+    Ok(Some(fault_at(text, share.line as usize, said)))
 }

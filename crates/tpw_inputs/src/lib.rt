@@ -1,11 +1,10 @@
-//! The workers that the inputs of the tools' commands say: images, and texts in assembly and in occam.
+//! Workers, built of the inputs of the tools' commands: images, and texts in assembly and in occam.
 #![tactic(auto)]
 
 mod budget;
+mod built;
 mod occam;
-mod refused;
 mod symbols;
-mod worker;
 
+pub use built::{Built, build};
 pub use occam::{Occam, read_occam};
-pub use worker::{Worker, read_worker};

@@ -1,26 +1,52 @@
-//! Workers in occam: their texts, compiled. Their images are made and judged where a command asks for that.
+//! Workers in occam: their texts, compiled. Their images are made, and judged, where a command asks for that.
 
 ghost use Rattle.std.specs.Prelude.{◌≡◌, ◌*◌, ◌≤◌, IfOk};
-ghost use Rattle.tp_image.specs.Text.{IsTextOf};
-ghost use Rattle.tpw_assembly.specs.Programs.{AreImageOf};
+ghost use Rattle.tp_image.specs.Text.{text as image_text};
+ghost use Rattle.tpw_inputs.specs.Refusals.{IsOfOccam, IsFault};
 ghost use Rattle.tpw_occam.specs.Compilation.{IsCompiled};
 
 use crate::budget::over_budget;
-use crate::refused::{CompilerFault, report_compiler, report_messages, report_refusal};
-use std::alloc::Global;
-use std::io::Write;
-use tp_accept::{Accepted, Refusal, RefusalCode, accept};
+use std::alloc::{AllocError, Global};
+use tp_accept::RefusalCode;
 use tp_image::layout::WORD_BYTES;
 use tp_image::write_image;
-use tpw_asm::{AssemblyFault, assemble};
-use tpw_files::{Failure, Input, InputFault, text_of};
-use tpw_occam::{CompiledText, Defect, Message, compile_text};
+use tpw_debug::Diagnostic;
+use tpw_files::{Failure, InputFault, text_of};
+use tpw_occam::{CompiledText, Defect, OccamFault, compile_text};
 
 /// A text in occam, and what it is compiled to.
 #[derive(Drop)]
 pub struct Occam<'a> {
     pub text: &'a str,
     pub compiled: CompiledText<'a>,
+}
+
+/// The failure of a command whose text the compiler does wrong with.
+fn of_compiler(alloc: Global, defect: Defect) -> Failure
+    ensures { IsFault result }
+{
+    match format!(in alloc; "{defect}") {
+        Ok(text) => Failure::Input(InputFault::Compiler(text)),
+        Err(_) => Failure::Memory,
+    }
+}
+
+/// The failure of a command whose text has no program.
+fn failure_of(alloc: Global, fault: OccamFault) -> Failure
+    ensures { IsOfOccam fault result }
+{
+    match fault {
+        OccamFault::Memory => Failure::Memory,
+        OccamFault::Refused(diagnostics) => Failure::Text(diagnostics),
+        OccamFault::Compiler(defect) => of_compiler(alloc, defect),
+    }
+}
+
+/// One diagnostic.
+fn one(alloc: Global, diagnostic: Diagnostic) -> Result<Vec<Diagnostic>, AllocError> {
+    let mut diagnostics = Vec::new(alloc);
+    diagnostics.push(diagnostic)?;
+    Ok(diagnostics)
 }
 
 impl Occam<'_> {
@@ -42,87 +68,33 @@ impl Occam<'_> {
         WORD_BYTES * self.compiled.program.result as usize
     }
 
-    /// Assembles its program. Returns the bytes of the image, accepted or not.
-    pub fn assembled<E: Write>(
-        &self,
-        alloc: Global,
-        errors: &mut E,
-        input: &Input,
-    ) -> Result<Vec<u8>, Failure>
-        ensures { IfOk result (λ bytes. AreImageOf self.now.compiled.program bytes.items) }
+    /// The bytes of its image, accepted or not.
+    pub fn image_bytes(&self, alloc: Global) -> Result<Vec<u8>, Failure>
+        ensures { IfOk result (λ bytes. bytes.items ≡ image_text self.now.compiled.assembled.image) }
     {
-        match assemble(alloc, &self.compiled.program) {
-            Ok(image) => Ok(write_image(alloc, &image)?),
-            Err(AssemblyFault::Memory) => Err(Failure::Memory),
-            Err(fault) => {
-                let fault = CompilerFault::Made(Defect::Program(fault));
-                Err(report_compiler(errors, input, fault))
-            }
-        }
+        Ok(write_image(alloc, &self.compiled.assembled.image)?)
     }
 
-    /// Judges the bytes of its image. Where the verifier refuses them for a budget that is too large, the fault is the
-    /// text's, else the compiler's: it is reported.
-    pub fn accepted<E: Write>(
+    /// The failure of a command that wants the image of these bytes accepted, which is refused so. Where its budget is too
+    /// large, the fault is the text's, else the compiler's.
+    pub fn refused(
         &self,
         alloc: Global,
-        errors: &mut E,
-        input: &Input,
         bytes: &[u8],
-    ) -> Result<Accepted, Failure>
-        ensures { IfOk result (λ accepted. IsTextOf bytes.now accepted.image) }
-    {
-        let copy = Vec::from_slice(alloc, bytes)?;
-        let (code, place) = match accept(alloc, copy) {
-            Ok(accepted) => return Ok(accepted),
-            Err(Refusal::Memory) => return Err(Failure::Memory),
-            Err(Refusal::Refused { code, place }) => (code, place),
-        };
+        code: RefusalCode,
+        place: usize,
+    ) -> Result<Failure, Failure> {
         if code == RefusalCode::B1 {
-            if let Some(message) = over_budget(alloc, self.text, &self.compiled, bytes)? {
-                return Err(report_messages(alloc, errors, input, self.text, &[message]));
+            if let Some(fault) = over_budget(alloc, self.text, &self.compiled, bytes)? {
+                return Ok(Failure::Text(one(alloc, fault)?));
             }
         }
-        let fault = CompilerFault::Refused { code, place };
-        Err(report_compiler(errors, input, fault))
+        Ok(of_compiler(alloc, Defect::Refused { code, place }))
     }
 }
 
-/// Writes what may not be meant in the text of an input.
-fn write_notes<E: Write>(errors: &mut E, input: &Input, notes: &[Message]) {
-    for note in notes {
-        let line = note.span.line;
-        let column = note.span.column;
-        let text = note.text.as_str();
-        let _ = write!(errors, "{input}:{line}:{column}: note: {text}\n");
-    }
-}
-
-/// What a text is compiled to. Faults of the text are reported.
-fn compiled_from<'a, E: Write>(
-    alloc: Global,
-    errors: &mut E,
-    input: &Input,
-    text: &'a str,
-) -> Result<CompiledText<'a>, Failure>
-    ensures { IfOk result (IsCompiled text.now) }
-{
-    match compile_text(alloc, text) {
-        Ok(compiled) => Ok(compiled),
-        Err(fault) => Err(report_refusal(alloc, errors, input, text, fault)),
-    }
-}
-
-/// Reads a worker in occam. What may not be meant in it goes to `errors`, and so does why it says none
-/// (`Failure::Reported`). Nothing of it is assembled, and nothing judged.
-///
-/// What the text means is `compiled.worker`.
-pub fn read_occam<'a, E: Write>(
-    alloc: Global,
-    errors: &mut E,
-    input: &Input,
-    text: &'a [u8],
-) -> Result<Occam<'a>, Failure>
+/// Compiles a worker in occam. Nothing is judged. What the text means is `compiled.worker`.
+pub fn read_occam<'a>(alloc: Global, text: &'a [u8]) -> Result<Occam<'a>, Failure>
     ensures text { IfOk result (λ occam. occam.text.now ≡ text.now) }
     ensures compiled { IfOk result (λ occam. IsCompiled occam.text.now occam.compiled) }
 {
@@ -130,7 +102,8 @@ pub fn read_occam<'a, E: Write>(
         return Err(Failure::Input(InputFault::Empty));
     }
     let text = text_of(text)?;
-    let compiled = compiled_from(alloc, errors, input, text)?;
-    write_notes(errors, input, &compiled.notes);
-    Ok(Occam { text, compiled })
+    match compile_text(alloc, text) {
+        Ok(compiled) => Ok(Occam { text, compiled }),
+        Err(fault) => Err(failure_of(alloc, fault)),
+    }
 }

@@ -1,10 +1,9 @@
-//! What a text in occam says of its code, by address and by word.
+//! Debug information of a text in occam.
 
 use std::alloc::Global;
-use tpw_asm::addresses;
+use tpw_debug::{DebugInfo, Named, Printable, Statement};
 use tpw_files::{Failure, Input};
 use tpw_occam::{CompiledText, Located};
-use tpw_source::{DebugInfo, Named, Printable, Statement};
 
 /// The lines of a text in occam, each at the addresses of the instructions that come from it.
 fn statements_of<'a>(
@@ -47,17 +46,21 @@ fn words_of<'a>(alloc: Global, located: &[Located<'a>]) -> Result<Vec<Named<'a>>
     Ok(words)
 }
 
-/// What the text of an input says of its code.
+/// Debug information of the text of an input.
 pub fn debug_info<'a>(
     alloc: Global,
     input: &Input,
     text: &'a str,
     compiled: &CompiledText<'a>,
 ) -> Result<DebugInfo<'a>, Failure> {
-    let places = addresses(alloc, &compiled.program)?;
     Ok(DebugInfo {
         name: format!(in alloc; "{input}")?,
-        statements: statements_of(alloc, text, &compiled.sources, &places)?,
+        statements: statements_of(
+            alloc,
+            text,
+            &compiled.sources,
+            &compiled.assembled.addresses,
+        )?,
         labels: Vec::new(alloc),
         words: words_of(alloc, &compiled.located)?,
     })

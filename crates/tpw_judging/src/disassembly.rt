@@ -11,9 +11,9 @@ use tp_image::read_image;
 use tpw_asm::{Program, addresses, disassemble};
 use tpw_files::{Failure, Outcome, hex_bytes, write_line};
 use tpw_text::{LineRemark, LoopRemark, Remarks, source_text};
-use tpw_why::{Costs, Counted, LoopCost, costs_of};
+use tpw_why::{Costs, Counted, LoopCost, Verdict, costs_of, judge};
 
-/// What is remarked of each loop.
+/// The remark on each loop.
 fn loop_remarks(alloc: Global, loops: &[LoopCost]) -> Result<Vec<LoopRemark>, Failure> {
     let mut remarks = Vec::new(alloc);
     for LoopCost {
@@ -32,7 +32,7 @@ fn loop_remarks(alloc: Global, loops: &[LoopCost]) -> Result<Vec<LoopRemark>, Fa
     Ok(remarks)
 }
 
-/// What is remarked of each line.
+/// The remark on each line.
 fn line_remarks(
     alloc: Global,
     places: &[u32],
@@ -70,6 +70,14 @@ fn text_of(alloc: Global, program: &Program, costs: Option<&Costs>) -> Result<St
     Ok(source_text(alloc, program, Some(&remarks))?)
 }
 
+/// Where the bytes of an image go, if it is accepted.
+fn costs_if_accepted(alloc: Global, bytes: &[u8]) -> Result<Option<Costs>, Failure> {
+    match judge(alloc, bytes)? {
+        Verdict::Accepted(accepted) => Ok(Some(costs_of(alloc, &accepted)?)),
+        Verdict::Refused { .. } => Ok(None),
+    }
+}
+
 /// Writes the image that a text says as assembly text. Of an accepted one, comments say where its bytes go.
 pub fn disassemble_image<W: Write>(
     alloc: Global,
@@ -83,7 +91,7 @@ pub fn disassemble_image<W: Write>(
     let bytes = hex_bytes(alloc, text)?;
     let image = read_image(alloc, &bytes)?;
     let program = disassemble(alloc, &image)?;
-    let costs = costs_of(alloc, &bytes)?;
+    let costs = costs_if_accepted(alloc, &bytes)?;
     let text = text_of(alloc, &program, costs.as_ref())?;
     write_line(writer, text.as_str())
 }

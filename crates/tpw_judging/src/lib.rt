@@ -5,4 +5,4 @@ mod disassembly;
 mod refusing;
 
 pub use disassembly::disassemble_image;
-pub use refusing::{accepted_of, write_list, write_why};
+pub use refusing::{write_list, write_why};

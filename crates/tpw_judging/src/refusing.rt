@@ -1,59 +1,56 @@
 //! The verdict on an image, why it is refused, and its code with what it costs.
 
+ghost use Rattle.std.specs.Prelude.{◌≡◌, IfOk, if◌then◌else◌};
+ghost use Rattle.tpw_files.specs.declared.outcome.Outcome.TheVariants.{Good, Bad};
+ghost use Rattle.tpw_why.specs.Verdicts.{is_accepted};
+
 use std::alloc::Global;
 use std::io::Write;
-use tp_accept::{Accepted, Refusal, accept};
+use tpw_debug::{ShowFault, SourceText};
 use tpw_files::{Failure, Outcome};
-use tpw_source::{ShowFault, SourceText};
-use tpw_why::{explain, list};
+use tpw_why::{Verdict, explain, list};
 
-/// What a command answers that has judged an image, once the verdict is flushed.
-fn answered<W: Write>(judged: Result<bool, ShowFault>, writer: &mut W) -> Result<Outcome, Failure> {
+/// The outcome of a command that has written a verdict, once that is flushed.
+fn answered<W: Write>(
+    verdict: &Verdict,
+    written: Result<(), ShowFault>,
+    writer: &mut W,
+) -> Result<Outcome, Failure>
+    ensures { IfOk result (λ outcome. outcome ≡ (if is_accepted verdict.now then Good else Bad)) }
+{
     let flushed = writer.flush();
-    let is_accepted = judged?;
+    written?;
     match flushed {
-        Ok(()) => Ok(Outcome::of(is_accepted)),
+        Ok(()) => Ok(Outcome::of(verdict.is_accepted())),
         Err(_) => Err(Failure::Write),
     }
 }
 
-/// Judges the image that bytes say, and writes the verdict; of a refusal also what it means, what is known there, and
-/// what helps. Beside the instructions of a text are its lines and its labels.
+/// Writes the verdict on the image that bytes say; of a refusal also what it means, what is known there, and what helps.
+/// Beside the instructions of a text are its lines and its labels.
 pub fn write_why<W: Write>(
     alloc: Global,
     bytes: &[u8],
+    verdict: &Verdict,
     source: SourceText<'_>,
     writer: &mut W,
-) -> Result<Outcome, Failure> {
-    let judged = explain(alloc, bytes, source, writer);
-    answered(judged, writer)
+) -> Result<Outcome, Failure>
+    ensures { IfOk result (λ outcome. outcome ≡ (if is_accepted verdict.now then Good else Bad)) }
+{
+    let written = explain(alloc, bytes, verdict, source, writer);
+    answered(verdict, written, writer)
 }
 
-/// Judges the image that bytes say, and writes the verdict, and the code with what each instruction costs.
+/// Writes the verdict on the image that bytes say, and the code with what each instruction costs.
 pub fn write_list<W: Write>(
     alloc: Global,
     bytes: &[u8],
+    verdict: &Verdict,
     source: SourceText<'_>,
     writer: &mut W,
-) -> Result<Outcome, Failure> {
-    let judged = list(alloc, bytes, source, writer);
-    answered(judged, writer)
-}
-
-/// The image that bytes say, where it is accepted. Where it is refused, `errors` has the explanation of `why`.
-pub fn accepted_of<E: Write>(
-    alloc: Global,
-    bytes: &[u8],
-    source: SourceText<'_>,
-    errors: &mut E,
-) -> Result<Option<Accepted>, Failure> {
-    let copy = Vec::from_slice(alloc, bytes)?;
-    match accept(alloc, copy) {
-        Ok(accepted) => Ok(Some(accepted)),
-        Err(Refusal::Memory) => Err(Failure::Memory),
-        Err(Refusal::Refused { .. }) => {
-            write_why(alloc, bytes, source, errors)?;
-            Ok(None)
-        }
-    }
+) -> Result<Outcome, Failure>
+    ensures { IfOk result (λ outcome. outcome ≡ (if is_accepted verdict.now then Good else Bad)) }
+{
+    let written = list(alloc, bytes, verdict, source, writer);
+    answered(verdict, written, writer)
 }

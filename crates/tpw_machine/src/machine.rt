@@ -1,4 +1,4 @@
-//! What a machine keeps.
+//! The state of a machine.
 
 ghost use Rattle.std.specs.Prelude.{◌≡◌, ◌%◌};
 

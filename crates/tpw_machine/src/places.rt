@@ -1,4 +1,4 @@
-//! What a machine reads of an image.
+//! The parts of an image that a machine reads.
 
 ghost use Rattle.std.specs.Prelude.{◌≡◌, ◌↔◌, ◌+◌, ◌*◌, ◌≤◌, ◌<◌, ◌&&◌, ◌==◌, IsTrue, MatchOption, pos, ◌≤ℤ◌, ◌<ℤ◌};
 ghost use Rattle.tp_step.specs.State.{mem_start, in_workspace, is_word};

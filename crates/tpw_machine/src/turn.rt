@@ -1,6 +1,6 @@
 use tp_link::LinkFault;
 
-/// What became of an instruction byte.
+/// The outcome of an instruction byte.
 #[derive(Clone, Copy, Debug, PartialEq, Eq)]
 pub enum Turn {
     /// The step was made.

@@ -5,11 +5,12 @@ ghost use Rattle.tpw_occam.specs.Compilation.{IsCompilation, IsRefusal};
 ghost use Rattle.tpw_occam_core.specs.Sound.{is_sound};
 ghost use Rattle.tpw_occam_tree.specs.Places.{LiesIn};
 
+use crate::diagnosing::{fault_at, faults_of, warnings_of};
 use crate::fault::{Defect, OccamFault};
-use crate::message::{Message, message_at, messages_of, notes_of};
 use crate::names::{Located, located_in};
 use std::alloc::{AllocError, Global};
-use tpw_asm::Program;
+use tpw_asm::{Assembled, Program};
+use tpw_debug::Diagnostic;
 use tpw_occam_code::compile;
 use tpw_occam_core::Worker;
 use tpw_occam_elaboration::{Elaborated, ElaborationError, Fault, FaultKind, elaborate};
@@ -23,14 +24,15 @@ pub struct CompiledText<'t> {
     /// What the text means.
     pub worker: Worker,
     pub program: Program,
+    /// The image of the program, accepted or not, and the address of each place of the program.
+    pub assembled: Assembled,
     /// The line of the text that each line of the program comes from.
     pub sources: Vec<u32>,
     /// The line of the text that each loop of the program comes from.
     pub loop_lines: Vec<u32>,
     /// The names of variables and arrays, with their words of the workspace.
     pub located: Vec<Located<'t>>,
-    /// What may not be meant.
-    pub notes: Vec<Message>,
+    pub warnings: Vec<Diagnostic>,
 }
 
 /// Why a text is refused whose faults are these.
@@ -40,13 +42,13 @@ fn refused(alloc: Global, text: &str, faults: &[Fault<'_>]) -> OccamFault
     if faults.iter().any(|fault| fault.kind == FaultKind::Compiler) {
         return OccamFault::Compiler(Defect::Unsound);
     }
-    let Ok(messages) = messages_of(alloc, text, faults) else {
+    let Ok(diagnostics) = faults_of(alloc, text, faults) else {
         return OccamFault::Memory;
     };
-    if messages.is_empty() {
+    if diagnostics.is_empty() {
         return OccamFault::Compiler(Defect::Unsound);
     }
-    OccamFault::Refused(messages)
+    OccamFault::Refused(diagnostics)
 }
 
 /// Why a text is refused whose code goes beyond a limit at a line.
@@ -56,9 +58,9 @@ fn beyond(alloc: Global, text: &str, line: u32, fault: CodeFault) -> OccamFault
     let Ok(said) = format!(in alloc; "{fault}") else {
         return OccamFault::Memory;
     };
-    let mut messages = Vec::new(alloc);
-    match messages.push(message_at(text, line as usize, said)) {
-        Ok(()) => OccamFault::Refused(messages),
+    let mut diagnostics = Vec::new(alloc);
+    match diagnostics.push(fault_at(text, line as usize, said)) {
+        Ok(()) => OccamFault::Refused(diagnostics),
         Err(_) => OccamFault::Memory,
     }
 }
@@ -97,20 +99,22 @@ fn compiled<'t>(
         Ok(
             Compiled {
                 program,
+                assembled,
                 sources,
                 loop_lines,
                 placed,
             },
         ) => {
             let located = located_in(alloc, text, &placed, &variables, &arrays)?;
-            let notes = notes_of(alloc, text, &notes)?;
+            let warnings = warnings_of(alloc, text, &notes)?;
             Ok(CompiledText {
                 worker,
                 program,
+                assembled,
                 sources,
                 loop_lines,
                 located,
-                notes,
+                warnings,
             })
         }
         Err(fault) => Err(without_code(alloc, text, fault)),
@@ -124,7 +128,7 @@ fn tree_of<'t>(alloc: Global, text: &'t str) -> Result<&'t Source<'t>, AllocErro
     Ok(Box::leak(tree))
 }
 
-/// The program of a text with what it means and what may not be meant, or why it has none.
+/// The program of a text with what it means and its warnings, or why it has none.
 pub fn compile_text<'t>(alloc: Global, text: &'t str) -> Result<CompiledText<'t>, OccamFault>
     ensures { IsCompilation text.now result }
 {

@@ -2,10 +2,11 @@
 
 ghost use Rattle.std.specs.Prelude.{◌≡◌};
 
-use crate::message::Message;
 use std::alloc::AllocError;
 use thiserror::Error;
+use tp_accept::RefusalCode;
 use tpw_asm::AssemblyFault;
+use tpw_debug::Diagnostic;
 
 /// What the compiler does wrong with a text. None is known.
 #[derive(Clone, Copy, Debug, PartialEq, Eq, Error)]
@@ -16,6 +17,9 @@ pub enum Defect {
     /// The program that is made has no image.
     #[error("the program that it makes has no image: {0}")]
     Program(AssemblyFault),
+    /// The verifier refuses the image, and not for its budget.
+    #[error("the verifier refuses its image by {code} at {place}")]
+    Refused { code: RefusalCode, place: usize },
     /// A word that the program uses is not where it has to be.
     #[error("a word of the program that it makes is misplaced")]
     Misplaced,
@@ -24,8 +28,8 @@ pub enum Defect {
 /// Why a text has no program.
 #[derive(Debug, Drop)]
 pub enum OccamFault {
-    /// What is wrong with the text, by places: one message to twenty.
-    Refused(Vec<Message>),
+    /// What is wrong with the text: one diagnostic to twenty.
+    Refused(Vec<Diagnostic>),
     /// A fault of the compiler.
     Compiler(Defect),
     /// A growth was refused.

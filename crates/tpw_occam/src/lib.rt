@@ -1,12 +1,13 @@
-//! Workers in occam: from a text to its program, or to what is wrong with it, as messages with places.
+//! Workers in occam: from a text to its program, or to what is wrong with it, as diagnostics; and laws of them.
 #![tactic(auto)]
 
 mod compiling;
+mod diagnosing;
 mod fault;
-mod message;
+pub mod laws;
 mod names;
 
 pub use compiling::{CompiledText, compile_text};
+pub use diagnosing::fault_at;
 pub use fault::{Defect, OccamFault};
-pub use message::{Message, message_at};
 pub use names::Located;

@@ -2,7 +2,8 @@
 
 ghost use Rattle.std.specs.Prelude.{◌≡◌, IfOk, IsTrue};
 ghost use Rattle.tpw_occam_core.specs.Sound.{is_sound};
-ghost use Rattle.tpw_occam_symbolic.specs.Program.{HasLayout, Means, GivesRuled};
+ghost use Rattle.tpw_asm.specs.Assembly.{AreItsAddresses, IsAssembly};
+ghost use Rattle.tpw_occam_symbolic.specs.Program.{Means, GivesRuled};
 ghost use Rattle.tpw_occam_symbolic.specs.Flowing.{Ends};
 ghost use Rattle.tpw_occam_code.specs.Starting.{Works};
 
@@ -26,10 +27,11 @@ fn code_of(alloc: Global, worker: &Worker) -> Result<Code, CodeFault>
     Ok(code)
 }
 
-/// The program of a worker, or why there is none. The program has a layout, within the code bytes of an image, and
-/// means what the worker does. Its image breaks no rule on instructions, loops and jumps.
+/// The program of a worker with its image, or why there is none. The program means what the worker does, and its image
+/// breaks no rule on instructions, loops and jumps.
 pub fn compile(alloc: Global, worker: &Worker) -> Result<Compiled, CodeFault>
-    ensures layout { IfOk result (λ compiled. HasLayout compiled.program) }
+    ensures image { IfOk result (λ compiled. IsAssembly compiled.program compiled.assembled.image) }
+    ensures addresses { IfOk result (λ compiled. AreItsAddresses compiled.program compiled.assembled.addresses.items) }
     ensures means { IfOk result (λ compiled. IsTrue (is_sound worker.now) → Means worker.now compiled.program) }
     ensures rules { IfOk result (λ compiled. IsTrue (is_sound worker.now) → GivesRuled compiled.program) }
 {

@@ -250,9 +250,12 @@ impl<'a> Elaborator<'a> {
                 span,
                 subscript,
             } => {
-                let view = self.written_view(frame.scope, name(text, *span));
+                let array = name(text, *span);
+                let place = self.subscript_at(subscript);
+                let view = self.written_view(frame.scope, array);
                 let subscript = self.expression(frame, subscript, Some(Primitive::Int), depth);
                 let (view, subscript) = (view?, subscript?);
+                self.check_subscript(array, view, subscript.worth, place)?;
                 let found = element_type(view.kind);
                 if found != of {
                     let kind = FaultKind::Type {

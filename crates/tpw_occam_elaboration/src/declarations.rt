@@ -6,9 +6,11 @@ use crate::elaborator::{Elaborator, Frame, or_else};
 use crate::environment::{Access, Atom, Meaning, View};
 use crate::fault::{FaultKind, Stop};
 use crate::limits::{MAX_DEPTH, levels_within};
+use crate::per_call::Point;
 use crate::signatures::Callee;
 use crate::syntax::{bytes_of, element_type, span_of};
 use crate::typed::{Typed, Worth};
+use std::alloc::AllocError;
 use tpw_occam_core::Kind;
 use tpw_occam_tree::{
     Declaration, Expression as Tree, Name, Parameters, Primitive, Process, Size, Type,
@@ -60,6 +62,14 @@ impl<'a> Elaborator<'a> {
             .declare(declared.frame.scope, name, meaning)?;
         declared.frame = declared.frame.with_scope(scope);
         Ok(())
+    }
+
+    /// Adds a name to those that stand for something else in each call, if one of them was looked up behind a point.
+    fn add_per_call(&mut self, name: Name<'a>, before: Point) -> Result<(), AllocError> {
+        if self.per_call.point() == before {
+            return Ok(());
+        }
+        self.per_call.add(name.span)
     }
 
     /// What a name stands for that is declared to have a value.
@@ -202,6 +212,7 @@ impl<'a> Elaborator<'a> {
         declared: &mut Declared,
     ) -> Result<(), Stop> {
         let frame = declared.frame;
+        let before = self.per_call.point();
         let shape = match (&of.size, names.first()) {
             (Size::One, _) => None,
             (_, Some(name)) => Some(self.shape(frame, of, name.span)),
@@ -215,6 +226,7 @@ impl<'a> Elaborator<'a> {
                 (_, Some(Err(stop))) => Err(*stop),
             };
             let meaning = or_else(meaning, Meaning::Wrong)?;
+            self.add_per_call(*name, before)?;
             self.put(declared, *name, meaning)?;
         }
         Ok(())
@@ -294,6 +306,7 @@ impl<'a> Elaborator<'a> {
         declared: &mut Declared,
     ) -> Result<(), Stop> {
         let frame = declared.frame;
+        let before = self.per_call.point();
         let (name, meaning) = match declaration {
             Declaration::Variables { of, names } => {
                 return self.variables(of, names, level, declared);
@@ -321,6 +334,7 @@ impl<'a> Elaborator<'a> {
             } => (*name, self.function(*of, parameters, value, frame)),
         };
         let meaning = or_else(meaning, Meaning::Wrong)?;
+        self.add_per_call(name, before)?;
         self.put(declared, name, meaning)
     }
 

@@ -8,6 +8,7 @@ use crate::environment::{Environment, Scope};
 use crate::fault::{Fault, FaultKind, Limit, Stop};
 use crate::limits::{MAX_CALLS, MAX_IN_LINE};
 use crate::note::{Note, NoteKind};
+use crate::per_call::PerCall;
 use crate::signatures::Parameter;
 use std::alloc::{AllocError, Global};
 use tpw_occam_core::{Kind, Storage};
@@ -124,6 +125,7 @@ pub(crate) struct Elaborator<'a> {
     pub(crate) tables: Vec<usize>,
     pub(crate) faults: Vec<Fault<'a>>,
     pub(crate) notes: Vec<Note<'a>>,
+    pub(crate) per_call: PerCall,
     /// How many expressions and processes there may still be.
     left: u32,
 }
@@ -141,6 +143,7 @@ impl<'a> Elaborator<'a> {
             tables: Vec::new(alloc),
             faults: Vec::new(alloc),
             notes: Vec::new(alloc),
+            per_call: PerCall::new(alloc),
             left: MAX_IN_LINE,
         }
     }
@@ -166,7 +169,9 @@ impl<'a> Elaborator<'a> {
     }
 
     /// Notes what may not be meant, once for each place.
-    pub(crate) fn note(&mut self, span: Span, kind: NoteKind<'a>) -> Result<(), AllocError> {
+    pub(crate) fn note(&mut self, span: Span, kind: NoteKind<'a>) -> Result<(), AllocError>
+        ensures { IfOk result (λ u. Grows self.old self.new) }
+    {
         if self.notes.iter().any(|note| note.span == span) {
             return Ok(());
         }

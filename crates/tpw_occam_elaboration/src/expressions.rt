@@ -22,6 +22,7 @@ use crate::operators::{
     arithmetic, combined, complement, inverted, is_order, low_byte, operand_of, operands_of,
 };
 use crate::sort::Role;
+use crate::subscripts::Subscript;
 use crate::syntax::{element_type, is_number, name, name_of, span_of};
 use crate::typed::{Typed, Worth, constant};
 use crate::words::{MOST_NEGATIVE, MOST_POSITIVE};
@@ -327,7 +328,13 @@ impl<'a> Elaborator<'a> {
     }
 
     /// An element of an array, read.
-    fn element_of(&mut self, view: View, subscript: Typed, span: Span) -> Result<Typed, AllocError>
+    fn element_of(
+        &mut self,
+        name: Name<'a>,
+        view: View,
+        subscript: Typed,
+        place: Subscript,
+    ) -> Result<Typed, Stop>
         ensures means { IfOk result (λ t. (s : Store) → value_of t.value s
             ≡ followed (value_of subscript.value s) (element_at view.kind (array_of s view.array))) }
         ensures known { IfOk result (λ t. (s : Store) → IsKnown subscript s → Fits self.old s
@@ -336,8 +343,9 @@ impl<'a> Elaborator<'a> {
         ensures of { IfOk result (λ t. t.of ≡ element_type view.kind) }
         ensures grows { IfOk result (λ t. Grows self.old self.new) }
     {
+        let worth = self.element_worth(view, subscript.worth, name.span);
+        self.check_subscript(name, view, subscript.worth, place)?;
         self.arrays.read(view.array);
-        let worth = self.element_worth(view, subscript.worth, span);
         let subscript = Box::new(self.alloc, subscript.value)?;
         Ok(Typed {
             of: element_type(view.kind),
@@ -363,10 +371,11 @@ impl<'a> Elaborator<'a> {
             (formula.Element name.entry.text.now name.entry.span (formula_of subscript.now)) t) }
         ensures grows { IfOk result (λ t. Grows self.old self.new) }
     {
+        let place = self.subscript_at(subscript);
         let view = self.view_of(frame.scope, name);
         let subscript = self.expression(frame, subscript, Some(Primitive::Int), depth);
         let (view, subscript) = (view?, subscript?);
-        Ok(self.element_of(view, subscript, name.span)?)
+        Ok(self.element_of(name, view, subscript, place)?)
     }
 
     /// `f (e, ..)`: the FUNCTION's expression, with its parameters bound.

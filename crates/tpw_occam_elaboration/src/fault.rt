@@ -79,6 +79,12 @@ pub enum FaultKind<'a> {
         wanted: u32,
         found: u32,
     },
+    /// A constant subscript that is not below the size of its array.
+    Subscript {
+        name: &'a str,
+        at: i32,
+        elements: u32,
+    },
     /// An array that is declared has this many elements.
     ArraySize {
         elements: i64,
@@ -274,6 +280,12 @@ fn write_array<W: fmt::Write>(f: &mut fmt::Formatter<W>, kind: FaultKind<'_>) ->
         }
         FaultKind::Size { wanted, found } => {
             write!(f, "its size is {found}, and {wanted} is wanted")
+        }
+        FaultKind::Subscript { name, at, elements } => {
+            write!(
+                f,
+                "{at} is no subscript of `{name}`, which has {elements} elements"
+            )
         }
         FaultKind::ArraySize { elements } => {
             write!(

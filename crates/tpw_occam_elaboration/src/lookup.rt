@@ -14,7 +14,7 @@ use crate::sort::Role;
 use crate::syntax::{element_type, name, span_of};
 use crate::typed::{Typed, computed, constant};
 use tpw_occam_core::Expression;
-use tpw_occam_tree::{Expression as Tree, Name, Primitive};
+use tpw_occam_tree::{Expression as Tree, Keyword, Name, Primitive};
 
 impl<'a> Elaborator<'a> {
     /// What a name in scope stands for.
@@ -23,6 +23,7 @@ impl<'a> Elaborator<'a> {
         ensures grows { IfOk result (λ e. Grows self.old self.new) }
     {
         if let Some(entry) = self.environment.find(scope, name.text) {
+            self.per_call.look_up(entry.name.span);
             return Ok(entry);
         }
         if let Some(declared) = self.environment.anywhere(name.text) {
@@ -32,7 +33,10 @@ impl<'a> Elaborator<'a> {
             };
             return self.fault(name.span, kind);
         }
-        let near = self.environment.nearest(self.alloc, scope, name.text)?;
+        let near = match Keyword::in_capitals(name.text) {
+            Some(keyword) => Some(keyword),
+            None => self.environment.nearest(self.alloc, scope, name.text)?,
+        };
         let kind = FaultKind::Unknown {
             name: name.text,
             near,

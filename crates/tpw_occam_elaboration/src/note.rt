@@ -9,9 +9,19 @@ pub enum NoteKind<'a> {
     /// An IF without TRUE: where no guard holds, it sets the error flag.
     NoGuard,
     /// A result that is never assigned.
-    NeverAssigned { name: &'a str },
+    NeverAssigned {
+        name: &'a str,
+    },
     /// A variable or an array that is never read.
-    NeverRead { name: &'a str },
+    NeverRead {
+        name: &'a str,
+    },
+    /// A subscript that a call makes this constant, which is not below the size of the array.
+    Subscript {
+        name: &'a str,
+        at: i32,
+        elements: u32,
+    },
 }
 
 /// Something that may not be meant, and where.
@@ -31,6 +41,10 @@ impl fmt::Display for NoteKind<'_> {
                 write!(f, "`{name}` is the result, and nothing is assigned to it")
             }
             NoteKind::NeverRead { name } => write!(f, "`{name}` is never read"),
+            NoteKind::Subscript { name, at, elements } => write!(
+                f,
+                "in a call this is {at}, which is no subscript of `{name}`, of {elements} elements: it sets the error flag"
+            ),
         }
     }
 }

@@ -21,6 +21,13 @@ pub(crate) enum Form {
     Wrong,
 }
 
+impl Form {
+    /// Whether it is an array of a size that is written.
+    fn has_size(self) -> bool {
+        matches!(self, Form::Array { shape, .. } if shape.elements.is_some())
+    }
+}
+
 /// A parameter.
 #[derive(Clone, Copy)]
 pub(crate) struct Parameter<'a> {
@@ -96,10 +103,15 @@ impl<'a> Elaborator<'a> {
     ) -> Result<Signature, Stop> {
         let first = self.parameters.len();
         for parameters in list {
+            let before = self.per_call.point();
             let form = self.form(frame, parameters);
             let form = or_else(form, Form::Wrong)?;
+            let is_per_call = !form.has_size() || self.per_call.point() != before;
             for name in &parameters.names {
                 self.count(name.span)?;
+                if is_per_call {
+                    self.per_call.add(name.span)?;
+                }
                 self.parameters.push(Parameter { name: *name, form })?;
             }
         }

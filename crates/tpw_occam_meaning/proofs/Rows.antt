@@ -1,4 +1,4 @@
--- What two texts mean, computed on the definitions. The first:
+-- What three texts mean, computed on the definitions. The first:
 --
 --     VAL INT n IS 3:
 --     PROC p (VAL INT v, INT y)
@@ -37,13 +37,39 @@
 --               STOP
 --         r ! a[2]
 --     :
+--
+-- .. and the third:
+--
+--     PROC q (CHAN OF INT o, VAL INT v)
+--       o ! v
+--     :
+--     INT FUNCTION s (VAL []INT a) IS a[1]:
+--     PROC w (CHAN OF [2]INT c, CHAN OF INT r, CHAN OF INT T)
+--       [2]INT a, b:
+--       BOOL z:
+--       BYTE k:
+--       SEQ
+--         c ? a
+--         b := a
+--         a[1] := 9
+--         z := s (b) = 5
+--         k := 'a'
+--         q (T, s (b))
+--         IF
+--           z
+--             k := (BYTE (a[1] + (INT k)))
+--           TRUE
+--             STOP
+--         r ! (INT k) + s (a)
+--     :
 use Rattle.std.proofs.Common.{◌≡◌, ℕ, true, false, List, [], ◌∷◌, Option, Some, None, refl}
 use Rattle.std.specs.Borrow.{Bor}
 use Rattle.std.specs.declared.boxed.Box.{Box}
 use Rattle.std.specs.declared.alloc.Global.{Global}
 use Rattle.std.specs.Option.{option_map}
 use Rattle.tpw_occam_core.specs.Meaning.{Meant}
-use Rattle.tpw_occam_tree.specs.declared.expression.Primitive.TheVariants.{Int, Byte}
+use Rattle.tpw_occam_tree.specs.declared.expression.Primitive.{Primitive}
+use Rattle.tpw_occam_tree.specs.declared.expression.Primitive.TheVariants.{Int, Bool as Truth, Byte}
 use Rattle.tpw_occam_tree.specs.declared.span.Span.{Span}
 use Rattle.tpw_occam_tree.specs.declared.tree.Name.{Name}
 use Rattle.tpw_occam_tree.specs.declared.tree.Passing.{Passing}
@@ -248,3 +274,61 @@ module _ (place : Span) (text : Bor (List ℕ)) (expression : Box Expression Glo
       ≡ Some (Some (record { result = 6 ∷ 0 ∷ 0 ∷ 0 ∷ []; flag = true; traced = [] }))
   unfolding meaning_of_text
   goes_elsewhere = refl
+
+  -- q, o, s, b, z, k are 113, 111, 115, 98, 122, 107; 5, 9 are 53, 57
+  abbrev bool : written.Type
+  bool = record { sizes = sizes.End; of = Truth }
+
+  abbrev calls : ℕ → Expression → Expression
+  calls f e = tree.Call (name f) (record expressions' { value = one e })
+
+  abbrev converted : Primitive → Expression → Expression
+  converted to e = tree.Bracketed (boxed (tree.Monadic (Convert to) place (boxed e))) place
+
+  abbrev sending : Declaration
+  sending = procedure 113 (takes passing.Channel 111 (takes passing.Value 118 parameters.End)) (process.Send (name 111) (variable 118) place)
+
+  abbrev second : Declaration
+  second = declaration.Function Int (name 115) (with_type passing.Value (int of_any_size) 97 parameters.End) (element 97 (number 49))
+
+  abbrev branching : Process
+  branching = process.If
+      (record choices' {
+        value = choices.More (variable 122)
+            (record process' { value = assign (variable 107) (converted Byte (dyadic two.Add (element 97 (number 49)) (converted Int (variable 107)))) })
+            (record choices' {
+              value = choices.More (tree.Truth true place) (record process' { value = process.Stop place }) (record choices' { value = choices.End });
+            });
+      }) place
+
+  abbrev steps : Processes
+  steps =
+      then (process.Receive (name 99) (variable 97) place)
+      (then (assign (variable 98) (variable 97))
+      (then (assign (element 97 (number 49)) (number 57))
+      (then (assign (variable 122) (dyadic two.Equal (calls 115 (variable 98)) (number 53)))
+      (then (assign (variable 107) (tree.Character (record text { now = 97 ∷ [] }) place))
+      (then (process.Call (name 113) (pair (variable 84) (calls 115 (variable 98))) place)
+      (then branching
+      (then (process.Send (name 114) (dyadic two.Add (converted Int (variable 107)) (calls 115 (variable 97))) place) processes.End)))))))
+
+  abbrev one_name : ℕ → list.Names
+  one_name c = names.More (name c) (record names' { value = names.End })
+
+  abbrev third_body : Process
+  third_body = declared (declaration.Variables (int (of_size 50)) (names.More (name 97) (record names' { value = one_name 98 })))
+      (declared (declaration.Variables bool (one_name 122))
+      (declared (declaration.Variables (byte sizes.End) (one_name 107)) (sequence steps)))
+
+  abbrev third : Source
+  third = record { declarations = behind sending (behind second (behind (procedure 119 channels third_body) declarations.End)) }
+
+  pub copies : given third (7 ∷ 0 ∷ 0 ∷ 0 ∷ 5 ∷ 0 ∷ 0 ∷ 0 ∷ [])
+      ≡ Some (Some (record { result = 115 ∷ 0 ∷ 0 ∷ 0 ∷ []; flag = false; traced = 5 ∷ 0 ∷ 0 ∷ 0 ∷ [] }))
+  unfolding meaning_of_text
+  copies = refl
+
+  pub stops_and_goes_on : given third (7 ∷ 0 ∷ 0 ∷ 0 ∷ 6 ∷ 0 ∷ 0 ∷ 0 ∷ [])
+      ≡ Some (Some (record { result = 106 ∷ 0 ∷ 0 ∷ 0 ∷ []; flag = true; traced = 6 ∷ 0 ∷ 0 ∷ 0 ∷ [] }))
+  unfolding meaning_of_text
+  stops_and_goes_on = refl

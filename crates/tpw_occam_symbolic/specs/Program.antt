@@ -5,7 +5,7 @@ use Rattle.tp_decode.specs.Cutting.{Cut, IsCutting}
 use Rattle.tp_flow.specs.NestKept.{KeepsNest}
 use Rattle.tp_step.specs.Runs.{Run, RunsAlone}
 use Rattle.tpw_asm.specs.declared.program.Program.{Program}
-use Rattle.tpw_asm.specs.Assembly.{IsAssembly, AreItsAddresses}
+use Rattle.tpw_asm.specs.Assembly.{IsAssembly}
 use Rattle.tpw_occam_core.specs.declared.process.Message.{Message}
 use Rattle.tpw_occam_core.specs.declared.process.Message.TheVariants as message
 use Rattle.tpw_occam_core.specs.declared.worker.Storage.{Storage}
@@ -14,11 +14,6 @@ use Rattle.tpw_occam_core.specs.declared.worker.Place.TheVariants as place
 use Rattle.tpw_occam_core.specs.declared.worker.Worker.{Worker}
 use Rattle.tpw_occam_core.specs.Meaning.{Meant, meaning, most_traced}
 use Rattle.tpw_occam_core.specs.Sound.{storage_of, bytes_of}
-
--- its labels are places, jumps go forward, and its lines have addresses in a layout that is short enough for its
--- version
-abbrev pub HasLayout : Program → Type 0
-HasLayout program = (addresses : List ℕ) × AreItsAddresses program addresses
 
 -- how many bytes go to a place, and how many a message has
 abbrev pub place_bytes : List Storage → Place → ℕ

@@ -1,8 +1,9 @@
 //! From code to a program: items are placed, and steps become lines.
 
-ghost use Rattle.std.specs.Prelude.{◌≡◌, ◌*◌, IfOk, IsTrue, OnOk};
+ghost use Rattle.std.specs.Prelude.{◌≡◌, ◌*◌, IfOk, IsTrue};
 ghost use Rattle.tpw_occam_core.specs.Sound.{is_sound};
-ghost use Rattle.tpw_occam_symbolic.specs.Program.{HasLayout, GivesRuled, place_bytes, message_bytes};
+ghost use Rattle.tpw_asm.specs.Assembly.{AreItsAddresses, IsAssembly};
+ghost use Rattle.tpw_occam_symbolic.specs.Program.{GivesRuled, place_bytes, message_bytes};
 ghost use Rattle.tpw_occam_symbolic.specs.Flowing.{Ends};
 ghost use Rattle.tpw_occam_symbolic.specs.Placing.{AreBetween, IsBuilt};
 
@@ -18,13 +19,15 @@ use crate::uses::{Used, array_bytes, uses_of};
 use std::alloc::Global;
 use tp_image::Version;
 use tp_image::limits::{MAX_WORKSPACE_WORDS_2, MIN_WORKSPACE};
-use tpw_asm::{AssemblyFault, Program, addresses};
+use tpw_asm::{Assembled, AssemblyFault, Program, assemble};
 use tpw_occam_core::{Message, Place, Worker};
 
-/// A worker's program, and what its parts come from.
-#[derive(Debug, Drop)]
+/// A worker's program with its image, and what its parts come from.
+#[derive(Drop)]
 pub struct Compiled {
     pub program: Program,
+    /// The image, accepted or not, and the address of each place of the program.
+    pub assembled: Assembled,
     /// The line of the text that each line of code comes from.
     pub sources: Vec<u32>,
     /// The line of the text of each loop.
@@ -65,12 +68,13 @@ fn check_workspace(uses: &[Used]) -> Result<(), CodeFault> {
     Ok(())
 }
 
-/// Refuses a program that has no layout.
-fn check_code(alloc: Global, program: &Program, sources: &[u32]) -> Result<(), CodeFault>
-    ensures { OnOk result (HasLayout program.now) }
+/// Assembles a program. One that is too long is refused at the first line of the text that goes beyond an image's code.
+fn assembled(alloc: Global, program: &Program, sources: &[u32]) -> Result<Assembled, CodeFault>
+    ensures image { IfOk result (λ made. IsAssembly program.now made.image) }
+    ensures addresses { IfOk result (λ made. AreItsAddresses program.now made.addresses.items) }
 {
-    match addresses(alloc, program) {
-        Ok(_) => Ok(()),
+    match assemble(alloc, program) {
+        Ok(made) => Ok(made),
         Err(AssemblyFault::TooLong) => {
             let place = first_beyond(alloc, &program.lines)?;
             Err(CodeFault::Code {
@@ -104,11 +108,11 @@ fn placed_program(
     })
 }
 
-/// The program of a worker's code, or why there is none. The program has a layout, within the code bytes of an image, and
-/// is made of the code. Where control flows in the code from the first place to its end, the program's image breaks no rule on
-/// instructions, loops and jumps.
+/// The program of a worker's code with its image, or why there is none. The program is made of the code. Where control
+/// flows in the code from the first place to its end, the image breaks no rule on instructions, loops and jumps.
 pub fn program_of(alloc: Global, worker: &Worker, code: &Code) -> Result<Compiled, CodeFault>
-    ensures layout { IfOk result (λ compiled. HasLayout compiled.program) }
+    ensures image { IfOk result (λ compiled. IsAssembly compiled.program compiled.assembled.image) }
+    ensures addresses { IfOk result (λ compiled. AreItsAddresses compiled.program compiled.assembled.addresses.items) }
     ensures built { IfOk result (λ compiled. IsBuilt worker.now code.now compiled.placed.items compiled.program) }
     ensures rules { IfOk result (λ compiled. code.now.base ≡ 0 → Ends code.now → GivesRuled compiled.program) }
 {
@@ -118,9 +122,10 @@ pub fn program_of(alloc: Global, worker: &Worker, code: &Code) -> Result<Compile
     let arranged = layout(alloc, &uses)?;
     let sources = sources_of(alloc, code.lines())?;
     let program = placed_program(alloc, worker, code, &arranged)?;
-    check_code(alloc, &program, &sources)?;
+    let assembled = assembled(alloc, &program, &sources)?;
     Ok(Compiled {
         program,
+        assembled,
         sources,
         loop_lines: loop_lines(alloc, code.loops())?,
         placed: arranged.placed,

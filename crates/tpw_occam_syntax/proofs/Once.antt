@@ -1,8 +1,8 @@
 -- Tokens are read in one way only: of two readings that begin alike, where neither goes on, the expressions are the same
 use Rattle.std.proofs.Common.{◌≡◌, ℕ, zero, suc, ◌≤◌, List, [], ◌∷◌, ◌++◌, Option, Some, None, ap, ◌∙◌, sym, refl, subst, append_assoc, true, false, length, length-append, arith, inl, inr, ◌⊎◌}
 use Rattle.std.proofs.lemmas.List.{append-nil}
-use Rattle.tpw_occam_syntax.specs.declared.keyword.Keyword.{Keyword}
-use Rattle.tpw_occam_syntax.specs.declared.keyword.Keyword.TheVariants as keyword
+use Rattle.tpw_occam_tree.specs.declared.keyword.Keyword.{Keyword}
+use Rattle.tpw_occam_tree.specs.declared.keyword.Keyword.TheVariants as keyword
 use Rattle.tpw_occam_tree.specs.declared.span.Span.{Span}
 use Rattle.tpw_occam_syntax.specs.declared.symbol.Symbol.{Symbol}
 use Rattle.tpw_occam_syntax.specs.declared.symbol.Symbol.TheVariants as symbol

@@ -2,7 +2,7 @@
 -- No operator binds closer than another, so brackets stand between different ones, and around a monadic one within an
 -- expression.
 use Rattle.std.specs.Prelude.{◌≡◌, ℕ, true, false, Some, List, [], ◌∷◌, ◌++◌, ◌⊎◌}
-use Rattle.tpw_occam_syntax.specs.declared.keyword.Keyword.TheVariants as keyword
+use Rattle.tpw_occam_tree.specs.declared.keyword.Keyword.TheVariants as keyword
 use Rattle.tpw_occam_syntax.specs.declared.symbol.Symbol.TheVariants as symbol
 use Rattle.tpw_occam_tree.specs.declared.span.Span.{Span}
 use Rattle.tpw_occam_syntax.specs.declared.token.Bracket.TheVariants.{Round, Square}

@@ -1,7 +1,7 @@
 -- Which tokens are operators
 use Rattle.std.specs.Prelude.{Option, Some, None, option_map}
-use Rattle.tpw_occam_syntax.specs.declared.keyword.Keyword.{Keyword}
-use Rattle.tpw_occam_syntax.specs.declared.keyword.Keyword.TheVariants as keyword
+use Rattle.tpw_occam_tree.specs.declared.keyword.Keyword.{Keyword}
+use Rattle.tpw_occam_tree.specs.declared.keyword.Keyword.TheVariants as keyword
 use Rattle.tpw_occam_syntax.specs.declared.symbol.Symbol.{Symbol}
 use Rattle.tpw_occam_syntax.specs.declared.symbol.Symbol.TheVariants as symbol
 use Rattle.tpw_occam_tree.specs.declared.expression.Primitive.{Primitive}

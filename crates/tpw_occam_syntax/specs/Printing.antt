@@ -1,7 +1,7 @@
 -- The tokens that a printer writes for an expression, with brackets around each operand that has an operator
 use Rattle.std.specs.Prelude.{ℕ, Bool, true, false, List, [], ◌∷◌, ◌++◌}
-use Rattle.tpw_occam_syntax.specs.declared.keyword.Keyword.{Keyword}
-use Rattle.tpw_occam_syntax.specs.declared.keyword.Keyword.TheVariants as keyword
+use Rattle.tpw_occam_tree.specs.declared.keyword.Keyword.{Keyword}
+use Rattle.tpw_occam_tree.specs.declared.keyword.Keyword.TheVariants as keyword
 use Rattle.tpw_occam_syntax.specs.declared.symbol.Symbol.TheVariants as symbol
 use Rattle.tpw_occam_tree.specs.declared.span.Span.{Span}
 use Rattle.tpw_occam_syntax.specs.declared.token.Bracket.TheVariants.{Round, Square}

@@ -1,7 +1,7 @@
 -- What trees of tokens show of themselves
 use Rattle.std.specs.Prelude.{◌≡◌, Bool, true, false, Option, Some, None, List, [], ◌∷◌}
 use Rattle.tpw_occam_tree.specs.declared.span.Span.{Span}
-use Rattle.tpw_occam_syntax.specs.declared.keyword.Keyword.TheVariants as keyword
+use Rattle.tpw_occam_tree.specs.declared.keyword.Keyword.TheVariants as keyword
 use Rattle.tpw_occam_syntax.specs.declared.symbol.Symbol.{Symbol}
 use Rattle.tpw_occam_syntax.specs.declared.symbol.Symbol.TheVariants as symbol
 use Rattle.tpw_occam_syntax.specs.declared.token.Token.{Token}

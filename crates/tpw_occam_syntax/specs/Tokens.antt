@@ -1,6 +1,6 @@
 -- Tokens at their places, without where their text lies in memory, and those that trees are made of
 use Rattle.std.specs.Prelude.{ℕ, List, [], ◌∷◌, ◌++◌, flat_map}
-use Rattle.tpw_occam_syntax.specs.declared.keyword.Keyword.{Keyword}
+use Rattle.tpw_occam_tree.specs.declared.keyword.Keyword.{Keyword}
 use Rattle.tpw_occam_syntax.specs.declared.symbol.Symbol.{Symbol}
 use Rattle.tpw_occam_tree.specs.declared.span.Span.{Span}
 use Rattle.tpw_occam_syntax.specs.declared.token.Bracket.{Bracket}

@@ -1,6 +1,5 @@
 //! Declarations, read from lines.
 
-use crate::keyword::Keyword;
 use crate::phrases::{
     around, front_type, keyword_of, name, name_of, names, parameters, position_of,
     position_of_keyword, symbol_of,
@@ -11,8 +10,8 @@ use crate::symbol::Symbol;
 use crate::token::{Bracket, Tree};
 use std::alloc::{AllocError, Global};
 use tpw_occam_tree::{
-    Declaration, Expression, Fault, FaultKind, Name, Parameters, Primitive, Size, Span, Type,
-    Unsupported, Wanted,
+    Declaration, Expression, Fault, FaultKind, Keyword, Name, Parameters, Primitive, Size, Span,
+    Type, Unsupported, Wanted,
 };
 
 /// The expression that trees spell.

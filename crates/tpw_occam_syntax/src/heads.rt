@@ -1,7 +1,6 @@
 //! What a line says by itself, whatever stands below it.
 
 use crate::declaring::{declaration, declared_names, procedure_head, seems_declaration, value};
-use crate::keyword::Keyword;
 use crate::layout::Block;
 use crate::phrases::{
     around, keyword_of, name, name_of, position_of, position_of_keyword, symbol_of,
@@ -14,7 +13,7 @@ use crate::symbol::Symbol;
 use crate::token::{Bracket, Tree};
 use std::alloc::{AllocError, Global};
 use tpw_occam_tree::{
-    Declaration, Dyadic, Expression, Fault, FaultKind, Name, Parameters, Process, Span,
+    Declaration, Dyadic, Expression, Fault, FaultKind, Keyword, Name, Parameters, Process, Span,
     Unsupported, Wanted,
 };
 
@@ -210,7 +209,7 @@ fn small_keyword(trees: &[Tree<'_>]) -> Option<Span> {
             ..
         })
     );
-    (Keyword::is_small(name.text) && !is_called).then_some(name.span)
+    (Keyword::in_capitals(name.text).is_some() && !is_called).then_some(name.span)
 }
 
 /// A process of one line that begins with no keyword: an assignment, a message or a call.

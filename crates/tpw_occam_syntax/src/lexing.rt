@@ -1,9 +1,8 @@
 //! Tokens.
 
-use crate::keyword::Keyword;
 use crate::symbol::Symbol;
 use crate::token::{Bracket, Token};
-use tpw_occam_tree::{FaultKind, is_hexadecimal, quoted};
+use tpw_occam_tree::{FaultKind, Keyword, is_hexadecimal, quoted};
 
 /// What is wrong at the front of a text: which bytes are shown, and how many are passed over.
 #[derive(Clone, Copy)]

@@ -8,7 +8,6 @@ mod declaring;
 mod faults;
 mod grouping;
 mod heads;
-mod keyword;
 pub mod laws;
 mod layout;
 mod lexing;

@@ -1,11 +1,10 @@
 //! A line, which may go on over several lines of the text.
 
-use crate::keyword::Keyword;
 use crate::lexing::{behind, token};
 use crate::symbol::Symbol;
 use crate::token::{Item, Token};
 use std::alloc::{AllocError, Global};
-use tpw_occam_tree::{Fault, FaultKind, MAX_FAULTS, Span};
+use tpw_occam_tree::{Fault, FaultKind, Keyword, MAX_FAULTS, Span};
 
 /// What was read of a line.
 #[derive(Drop)]

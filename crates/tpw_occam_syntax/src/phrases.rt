@@ -4,7 +4,6 @@ ghost use Rattle.std.specs.Prelude.{◌≡◌, ◌∷◌, [], IfOk, IfSome};
 ghost use Rattle.tpw_occam_syntax.specs.Tokens.{marks, marks_of};
 ghost use Rattle.tpw_occam_syntax.specs.Names.{name_mark, AreNames};
 
-use crate::keyword::Keyword;
 use crate::reading::{
     MAX_DEPTH, expression, place, primitive, span_of, trees_behind, up_to_comma, wanted,
 };
@@ -12,7 +11,7 @@ use crate::stop::Stop;
 use crate::symbol::Symbol;
 use crate::token::{Bracket, Item, Token, Tree};
 use std::alloc::Global;
-use tpw_occam_tree::{Name, Parameters, Passing, Primitive, Size, Span, Type, Wanted};
+use tpw_occam_tree::{Keyword, Name, Parameters, Passing, Primitive, Size, Span, Type, Wanted};
 
 /// The keyword that a tree is.
 pub(crate) fn keyword_of(tree: Option<&Tree<'_>>) -> Option<Keyword> {

@@ -9,12 +9,13 @@ ghost use Rattle.tpw_occam_syntax.specs.Grammar.{IsExpression, IsOperand, IsItem
 ghost use Rattle.tpw_occam_syntax.specs.Reading.{place_of, dyadic_at, is_comma_at, is_direction_at, MayFollow};
 ghost use Rattle.tpw_occam_syntax.specs.Reading.{BeginsWithComma, BeginsWithInt};
 
-use crate::keyword::Keyword;
 use crate::stop::Stop;
 use crate::symbol::Symbol;
 use crate::token::{Bracket, Item, Token, Tree};
 use std::alloc::Global;
-use tpw_occam_tree::{Dyadic, Expression, Fault, FaultKind, Monadic, Primitive, Span, Wanted};
+use tpw_occam_tree::{
+    Dyadic, Expression, Fault, FaultKind, Keyword, Monadic, Primitive, Span, Wanted,
+};
 
 /// The most operators and brackets within one another, where an operator of a chain lies within the next.
 pub(crate) const MAX_DEPTH: usize = 501;

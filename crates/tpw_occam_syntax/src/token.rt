@@ -1,8 +1,7 @@
 //! Tokens, and the trees that brackets make of them.
 
-use crate::keyword::Keyword;
 use crate::symbol::Symbol;
-use tpw_occam_tree::Span;
+use tpw_occam_tree::{Keyword, Span};
 
 /// A pair of brackets.
 #[derive(Clone, Copy, PartialEq)]

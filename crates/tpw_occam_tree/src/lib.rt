@@ -4,6 +4,7 @@
 
 mod expression;
 mod fault;
+mod keyword;
 pub mod laws;
 mod places;
 mod source;
@@ -14,6 +15,7 @@ mod unsupported;
 
 pub use expression::{Dyadic, Expression, Monadic, Primitive};
 pub use fault::{Fault, FaultKind, MAX_FAULTS, Wanted};
+pub use keyword::Keyword;
 pub use places::{placed, placed_faults};
 pub use source::Source;
 pub use span::Span;

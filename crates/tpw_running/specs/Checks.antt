@@ -1,5 +1,6 @@
 -- What packets' runs give, beside what the text in occam means by the packets.
-use Rattle.std.specs.Prelude.{◌≡◌, ℕ, ◌+◌, nat_eq, ◌&&◌, Bool, true, false, if◌then◌else◌, List, [], ◌∷◌, ◌++◌, codes}
+use Rattle.std.specs.Prelude.{◌≡◌, ℕ, ◌+◌, nat_eq, ◌&&◌, ◌==◌, Bool, true, false, if◌then◌else◌, List, [], ◌∷◌, ◌++◌}
+use Rattle.std.specs.Prelude.{length, codes}
 use Rattle.std.specs.Prelude.{Option, Some, None}
 use Rattle.std.specs.Fmt.{decimal}
 use Rattle.std.specs.Str.{bytes_eq}
@@ -16,6 +17,8 @@ use Rattle.tp_collect.specs.declared.collected.LostCause.TheVariants as cause
 use Rattle.tpw_occam_core.specs.declared.evaluated.Given.{Given}
 use Rattle.tpw_occam_core.specs.declared.worker.Worker.{Worker}
 use Rattle.tpw_occam_core.specs.Meaning.{Meant, meaning}
+use Rattle.tpw_files.specs.declared.outcome.Outcome.{Outcome}
+use Rattle.tpw_files.specs.declared.outcome.Outcome.TheVariants.{Good, Bad}
 use Rattle.tpw_runs.specs.declared.form.Style.{Style}
 use Rattle.tpw_runs.specs.declared.form.Form.TheVariants.{Lines}
 use Rattle.tpw_runs.specs.Lines.{flag, message_text, trace_text, whole_line}
@@ -115,3 +118,9 @@ pub record HasChecked (image : Accepted) (worker : Worker) (style : Style) (pack
   pub written : Appends before after (others_text worker style image.budget 0 packets entries)
   pub others : c.others.items ≡ all_others worker 0 packets entries
   pub counted : c.tally ≡ with_entries (Lines style) nothing_counted entries
+
+-- Packets were run, and the check is good where each has what the text means.
+pub record IsChecked (image : Accepted) (worker : Worker) (packets : List (List ℕ)) (outcome : Outcome) : Type 0 where
+  pub entries : List Entry
+  pub results : AreResults image.image image.budget packets entries
+  pub outcome_is : outcome ≡ (if length (all_others worker 0 packets entries) == 0 then Good else Bad)

@@ -1,4 +1,4 @@
-//! What a text in occam means by packets, without an image or a farm.
+//! The meaning of packets by a text in occam, without an image or a farm.
 
 ghost use Rattle.std.specs.Prelude.{◌≡◌, ◌<◌, ◌+◌, ◌^◌, OnOk};
 ghost use Rattle.tpw_runs.specs.Tallies.{counted};
@@ -21,7 +21,7 @@ fn is_expected(meant: &Meant, expected: Option<&Expected>) -> bool {
     }
 }
 
-/// What is counted of a packet, by what is meant by it and whether that is another result than the expected one.
+/// The count of a packet, by its meaning and whether that is another result than the expected one.
 fn kind_of(meant: &Meant, is_other: bool) -> Kind {
     match &meant.given {
         Some(_) if is_other => Kind::Other,

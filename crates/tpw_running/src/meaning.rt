@@ -1,4 +1,4 @@
-//! What a text in occam means by packets, as lines.
+//! The meaning of packets by a text in occam, as lines.
 
 ghost use Rattle.std.specs.Prelude.{◌≡◌, ◌++◌, IfOk, OnOk};
 ghost use Rattle.tpw_occam_core.specs.Meaning.{IsMeaning};
@@ -10,7 +10,7 @@ use std::io::Write;
 use tpw_occam_core::{Given, Worker, evaluate};
 use tpw_runs::{Style, write_message, write_trace};
 
-/// What a worker means by a packet: a result, or that the packet is lost.
+/// The meaning of a packet: a result, or that the packet is lost.
 #[derive(Drop)]
 pub struct Meant {
     pub given: Option<Given>,
@@ -48,7 +48,7 @@ fn write_given(
 }
 
 impl Meant {
-    /// What a worker means by a packet.
+    /// The meaning of a packet by a worker.
     pub fn of(alloc: Global, worker: &Worker, packet: &[u8]) -> Result<Meant, AllocError>
         ensures { IfOk result (λ meant. IsMeaning worker.now packet.now meant.given) }
     {

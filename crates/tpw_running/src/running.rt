@@ -1,8 +1,8 @@
 //! Packets, run on an accepted worker.
 
-ghost use Rattle.std.specs.Prelude.{◌≡◌, ◌≤◌, ◌*◌, All, IfOk, length, map};
-ghost use Rattle.tpw_runs.specs.Results.{HasShown};
-ghost use Rattle.tpw_running.specs.Checks.{HasChecked};
+ghost use Rattle.std.specs.Prelude.{◌≡◌, ◌≤◌, ◌*◌, All, IfOk, OnOk, length, map};
+ghost use Rattle.tpw_runs.specs.Results.{HasRun, HasShown};
+ghost use Rattle.tpw_running.specs.Checks.{HasChecked, IsChecked};
 
 use crate::checking::{Checking, write_checked};
 use crate::summary::{is_as_expected, write_summary};
@@ -12,12 +12,12 @@ use std::sync::Wait;
 use std::thread::Threads;
 use std::time::Clock;
 use tp_accept::Accepted;
-use tpw_command_line::{Following, Running};
+use tpw_command_line::{ReplayHint, RunOptions};
 use tpw_files::{Failure, Input, Language, Outcome, Terminal};
 use tpw_occam_core::Worker;
 use tpw_runs::{
-    Expected, Form, Progress, RunFault, Shown, Style, Tally, members_for, run_in_form,
-    run_on_members, write_loss,
+    Expected, Form, Progress, Report, RunFault, Shown, Style, Tally, members_for, run_on_members,
+    write_loss,
 };
 
 /// Why a batch of runs fails.
@@ -29,7 +29,7 @@ fn failure_of_run(fault: RunFault) -> Failure {
     }
 }
 
-/// What is run: packets on an accepted worker, and the results that are expected, where they are asked for.
+/// A run, prepared: packets on an accepted worker, and the results that are expected, where they are asked for.
 #[derive(Drop)]
 pub struct Prepared {
     pub image: Accepted,
@@ -40,7 +40,7 @@ pub struct Prepared {
 /// Writes how to follow the first packet that has another result than the one that is expected, if there is one.
 fn write_following<W: Write>(
     writer: &mut W,
-    asked: &Running,
+    asked: &RunOptions,
     input: &Input,
     language: Language,
     tally: &Tally,
@@ -48,8 +48,8 @@ fn write_following<W: Write>(
     let Some(number) = tally.first else {
         return Ok(());
     };
-    let following = Following {
-        asking: &asked.showing.asking,
+    let following = ReplayHint {
+        source: &asked.output.source,
         input,
         language,
         number,
@@ -61,7 +61,38 @@ fn write_following<W: Write>(
     }
 }
 
-/// Runs packets on an accepted image, and shows their results in a form, and progress where somebody waits for it.
+/// Runs packets on an accepted image, with progress where somebody waits for it. A report shows what becomes of each.
+fn run_reported<T, S: Report, W: Write>(
+    rt: &T,
+    alloc: Global,
+    prepared: &Prepared,
+    members: usize,
+    report: &mut S,
+    writer: &mut W,
+    is_terminal: bool,
+) -> Result<(), Failure>
+where
+    T: Threads + Wait + Clock + Eprint + Sync,
+    requires whole { All (λ p. length p.items ≡ 4 * prepared.now.image.image.packet) prepared.now.packets.items }
+    requires new { S.count report.old ≡ 0 }
+    ensures { OnOk result (HasRun S.text S.becomes prepared.now.image (map (λ p. p.items) prepared.now.packets.items)
+        (W.contents writer.old) (W.contents writer.new) report.old report.new) }
+{
+    let image = &prepared.image;
+    let packets = &prepared.packets;
+    let progress = Progress::new(rt, packets.len(), is_terminal);
+    let members = members_for(members, packets.len());
+    let ran = run_on_members(
+        rt, alloc, image, packets, members, &progress, report, writer,
+    );
+    progress.clear();
+    match ran {
+        Ok(()) => Ok(()),
+        Err(fault) => Err(failure_of_run(fault)),
+    }
+}
+
+/// Runs packets on an accepted image, and shows their results in a form.
 fn run_shown<'e, T, W: Write>(
     rt: &T,
     alloc: Global,
@@ -77,20 +108,20 @@ where
     ensures { IfOk result (HasShown prepared.now.image form.entry (map (λ p. p.items) prepared.now.packets.items)
         (W.contents writer.old) (W.contents writer.new)) }
 {
-    let image = &prepared.image;
-    let packets = &prepared.packets;
-    let progress = Progress::new(rt, packets.len(), is_terminal);
-    let members = members_for(members, packets.len());
-    let ran = run_in_form(rt, alloc, image, packets, members, &progress, form, writer);
-    progress.clear();
-    match ran {
-        Ok(shown) => Ok(shown),
-        Err(fault) => Err(failure_of_run(fault)),
-    }
+    let mut shown = Shown::new(alloc, form, prepared.image.budget());
+    run_reported(
+        rt,
+        alloc,
+        prepared,
+        members,
+        &mut shown,
+        writer,
+        is_terminal,
+    )?;
+    Ok(shown)
 }
 
-/// Runs packets on an accepted image, and shows where what becomes of them is not what a worker means, and progress
-/// where somebody waits for it.
+/// Runs packets on an accepted image, and shows where what becomes of them is not what a worker means.
 fn run_checked<'m, T, W: Write>(
     rt: &T,
     alloc: Global,
@@ -107,26 +138,17 @@ where
     ensures { IfOk result (HasChecked prepared.now.image meaning.now style
         (map (λ p. p.items) prepared.now.packets.items) (W.contents writer.old) (W.contents writer.new)) }
 {
-    let image = &prepared.image;
-    let packets = &prepared.packets;
-    let progress = Progress::new(rt, packets.len(), is_terminal);
-    let members = members_for(members, packets.len());
-    let mut checking = Checking::new(alloc, meaning, style, image.budget());
-    let ran = run_on_members(
+    let mut checking = Checking::new(alloc, meaning, style, prepared.image.budget());
+    run_reported(
         rt,
         alloc,
-        image,
-        packets,
+        prepared,
         members,
-        &progress,
         &mut checking,
         writer,
-    );
-    progress.clear();
-    match ran {
-        Ok(()) => Ok(checking),
-        Err(fault) => Err(failure_of_run(fault)),
-    }
+        is_terminal,
+    )?;
+    Ok(checking)
 }
 
 /// Runs what is prepared, and writes what becomes of each packet.
@@ -134,7 +156,7 @@ pub fn write_run<T, W: Write, E: Write>(
     rt: &T,
     alloc: Global,
     prepared: &Prepared,
-    asked: &Running,
+    asked: &RunOptions,
     input: &Input,
     language: Language,
     writer: &mut W,
@@ -144,7 +166,7 @@ where
     T: Threads + Wait + Clock + Eprint + Sync,
     requires { All (λ p. length p.items ≡ 4 * prepared.now.image.image.packet) prepared.now.packets.items }
 {
-    let form = asked.showing.form(&prepared.expected);
+    let form = asked.output.form(&prepared.expected);
     let budget = Some(prepared.image.budget());
     let is_terminal = terminal.is_terminal;
     let Shown { tally, unshown, .. } = run_shown(
@@ -178,7 +200,7 @@ pub fn write_check<T, W: Write, E: Write>(
     rt: &T,
     alloc: Global,
     prepared: &Prepared,
-    asked: &Running,
+    asked: &RunOptions,
     meaning: &Worker,
     writer: &mut W,
     terminal: &mut Terminal<'_, E>,
@@ -186,10 +208,11 @@ pub fn write_check<T, W: Write, E: Write>(
 where
     T: Threads + Wait + Clock + Eprint + Sync,
     requires { All (λ p. length p.items ≡ 4 * prepared.now.image.image.packet) prepared.now.packets.items }
+    ensures { IfOk result (IsChecked prepared.now.image meaning.now (map (λ p. p.items) prepared.now.packets.items)) }
 {
     let style = Style {
         trace: true,
-        ..asked.showing.style
+        ..asked.output.style
     };
     let budget = prepared.image.budget();
     let is_terminal = terminal.is_terminal;

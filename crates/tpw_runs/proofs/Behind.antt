@@ -24,7 +24,7 @@ taken_and (suc n) m [] = taken_none (suc n + m) ∙ sym (taken_none m)
 taken_and (suc n) m (x ∷ xs) =
     ap (λ k. take k (x ∷ xs)) (let same : suc n + m ≡ suc (n + m) = omega arith in same) ∙ ap (λ l. x ∷ l) (taken_and n m xs)
 
--- a batch of so many from a number on
+-- a batch of some packets from a number on
 pub of_slice : {A B : Type 0} (f : A → B) (n m : ℕ) (xs : List A) → map f (take ((n + m) - n) (drop n xs)) ≡ take m (drop n (map f xs))
 of_slice f n m xs =
     let same : (n + m) - n ≡ m = omega arith in

@@ -56,7 +56,7 @@ words_said [] = Some []
 words_said (field ∷ fields) =
     option_and_then (λ number. option_map (λ bytes. word_bytes number ++ bytes) (words_said fields)) (signed_said field)
 
--- a message of so many bytes
+-- a message of this number of bytes
 abbrev pub packet_said : Notation → ℕ → List (List ℕ) → Option (List ℕ)
 packet_said Hexadecimal bytes fields = hexadecimal_said bytes fields
 packet_said Words bytes fields = if length fields * 4 == bytes then words_said fields else None
@@ -78,7 +78,7 @@ abbrev pub flagged : Option Bool → Option (List ℕ) → Option ResultSaid
 flagged error message =
     option_and_then (λ e. option_map (λ m. record { error = e; message = m }) message) error
 
--- a result of so many bytes: `flag 0` or `flag 1` and its message, or its message alone, which has flag 0
+-- a result of this number of bytes: `flag 0` or `flag 1` and its message, or its message alone, which has flag 0
 abbrev pub result_said : Notation → ℕ → List (List ℕ) → Option ResultSaid
 result_said notation bytes (word ∷ flag ∷ fields) =
     if bytes_eq word (codes "flag") then flagged (flag_said flag) (packet_said notation bytes fields)

@@ -8,7 +8,7 @@ use std::alloc::{AllocError, AllocFailed};
 use thiserror::Error;
 use tpw_text::Position;
 
-/// What is wrong with a line that says no message.
+/// The fault of a line that says no message.
 #[derive(Clone, Copy, Debug, PartialEq, Eq, Error)]
 pub enum PacketKind {
     #[error("a number is wanted: decimal, #2A or 0x2A, of 32 bits")]
@@ -19,7 +19,7 @@ pub enum PacketKind {
     /// The line has another number of words than a message.
     #[error("{found} words, and {wanted} are wanted")]
     Length { found: usize, wanted: usize },
-    /// The line is no field of so many hexadecimal digits.
+    /// The line is no field of this number of hexadecimal digits.
     #[error("{0} hexadecimal digits are wanted, with nothing between them")]
     NoHexadecimal(usize),
     #[error("flag 0 or flag 1 is wanted")]
@@ -60,7 +60,7 @@ pub enum RunFault {
     /// A growth was refused.
     #[error("memory")]
     Memory,
-    /// What is shown could not be written.
+    /// The output could not be written.
     #[error("write")]
     Write,
 }

@@ -17,7 +17,7 @@ pub struct Expected {
     pub message: Vec<u8>,
 }
 
-/// What is shown of each packet.
+/// The form in which each packet is shown.
 #[derive(Clone, Copy)]
 pub enum Form<'e> {
     /// A line with what became of it.

@@ -1,4 +1,4 @@
-//! What became of a packet, as a line.
+//! The outcome of a packet, as a line.
 
 ghost use Rattle.std.specs.Prelude.{◌≡◌, ◌++◌, OnOk};
 ghost use Rattle.std.specs.Option.{option_map};

@@ -1,12 +1,11 @@
 //! The members that run packets.
 
-ghost use Rattle.std.specs.Prelude.{◌≡◌, ◌≤◌, ◌*◌, All, IfOk, OnOk, length, map, true};
-ghost use Rattle.tpw_runs.specs.Results.{HasRun, HasShown};
+ghost use Rattle.std.specs.Prelude.{◌≡◌, ◌≤◌, ◌*◌, All, OnOk, length, map, true};
+ghost use Rattle.tpw_runs.specs.Results.{HasRun};
 
 use crate::batches::run_packets;
 use crate::fault::RunFault;
-use crate::form::Form;
-use crate::report::{Report, Shown};
+use crate::report::Report;
 use std::alloc::Global;
 use std::io::Write;
 use std::sync::Wait;
@@ -19,7 +18,7 @@ use tp_link::{boxed, media_of};
 /// The most members.
 const MAX_MEMBERS: usize = 64;
 
-/// How many members run so many packets: no more than there are packets, and 1 to 64.
+/// The number of members that run a number of packets: no more than there are packets, and 1 to 64.
 pub fn members_for(members: usize, packets: usize) -> usize
     ensures least { 1 ≤ result }
     ensures most { result ≤ 64 }
@@ -49,27 +48,4 @@ pub fn run_on_members<R: Threads + Wait + Sync, G: Gate, S: Report, W: Write>(
     let mut media = media_of(alloc, members, MAX_MESSAGE)?;
     let links = boxed(alloc, &mut media)?;
     run_packets(rt, alloc, image, packets, links, gate, report, writer)
-}
-
-/// Runs packets on members of its own, and writes what became of each in a form. Packets are numbered from 0.
-pub fn run_in_form<'e, R: Threads + Wait + Sync, G: Gate, W: Write>(
-    rt: &R,
-    alloc: Global,
-    image: &Accepted,
-    packets: &[Vec<u8>],
-    members: usize,
-    gate: &G,
-    form: Form<'e>,
-    writer: &mut W,
-) -> Result<Shown<'e>, RunFault>
-    requires least { 1 ≤ members }
-    requires most { members ≤ 64 }
-    requires open { G.open_for_good gate.now ≡ true }
-    requires whole { All (λ p. length p.items ≡ 4 * image.now.image.packet) packets.now }
-    ensures { IfOk result (HasShown image.now form.entry (map (λ p. p.items) packets.now)
-        (W.contents writer.old) (W.contents writer.new)) }
-{
-    let mut shown = Shown::new(alloc, form, image.budget());
-    run_on_members(rt, alloc, image, packets, members, gate, &mut shown, writer)?;
-    Ok(shown)
 }

@@ -31,7 +31,7 @@ pub struct Field<'t> {
     pub position: Position,
 }
 
-/// Appends a field of the line of a number, behind so many bytes, if it has bytes itself.
+/// Appends a field of the line of a number, behind the first `before` bytes, if it has bytes itself.
 fn push_field<'l>(
     fields: &mut Vec<Field<'l>>,
     text: &'l [u8],
@@ -112,7 +112,7 @@ fn numbers_of(fields: &[Field<'_>]) -> Result<Packet, PacketFault>
     Ok(packet)
 }
 
-/// The fault of fields that say no message of so many bytes as words.
+/// The fault of fields that say no message of `bytes` bytes as words.
 fn fault_of_words(fields: &[Field<'_>], bytes: usize) -> PacketKind
     requires { bytes ≤ 256 }
 {
@@ -160,7 +160,7 @@ fn flag_of(field: &Field<'_>) -> Result<bool, PacketFault>
     }
 }
 
-/// The error flag and the result of so many bytes that fields say are expected, which begin at a place: `flag 1` and
+/// The error flag and the result of `bytes` bytes that fields say are expected, which begin at a place: `flag 1` and
 /// the result's message, or its message alone.
 fn result_of(
     fields: &[Field<'_>],
@@ -188,7 +188,7 @@ fn result_of(
     }
 }
 
-/// Appends the message of so many bytes that a line says. A line without fields says none.
+/// Appends the message of `bytes` bytes that a line says. A line without fields says none.
 fn push_packet(
     alloc: Global,
     packets: &mut Vec<Vec<u8>>,
@@ -231,7 +231,7 @@ pub fn packets_of(
     Ok(packets)
 }
 
-/// Appends the result of so many bytes that a line says. A line without fields says none.
+/// Appends the result of `bytes` bytes that a line says. A line without fields says none.
 fn push_result(
     alloc: Global,
     results: &mut Vec<Expected>,

@@ -21,7 +21,7 @@ pub struct Progress<'r, R> {
 }
 
 impl<'r, R: Clock + Eprint> Progress<'r, R> {
-    /// Progress of so many packets, which is shown or not.
+    /// Progress of a number of packets, which is shown or not.
     pub fn new(rt: &'r R, packets: usize, is_shown: bool) -> Progress<'r, R> {
         let start = if is_shown {
             Instant::now(rt).ok()
@@ -37,7 +37,7 @@ impl<'r, R: Clock + Eprint> Progress<'r, R> {
         }
     }
 
-    /// Shows that so many packets are finished, so long after the start.
+    /// Shows the number of packets that are finished, and the time since the start.
     fn show(&self, finished: u64, milliseconds: u64) {
         let packets = self.packets;
         let left = packets.saturating_sub(finished);

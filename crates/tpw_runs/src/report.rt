@@ -1,4 +1,4 @@
-//! What is shown of packets that are run, one after another.
+//! Reports of packets that are run, one after another.
 
 ghost use Rattle.std.specs.Prelude.{◌≡◌, ◌++◌, ◌+◌, ◌<◌, ◌^◌, [], OnOk};
 ghost use Rattle.tpw_runs.specs.Shown.{unshown, IsNothingShown};
@@ -38,7 +38,7 @@ pub struct Loss {
     pub cause: LostCause,
 }
 
-/// What became of packets, shown in a form, and counted.
+/// The outcomes of packets, shown in a form, and counted.
 #[derive(Drop)]
 pub struct Shown<'e> {
     form: Form<'e>,

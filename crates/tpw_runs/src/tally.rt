@@ -1,4 +1,4 @@
-//! What became of packets, in numbers.
+//! The outcomes of packets, in numbers.
 
 ghost use Rattle.std.specs.Prelude.{◌≡◌, ◌<◌, ◌^◌};
 ghost use Rattle.tpw_runs.specs.Tallies.{counted, kind_of, widened, with_kind, with_steps, with_first, with_entry};
@@ -31,7 +31,7 @@ fn widened(range: Option<StepRange>, steps: u32) -> StepRange
     }
 }
 
-/// What is counted of a packet.
+/// The count of a packet.
 #[derive(Clone, Copy, Debug, PartialEq, Eq)]
 pub enum Kind {
     /// It has a result: the one that is expected, where one is.

@@ -18,7 +18,7 @@ use Rattle.tpw_machine.specs.Meaning.{Messages, HasExchanged}
 abbrev pub has_prefix : List ℕ → ℤ → Bool
 has_prefix code at = option_map_or is_prefix (code_byte code at) false
 
--- so many prefixes stand in a code from an address on, and then none
+-- a code has this number of prefixes from an address on, and then none
 pub record ArePrefixes (code : List ℕ) (at : ℤ) (count : ℕ) : Type 0 where
   pub each : (i : ℕ) → i < count → has_prefix code (at +ℤ pos i) ≡ true
   pub last : has_prefix code (at +ℤ pos count) ≡ false
@@ -29,7 +29,7 @@ pub record IsInstruction (image : ImageValue) (s t : State) : Type 0 where
   pub are : ArePrefixes image.code s.iptr prefixes
   pub leads : steps image (suc prefixes) s ≡ Some t
 
--- so many steps from s are none but those of the prefixes of its next instruction
+-- this number of steps from s are none but those of the prefixes of its next instruction
 pub record IsBeforeLastByte (image : ImageValue) (s : State) (count : ℕ) : Type 0 where
   pub prefixes : ℕ
   pub are : ArePrefixes image.code s.iptr prefixes

@@ -2,7 +2,7 @@
 
 use std::fmt;
 use tp_decode::Instr;
-use tpw_source::SourceText;
+use tpw_debug::SourceText;
 
 /// An instruction where Wptr is a workspace word: one with a local word as its operand by the name of that, where it
 /// has one.

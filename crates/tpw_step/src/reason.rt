@@ -83,7 +83,7 @@ pub(crate) struct Snapshot<'a> {
     pub(crate) workspace: &'a Workspace,
 }
 
-/// The address so many words on from another.
+/// The address a number of words on from another.
 fn words_on(address: u32, words: i32) -> u32 {
     address.wrapping_add(words.wrapping_mul(WORD_BYTES.cast_signed()).cast_unsigned())
 }
@@ -101,7 +101,7 @@ fn word(snapshot: Snapshot<'_>, address: u32, is_read: bool) -> Option<Reason> {
     }
 }
 
-/// Why the packet cannot be received so: so many bytes, over a channel, to an address.
+/// Why the packet cannot be received so: a number of bytes, over a channel, to an address.
 fn input_reason(snapshot: Snapshot<'_>, bytes: u32, channel: u32, address: u32) -> Reason {
     let image = snapshot.image;
     let length = image.packet.wrapping_mul(WORD_BYTES);

@@ -12,8 +12,8 @@ use std::io::Write;
 use tp_image::Image;
 use tp_link::{Link, LinkDevice, LinkFault, Links, Media};
 use tp_step::profile::{self, MEM_START};
+use tpw_debug::{Named, ShowFault, SourceText};
 use tpw_machine::{Registers, Turn};
-use tpw_source::{Named, ShowFault, SourceText};
 
 /// The longest packet, result or trace message, in bytes.
 pub(crate) const ROOM: usize = 256;
@@ -39,14 +39,14 @@ pub enum End {
     Unended,
 }
 
-/// What is shown of a run.
+/// The options of a run that is shown.
 #[derive(Clone, Copy)]
 pub struct Shown<'a> {
     /// Which instructions are.
     pub span: Span,
     /// Where there are some, only instructions that change one of these words are.
     pub watched: &'a [Named<'a>],
-    /// What an assembly text says of the code.
+    /// Debug information of the code.
     pub source: SourceText<'a>,
     /// Whether each number has its hexadecimal behind it.
     pub hexadecimal: bool,
@@ -62,7 +62,7 @@ impl<'a> Shown<'a> {
     }
 }
 
-/// What a run has sent.
+/// The messages that a run has sent.
 #[derive(Drop)]
 struct Sent {
     result: Vec<u8>,

@@ -2,7 +2,7 @@
 
 use std::fmt;
 use tp_step::profile::{MEM_START, WORD_BYTES};
-use tpw_source::SourceText;
+use tpw_debug::SourceText;
 
 /// How values are written.
 #[derive(Clone, Copy)]

@@ -5,7 +5,7 @@ use crate::value::{Style, Value};
 use std::alloc::{AllocError, Global};
 use std::fmt;
 use tp_step::profile::{MEM_START, WORD_BYTES};
-use tpw_source::Named;
+use tpw_debug::Named;
 
 /// The most words of a workspace.
 const WORDS: u32 = 512;
@@ -27,7 +27,7 @@ impl Workspace {
         Ok(Workspace { words })
     }
 
-    /// Whether so many bytes from an address on lie in it.
+    /// Whether `bytes` bytes from an address on lie in it.
     pub(crate) fn holds(&self, address: u32, bytes: u32) -> bool {
         let first = u64::from(address);
         let end = u64::from(MEM_START).saturating_add(u64::from(WORD_BYTES).saturating_mul(

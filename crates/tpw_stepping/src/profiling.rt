@@ -12,12 +12,12 @@ use std::thread::Threads;
 use std::time::Clock;
 use tp_collect::LostCause;
 use tp_image::{Image, ImageFault, read_image};
+use tpw_debug::SourceText;
 use tpw_files::{Failure, Outcome, Terminal};
 use tpw_runs::{LONG_TRACE, Progress, members_for, write_loss};
-use tpw_source::SourceText;
 use tpw_step::{Profile, RunEnd, Stepper, count_run};
 
-/// What is counted: the runs of packets of an image.
+/// A profile, prepared: packets of an image, whose runs are counted.
 #[derive(Drop)]
 pub struct Counted {
     pub image: Image,
@@ -31,7 +31,7 @@ struct Unstopped {
     end: RunEnd,
 }
 
-/// What a member has counted.
+/// The counts of a member.
 #[derive(Drop)]
 struct Share {
     profile: Profile,
@@ -96,7 +96,7 @@ fn count_share<R: Clock + Eprint>(
     Ok(Share { profile, unstopped })
 }
 
-/// Counts packets on the image that bytes say, on so many members: each has as many packets as the others, in order.
+/// Counts packets on the image that bytes say, on members: each has as many packets as the others, in order.
 fn count_shares<T: Threads + Clock + Eprint + Sync>(
     rt: &T,
     alloc: Global,

@@ -5,14 +5,14 @@ use std::fmt;
 use std::io::Write;
 use tp_decode::{DecodeFault, Listing, decode};
 use tp_image::{Image, LoopRow};
+use tpw_debug::SourceText;
 use tpw_files::Failure;
-use tpw_source::SourceText;
 use tpw_step::Profile;
 
 /// The columns of the longest bar.
 const BAR: u64 = 30;
 
-/// What is written: an image, the steps made on it, and what a text says of it.
+/// An image, the steps made on it, and its debug information.
 #[derive(Clone, Copy)]
 pub struct Shares<'a, 's> {
     pub image: &'a Image,

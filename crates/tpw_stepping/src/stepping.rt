@@ -7,12 +7,12 @@ use crate::place::place_of;
 use std::alloc::Global;
 use std::io::Write;
 use tp_image::Image;
-use tpw_command_line::{Ending, FROM, PlaceKind, Refusal, Stepping, UNTIL, WatchKind};
+use tpw_command_line::{Ending, FROM, PlaceKind, Refusal, StepOptions, UNTIL, WatchKind};
+use tpw_debug::{Named, SourceText};
 use tpw_files::{Failure, Outcome};
-use tpw_source::{Named, SourceText};
 use tpw_step::{End, Place, Shown, Span, show_run};
 
-/// What is shown of a run: from where and as far as what, the words whose changes are shown, and how.
+/// The part of a run that is shown: from where and as far as what, the words whose changes are shown, and how.
 #[derive(Drop)]
 pub struct Excerpt<'a> {
     span: Span,
@@ -166,12 +166,12 @@ fn watched_of<'a>(
     Ok(watched)
 }
 
-/// What is to be shown of a run, as it is asked for.
+/// The part of a run that is to be shown.
 pub fn excerpt_of<'a>(
     alloc: Global,
     image: &Image,
     source: SourceText<'a>,
-    stepping: &Stepping,
+    stepping: &StepOptions,
 ) -> Result<Excerpt<'a>, Ending> {
     Ok(Excerpt {
         span: Span {
@@ -184,7 +184,7 @@ pub fn excerpt_of<'a>(
     })
 }
 
-/// What a command answers whose run has ended so.
+/// The outcome of a command whose run has ended so.
 pub fn outcome_of(end: End) -> Outcome
     ensures { result ≡ of_run end }
 {

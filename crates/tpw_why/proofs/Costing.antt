@@ -1,5 +1,6 @@
 -- What costs by address begin with.
-use Rattle.std.proofs.Common.{◌≡◌, ℕ, ◌<◌, true, List, length, get_or, Option, Some, None, is_some, refl, ap, ◌∙◌, arith}
+use Rattle.std.proofs.Common.{◌≡◌, ℕ, ◌<◌, true, List, length, get_or, Option, Some, None, is_some, Result, Ok, Err, IfOk}
+use Rattle.std.proofs.Common.{refl, ap, sym, subst, ◌∙◌, arith}
 use Rattle.std.specs.Option.{option_map}
 use Rattle.std.proofs.lemmas.Option.{slice_get-get_or}
 use Rattle.tp_image.specs.Image.{ImageValue}
@@ -32,3 +33,8 @@ begins_with_budget image costs may told =
       begins = slice_get-get_or costs.by_address.items 0 None (omega (arith, some, told.by_address.long)) ∙ ap Some there;
       whole = omega (arith, is, may.within);
     }
+
+pub begins_if_ok : {E : Type 0} (image : ImageValue) (budget : ℕ) (r : Result Costs E) → IsAcceptable image budget → IfOk r (AreCostsOf image)
+    → IfOk r (λ costs. costs.budget ≡ budget) → IfOk r BeginsWithBudget
+begins_if_ok image budget (Ok costs) may told same = begins_with_budget image costs (subst (IsAcceptable image) (sym same) may) told
+begins_if_ok image budget (Err e) may told same = tt

@@ -3,12 +3,10 @@
 use Rattle.std.specs.Prelude.{◌≡◌, ℕ, ◌<◌, List, length, map, get_or, slice_get, Option, Some, None}
 use Rattle.std.specs.Option.{option_map}
 use Rattle.tp_image.specs.Image.{ImageValue}
-use Rattle.tp_image.specs.Text.{IsTextOf}
 use Rattle.tp_image.specs.declared.image.LoopRow.{LoopRow}
 use Rattle.tp_decode.specs.Cutting.{Cut, cut_at, IsCutting}
 use Rattle.tp_accept.specs.Bound.{bound, costs_of}
 use Rattle.tp_accept.specs.Capped.{capped, counted}
-use Rattle.tp_accept.specs.Acceptance.{IsAcceptable}
 use Rattle.tp_accept.specs.declared.counting.Counted.{Counted}
 use Rattle.tpw_why.specs.declared.costs.LoopCost.{LoopCost}
 use Rattle.tpw_why.specs.declared.costs.Costs.{Costs}
@@ -35,17 +33,6 @@ pub record AreCostsOf (image : ImageValue) (costs : Costs) : Type 0 where
   pub budget : costs.budget ≡ bound image.loops cuts
   pub loops : costs.loops.items ≡ map (loop_cost image.loops cuts) image.loops
   pub by_address : AreByAddress image.loops cuts (length image.code) costs.by_address.items
-
--- the text is an image that may be run within the budget, and these are its costs
-pub record AreCostsOfText (text : List ℕ) (costs : Costs) : Type 0 where
-  pub image : ImageValue
-  pub spelled : IsTextOf text image
-  pub acceptable : IsAcceptable image costs.budget
-  pub costs_of : AreCostsOf image costs
-
--- the text is no image that may be run
-abbrev pub MayNotBeRun : List ℕ → Type 0
-MayNotBeRun text = (image : ImageValue) (budget : ℕ) → IsTextOf text image → ¬ IsAcceptable image budget
 
 -- the budget is what can be executed from the first instruction on
 pub record BeginsWithBudget (costs : Costs) : Type 0 where

@@ -1,8 +1,8 @@
-//! What the rule of an instruction asks of the state before it.
+//! The conditions of an instruction's rule on the state before it.
 
 use tp_decode::Instr;
 
-/// What is asked, but for what its edges ask.
+/// The conditions, but for those of its edges.
 pub fn asked_by(instr: Instr) -> &'static str {
     match instr {
         Instr::Jump(_) => "no live control word among the five words below Wptr",

@@ -4,7 +4,7 @@ use crate::costs::LoopCost;
 use std::fmt;
 use std::io::Write;
 use tp_image::Image;
-use tpw_source::{ShowFault, SourceText};
+use tpw_debug::{ShowFault, SourceText};
 
 /// A count of bytes; the greatest number of 64 bits stands for each that is not below it.
 #[derive(Clone, Copy)]

@@ -1,13 +1,13 @@
 //! Where the bytes of a run go: costs by address.
 
-ghost use Rattle.std.specs.Prelude.{◌≡◌, length, map, None, IfOk, IfSome};
+ghost use Rattle.std.specs.Prelude.{◌≡◌, length, map, IfOk};
 ghost use Rattle.tp_decode.specs.Cutting.{IsCutting};
+ghost use Rattle.tp_accept.specs.Acceptance.{IsAcceptable};
 ghost use Rattle.tp_accept.specs.Capped.{counted_at, AreCounted};
-ghost use Rattle.tpw_why.specs.ByAddress.{loop_cost, AreByAddress, AreCostsOf, AreCostsOfText, MayNotBeRun};
-ghost use Rattle.tpw_why.specs.ByAddress.{BeginsWithBudget};
+ghost use Rattle.tpw_why.specs.ByAddress.{loop_cost, AreByAddress, AreCostsOf, BeginsWithBudget};
 
 use std::alloc::{AllocError, Global};
-use tp_accept::{Accepted, Counted, Refusal, accept, costs};
+use tp_accept::{Accepted, Counted, costs};
 use tp_decode::{DecodeFault, Listing, decode};
 use tp_image::{Image, LoopRow};
 
@@ -135,17 +135,12 @@ fn costs_of_accepted(alloc: Global, accepted: &Accepted) -> Result<Costs, AllocE
     })
 }
 
-/// Judges the bytes of an image: where its bytes go, if it is accepted. Each cost is the most instruction bytes that
-/// can be executed, or the greatest number of 64 bits where that is less.
-pub fn costs_of(alloc: Global, text: &[u8]) -> Result<Option<Costs>, AllocError>
-    ensures costs { IfOk result (λ found. IfSome found (AreCostsOfText text.now)) }
-    ensures starts { IfOk result (λ found. IfSome found BeginsWithBudget) }
-    ensures refused { IfOk result (λ found. found ≡ None → MayNotBeRun text.now) }
+/// Where the bytes of an accepted image go. Each cost is the most instruction bytes that can be executed, or the greatest
+/// number of 64 bits where that is less.
+pub fn costs_of(alloc: Global, accepted: &Accepted) -> Result<Costs, AllocError>
+    ensures costs { IfOk result (AreCostsOf accepted.now.image) }
+    ensures budget { IfOk result (λ costs. costs.budget ≡ accepted.now.budget) }
+    ensures starts { IsAcceptable accepted.now.image accepted.now.budget → IfOk result BeginsWithBudget }
 {
-    let copy = Vec::from_slice(alloc, text)?;
-    match accept(alloc, copy) {
-        Ok(accepted) => Ok(Some(costs_of_accepted(alloc, &accepted)?)),
-        Err(Refusal::Memory) => Err(AllocError),
-        Err(Refusal::Refused { .. }) => Ok(None),
-    }
+    costs_of_accepted(alloc, accepted)
 }

@@ -5,9 +5,9 @@ use std::alloc::Global;
 use std::io::Write;
 use tp_image::{Image, ImageCode};
 use tp_prefix::MAX_SPELLING;
-use tpw_source::ShowFault;
+use tpw_debug::ShowFault;
 
-/// What is asked of a field of the header: its name, and its range in version 1 and in version 2.
+/// A field of the header: its name, and its range in version 1 and in version 2.
 fn range_of(code: ImageCode) -> Option<(&'static str, &'static str, &'static str)> {
     match code {
         ImageCode::F3 => Some(("code bytes", "1 to 2048", "1 to 8192")),

@@ -8,7 +8,7 @@ use tp_decode::{Instr, Listing};
 use tp_flow::FlowCode;
 use tp_flow::limits::MAX_TURNS;
 use tp_image::{Image, LoopRow};
-use tpw_source::{ShowFault, SourceText};
+use tpw_debug::{ShowFault, SourceText};
 
 /// Whether a row's range has an address.
 fn has(row: &LoopRow, at: u32) -> bool {
@@ -23,7 +23,7 @@ fn cross(one: &LoopRow, other: &LoopRow) -> bool {
     meet && !within && !around
 }
 
-/// What is wrong with a row by itself, if anything is.
+/// The fault of a row by itself, if it has one.
 fn fault_alone(image: &Image, listing: &Listing, row: &LoopRow) -> Option<&'static str> {
     let last_index = i64::from(row.start)
         .saturating_add(i64::from(row.count))
@@ -49,7 +49,7 @@ fn fault_alone(image: &Image, listing: &Listing, row: &LoopRow) -> Option<&'stat
     }
 }
 
-/// What is wrong with a row beside an earlier one, if anything is.
+/// The fault of a row beside an earlier one, if it has one.
 fn fault_beside(row: &LoopRow, earlier: &LoopRow) -> Option<&'static str> {
     if cross(row, earlier) {
         Some("its range overlaps an earlier row's, and neither lies within the other")

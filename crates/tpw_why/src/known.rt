@@ -1,10 +1,10 @@
-//! What is known of registers and words, as text.
+//! Abstract values of registers and words, as text.
 
 use std::fmt;
 use tp_image::LoopRow;
 use tp_state::{Cell, Kind};
 
-/// What is known of a register.
+/// The abstract value of a register.
 #[derive(Clone, Copy, Debug, PartialEq, Eq)]
 pub struct KnownRegister(pub Kind);
 
@@ -23,7 +23,7 @@ impl fmt::Display for KnownRegister {
     }
 }
 
-/// What is known of a word.
+/// The abstract value of a word.
 #[derive(Clone, Copy, Debug, PartialEq, Eq)]
 pub struct KnownWord(pub Cell);
 

@@ -1,7 +1,7 @@
 //! Why the verifier refuses an image: the refusal's meaning, what is known where it comes, and what helps.
 //!
-//! [`first_refusal`] makes the passes over whole tables up to their first refusal. [`explain`] judges an image and
-//! explains the verdict.
+//! [`judge`] gives the verdict on an image, which [`explain`] and [`list`] write. [`first_refusal`] makes the passes over
+//! whole tables up to their first refusal.
 #![tactic(auto)]
 
 mod asked;
@@ -9,6 +9,7 @@ mod bound;
 mod costs;
 mod fields;
 mod flow;
+mod judging;
 mod known;
 mod lines;
 mod listed;
@@ -23,6 +24,7 @@ mod writers;
 mod written;
 
 pub use costs::{Costs, LoopCost, costs_of};
+pub use judging::{Verdict, judge};
 pub use listed::list;
 pub use meaning::{Meaning, meaning_of};
 pub use passes::first_refusal;

@@ -6,7 +6,7 @@ use std::alloc::Global;
 use std::io::Write;
 use tp_decode::Listing;
 use tp_image::Image;
-use tpw_source::{ShowFault, SourceText};
+use tpw_debug::{ShowFault, SourceText};
 
 /// How many instructions are shown before the place, and behind it.
 const AROUND: usize = 4;

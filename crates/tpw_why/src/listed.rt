@@ -1,20 +1,19 @@
 //! A code, listed with its costs.
 
-ghost use Rattle.std.specs.Prelude.{IfOk};
 ghost use Rattle.tp_decode.specs.Cutting.{IsCutting};
-ghost use Rattle.tpw_why.specs.Verdicts.{IsVerdictOn};
 
 use crate::bound::write_bound;
 use crate::costs::{CodeCosts, costs_of_code, listing_of};
-use crate::verdict::{image_of, whole_of, write_line, write_refusal};
+use crate::judging::Verdict;
+use crate::verdict::{image_of, whole_of, write_line, write_refusal, write_yes};
 use std::alloc::Global;
 use std::io::Write;
-use tp_accept::{Counted, Refusal, RefusalCode, accept};
+use tp_accept::{Accepted, Counted, RefusalCode};
 use tp_decode::{DecodeFault, Listing, Placed, decode};
 use tp_image::Image;
-use tpw_source::{ShowFault, SourceText};
+use tpw_debug::{ShowFault, SourceText};
 
-/// What is listed: an image, its instructions, and what a text says of them.
+/// An image, its instructions, and debug information of them.
 #[derive(Clone, Copy)]
 struct Listed<'a> {
     image: &'a Image,
@@ -162,35 +161,37 @@ fn list_refused<W: Write>(
     }
 }
 
-/// Judges the bytes of an image, and writes the verdict and the code: of each instruction its address, its bytes, the
-/// most bytes that are executed from there to the end of the loop around it or of the run, its text, and the line of
-/// the text that says it. It answers whether the image is accepted.
+/// Writes the line of an accepted image, and its code with its costs.
+fn list_accepted<W: Write>(
+    alloc: Global,
+    accepted: &Accepted,
+    source: SourceText<'_>,
+    writer: &mut W,
+) -> Result<(), ShowFault> {
+    write_yes(accepted, writer)?;
+    let listing = listing_of(alloc, accepted)?;
+    let listed = Listed {
+        image: accepted.image(),
+        listing: &listing,
+        source,
+    };
+    list_costs(alloc, listed, "budget  ", writer)
+}
+
+/// Writes the verdict on the bytes of an image, and the code: of each instruction its address, its bytes, the most bytes
+/// that are executed from there to the end of the loop around it or of the run, its text, and the line of the text that
+/// says it.
 pub fn list<W: Write>(
     alloc: Global,
     text: &[u8],
+    verdict: &Verdict,
     source: SourceText<'_>,
     writer: &mut W,
-) -> Result<bool, ShowFault>
-    ensures { IfOk result (IsVerdictOn text.now) }
-{
-    match accept(alloc, Vec::from_slice(alloc, text)?) {
-        Ok(accepted) => {
-            let bytes = accepted.code().len();
-            let budget = accepted.budget();
-            writeln!(writer, "YES {bytes} {budget}").map_err(|_| ShowFault::Write)?;
-            let listing = listing_of(alloc, &accepted)?;
-            let listed = Listed {
-                image: accepted.image(),
-                listing: &listing,
-                source,
-            };
-            list_costs(alloc, listed, "budget  ", writer)?;
-            Ok(true)
-        }
-        Err(Refusal::Memory) => Err(ShowFault::Memory),
-        Err(Refusal::Refused { code, place }) => {
-            list_refused(alloc, text, source, code, place, writer)?;
-            Ok(false)
+) -> Result<(), ShowFault> {
+    match verdict {
+        Verdict::Accepted(accepted) => list_accepted(alloc, accepted, source, writer),
+        Verdict::Refused { code, place } => {
+            list_refused(alloc, text, source, *code, *place, writer)
         }
     }
 }

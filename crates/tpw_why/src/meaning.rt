@@ -1,4 +1,4 @@
-//! What each refusal means, and what to do about it.
+//! The meaning of each refusal, and its remedy.
 
 use tp_accept::RefusalCode;
 use tp_decode::DecodeCode;
@@ -148,7 +148,7 @@ fn of_state(code: StateCode) -> Meaning {
     }
 }
 
-/// What a refusal means.
+/// The meaning of a refusal.
 pub fn meaning_of(code: RefusalCode) -> Meaning {
     match code {
         RefusalCode::Image(code) => of_image(code),

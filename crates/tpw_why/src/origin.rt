@@ -36,7 +36,7 @@ impl Register {
     }
 }
 
-/// What kind of value a rule asks for in a register.
+/// The kind of value that a rule asks for in a register.
 #[derive(Clone, Copy)]
 enum Wanted {
     Anything,
@@ -68,7 +68,7 @@ impl Wanted {
     }
 }
 
-/// What an instruction asks for in Areg, Breg and Creg.
+/// The kinds that an instruction asks for in Areg, Breg and Creg.
 fn asked_of(instr: Instr) -> (Wanted, Wanted, Wanted) {
     use Wanted::*;
     match instr {

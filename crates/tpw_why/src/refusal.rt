@@ -11,7 +11,7 @@ pub struct EdgeRefusal {
     pub instruction: Placed,
     /// The edge on which its rule was asked.
     pub edge: Edge,
-    /// What is refused.
+    /// The code of the refusal.
     pub code: StateCode,
     /// Where: the instruction's address in the code, in bytes; or where two edges may not meet, the address of their
     /// target.
@@ -25,6 +25,6 @@ pub struct FirstRefusal {
     pub passes: u128,
     /// The edge that is refused in the next one.
     pub refusal: EdgeRefusal,
-    /// What is known before the instructions when that edge is taken: by address, in code bytes.
+    /// The abstract states before the instructions when that edge is taken: by address, in code bytes.
     pub table: Vec<Option<State>>,
 }

@@ -18,9 +18,9 @@ use tp_flow::{Edge, Nest};
 use tp_image::{Image, LoopRow};
 use tp_state::{Cell, Kind, State, StateCode, StateFault, after};
 use tp_step::profile::FRAME_WORDS;
-use tpw_source::{Names, ShowFault, SourceText};
+use tpw_debug::{Names, ShowFault, SourceText};
 
-/// From so many words on, a table of numbers is shown on one line.
+/// The number of words from which on a table of numbers is shown on one line.
 const TABLE_WORDS: usize = 8;
 
 /// The name of an edge.
@@ -64,7 +64,7 @@ fn write_stretch<W: Write>(
     written.map_err(|_| ShowFault::Write)
 }
 
-/// The last word of those from one on, below so many, of which the same is known.
+/// The last of the words from one on, of `words` in all, that have the same abstract value.
 fn last_alike(state: &State, words: usize, first: usize) -> usize {
     let cell = state.cells.get(first);
     for word in first.saturating_add(1)..words {
@@ -316,11 +316,11 @@ fn write_meeting<W: Write>(
     .map_err(|_| ShowFault::Write)
 }
 
-/// What helps where an operation on numbers is given an address.
+/// A remedy where an operation on numbers is given an address.
 const MOVE_BY_INDEX: &str =
     "wsub moves the address of a word, and bsub that of a byte, by an index: add to the index before it";
 
-/// What helps against a refusal at an instruction, where it is another thing than against others of its code.
+/// A remedy for a refusal at an instruction, where it is another than for others of its code.
 fn remedy_of(refusal: &EdgeRefusal, state: &State) -> Option<&'static str> {
     match refusal.instruction.instr {
         Instr::Adc(_) | Instr::Add | Instr::Sum | Instr::Sub | Instr::Diff

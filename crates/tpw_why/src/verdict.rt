@@ -1,45 +1,43 @@
 //! A verdict, explained.
 
-ghost use Rattle.std.specs.Prelude.{IfOk};
 ghost use Rattle.tp_decode.specs.Cutting.{IsCutting};
-ghost use Rattle.tpw_why.specs.Verdicts.{IsVerdictOn};
 
 use crate::bound::write_bound;
 use crate::costs::{CodeCosts, costs_of_code};
 use crate::fields::{write_bytes, write_field, write_turns};
 use crate::flow::write_flow;
+use crate::judging::Verdict;
 use crate::meaning::meaning_of;
 use crate::passes::first_refusal;
 use crate::states::write_state;
 use std::alloc::Global;
 use std::io::Write;
-use tp_accept::{Refusal, RefusalCode, accept};
+use tp_accept::{Accepted, RefusalCode};
 use tp_decode::{DecodeFault, Listing, decode};
 use tp_flow::{FlowCode, check_flow};
 use tp_image::{Image, ImageFault, read_image};
-use tpw_source::{ShowFault, SourceText, Statement};
+use tpw_debug::{ShowFault, SourceText, Statement};
 
-/// Judges the bytes of an image, and writes the verdict: as farmd answers it, and of a refusal what it means, where it
-/// comes, and what helps; the listing has what a text says of its lines. It answers whether the image is accepted.
+/// Writes the line of an image that is accepted.
+pub(crate) fn write_yes<W: Write>(accepted: &Accepted, writer: &mut W) -> Result<(), ShowFault> {
+    let bytes = accepted.code().len();
+    let budget = accepted.budget();
+    writeln!(writer, "YES {bytes} {budget}").map_err(|_| ShowFault::Write)
+}
+
+/// Writes the verdict on the bytes of an image: as farmd answers it, and of a refusal what it means, where it comes, and
+/// what helps; the listing has what a text says of its lines.
 pub fn explain<W: Write>(
     alloc: Global,
     text: &[u8],
+    verdict: &Verdict,
     source: SourceText<'_>,
     writer: &mut W,
-) -> Result<bool, ShowFault>
-    ensures { IfOk result (IsVerdictOn text.now) }
-{
-    match accept(alloc, Vec::from_slice(alloc, text)?) {
-        Ok(accepted) => {
-            let bytes = accepted.code().len();
-            let budget = accepted.budget();
-            writeln!(writer, "YES {bytes} {budget}").map_err(|_| ShowFault::Write)?;
-            Ok(true)
-        }
-        Err(Refusal::Memory) => Err(ShowFault::Memory),
-        Err(Refusal::Refused { code, place }) => {
-            write_refusal(alloc, text, source, code, place, writer)?;
-            Ok(false)
+) -> Result<(), ShowFault> {
+    match verdict {
+        Verdict::Accepted(accepted) => write_yes(accepted, writer),
+        Verdict::Refused { code, place } => {
+            write_refusal(alloc, text, source, *code, *place, writer)
         }
     }
 }

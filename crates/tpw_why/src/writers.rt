@@ -11,7 +11,7 @@ use tp_image::Image;
 use tp_state::{Kind, State};
 use tp_step::profile::{FRAME_WORDS, WORD_BYTES};
 
-/// What an instruction has done to a word.
+/// The effect of an instruction on a word.
 #[derive(Clone, Copy, Debug, PartialEq, Eq)]
 pub(crate) enum Wrote {
     /// It stored what is known of a register.
@@ -57,7 +57,7 @@ impl fmt::Display for Wrote {
     }
 }
 
-/// Whether a word is from the first up to so many behind the last.
+/// Whether a word is one from the first to the last, or of the `more` behind that.
 fn is_among(word: usize, first: i64, last: i64, more: i64) -> bool {
     match i64::try_from(word) {
         Ok(word) => first <= word && word <= last.saturating_add(more),
@@ -71,7 +71,7 @@ fn is_below(state: &State, word: usize) -> bool {
     is_among(word, wptr - i64::from(FRAME_WORDS), wptr, -1)
 }
 
-/// What a store of a register to a place does to a word.
+/// The effect on a word of a store of a register to a place.
 fn stored_at(place: Kind, further: i32, value: Kind, word: usize) -> Option<Wrote> {
     let Kind::Ptr(first, last) = place else {
         return None;
@@ -87,7 +87,7 @@ fn stored_at(place: Kind, further: i32, value: Kind, word: usize) -> Option<Wrot
     }
 }
 
-/// What a store of a byte does to a word.
+/// The effect of a store of a byte on a word.
 fn byte_at(place: Kind, word: usize) -> Option<Wrote> {
     let (first, last) = match place {
         Kind::Ptr(first, last) => (first, last),
@@ -97,7 +97,7 @@ fn byte_at(place: Kind, word: usize) -> Option<Wrote> {
     is_among(word, i64::from(first), i64::from(last), 0).then_some(Wrote::Byte)
 }
 
-/// What a message or a copy of so many words to a place does to a word.
+/// The effect on a word of a message or a copy to a place, of a number of words.
 fn block_at(place: Kind, words: i64, wrote: Wrote, word: usize) -> Option<Wrote> {
     let Kind::Ptr(first, last) = place else {
         return None;
@@ -111,7 +111,7 @@ fn block_at(place: Kind, words: i64, wrote: Wrote, word: usize) -> Option<Wrote>
     .then_some(wrote)
 }
 
-/// What a `lend` does to a word.
+/// The effect of a `lend` on a word.
 fn turned(image: &Image, nest: &Nest, at: usize, edge: Edge, word: usize) -> Option<Wrote> {
     let row = image.loops.get(nest.lend_row(at)?)?;
     let control = i64::from(row.control);
@@ -132,7 +132,7 @@ fn words_of(bytes: Kind) -> i64 {
     }
 }
 
-/// What an instruction does to a word on an edge, from the state before it; none where it leaves it as it is.
+/// The effect of an instruction on a word on an edge, from the state before it; none where it leaves it as it is.
 pub(crate) fn effect_on(
     image: &Image,
     nest: &Nest,
@@ -167,7 +167,7 @@ pub(crate) struct Passage {
     pub(crate) wrote: Option<Wrote>,
 }
 
-/// What each way does to a word.
+/// The effect of each way on a word.
 pub(crate) fn passages_of(
     alloc: Global,
     image: &Image,
@@ -202,7 +202,7 @@ fn mark_before(passages: &[Passage], marks: &mut [bool]) -> bool {
     has_more
 }
 
-/// The addresses, of so many, at which the word has what it has at one of them.
+/// Marks the addresses, below `places`, at which the word has the value that it has at one of them.
 pub(crate) fn same_before(
     alloc: Global,
     places: usize,

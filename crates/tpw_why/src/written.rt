@@ -12,9 +12,9 @@ use tp_decode::{Instr, Listing, Placed};
 use tp_flow::Nest;
 use tp_image::Image;
 use tp_state::{Cell, Kind, State, StateCode};
-use tpw_source::{ShowFault, SourceText};
+use tpw_debug::{ShowFault, SourceText};
 
-/// What the verifier has found, where it refuses a state.
+/// The finding of the verifier, where it refuses a state.
 #[derive(Clone, Copy)]
 pub(crate) struct Finding<'a> {
     pub(crate) image: &'a Image,
@@ -244,7 +244,7 @@ fn write_block<W: Write>(
     Ok(())
 }
 
-/// What is known of a word behind the refused instruction, as far as a store of a local word shows it.
+/// The abstract value of a word behind the refused instruction, as far as a store of a local word shows it.
 fn known_after(finding: Finding<'_>, state: &State, word: usize) -> Cell {
     let EdgeRefusal {
         instruction,

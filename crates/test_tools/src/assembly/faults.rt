@@ -99,7 +99,7 @@ fn sizes(rt: HostRuntime) {
     let mut program = program(&rt, rt.alloc(), 8, 1, 1, &[], &[]);
     unwrap(&rt, program.lines.resize(2048, plain(Instr::Ldc(0))));
     let longest = unwrap(&rt, assemble(rt.alloc(), &program));
-    assert_same(&rt, &longest.code.len(), &2048);
+    assert_same(&rt, &longest.image.code.len(), &2048);
     unwrap(&rt, program.lines.push(plain(Instr::Ldc(0))));
     match assemble(rt.alloc(), &program) {
         Ok(_) => assert!(rt; false),
@@ -109,7 +109,7 @@ fn sizes(rt: HostRuntime) {
     unwrap(&rt, program.lines.resize(4096, plain(Instr::Mint)));
     unwrap(&rt, program.lines.resize(5120, plain(Instr::Mint)));
     let longest = unwrap(&rt, assemble(rt.alloc(), &program));
-    assert_same(&rt, &longest.code.len(), &(2049 + 2 * 3071));
+    assert_same(&rt, &longest.image.code.len(), &(2049 + 2 * 3071));
     let last = spelled(Operation::Plain(Instr::Mint), Some(3));
     unwrap(&rt, program.lines.push(last));
     match assemble(rt.alloc(), &program) {

@@ -5,7 +5,7 @@ use Rattle.tpw_assembly.proofs.assembly.assembled_from.Goals as goal
 pub returns-clause-image : goal.returns-clause-image
 returns-clause-image c =
     IfOk-weaker c.assembled_text.result _ _
-    (λ bytes image. is_assembled _ _ _ c.in_ok-source.source c.in_ok-text.ensures.text c.in_ok-source.ensures.said image)
+    (λ made image. is_assembled _ _ _ c.in_ok-source.source c.in_ok-text.ensures.text c.in_ok-source.ensures.said image)
     c.assembled_text.ensures.image
 
 pub returns-clause-refused : goal.returns-clause-refused

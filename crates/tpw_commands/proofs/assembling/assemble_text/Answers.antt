@@ -5,7 +5,7 @@ use Rattle.tpw_commands.proofs.assembling.assemble_text.Goals as goal
 
 pub returns-clause-line : goal.returns-clause-line
 returns-clause-line g c =
-    let line = is_line _ _ _ _ _ _ c.in_ok-image.ensures.image c.as_slice.ensures.value c.in_ok-line.ensures c.as_str.ensures.value in
+    let line = is_line _ _ _ _ _ _ c.in_ok-made.ensures.image c.as_slice.ensures.value c.in_ok-line.ensures c.as_str.ensures.value in
     on_ok_weaker c.write_line.result (λ written. (c.as_str.result.now, line, written)) c.write_line.ensures.text
 
 pub returns-clause-refused : goal.returns-clause-refused

@@ -2,7 +2,7 @@ use Rattle.std.proofs.Common.{◌≡◌, ◌+◌, ◌++◌, ℕ, List, map, take
 use Rattle.tpw_runs.specs.Reports.{ShowsAll}
 use Rattle.tpw_runs.proofs.batches.show_batch.Given as goal
 
--- so many packets are shown
+-- the packets before the index are shown
 abbrev pub invariant-loop-i : goal.invariant-loop-i
 invariant-loop-i g l =
     let report = g.S.Report in

@@ -30,7 +30,7 @@ loop-i-preserved c =
           c.put.ensures.memory
           ∙ ap (λ memory. with_bytes memory (mem_start + 4 * i) c.to_le_bytes.result) c.loop-i.invariant.memory
           ∙ ap (λ bytes. with_bytes (with_bytes nothing_defined mem_start (flat_map (to_le_bytes w32) (take i (first_words image)))) (mem_start + 4 * i) bytes) c.to_le_bytes.ensures
-          ∙ word_more image range i c.first_word.result lt c.first_word.ensures;
+          ∙ word_more image range i c.initial_word.result lt c.initial_word.ensures;
     }
 
 pub returns-clause-memory : goal.returns-clause-memory

@@ -1,0 +1,23 @@
+-- What a text says of an address of its code, and of a word of its workspace.
+use Rattle.std.specs.Prelude.{ℕ, ◌-◌, ◌==◌, ◌&&◌, nat_le, nat_lt, Bool, List, Option, find, reverse, option_map}
+use Rattle.tpw_debug.specs.declared.source.Statement.{Statement}
+use Rattle.tpw_debug.specs.declared.source.Named.{Named}
+
+-- the first statement at an address
+abbrev pub statement_at : List Statement → ℕ → Option Statement
+statement_at statements at = find (λ s. s.at == at) statements
+
+-- the line of the last statement before an address
+abbrev pub line_before : List Statement → ℕ → Option ℕ
+line_before statements at = option_map (λ (s : Statement). s.line) (find (λ s. nat_lt s.at at) (reverse statements))
+
+-- a word is one of those of a name
+abbrev pub is_word_of : Named → ℕ → Bool
+is_word_of named word = nat_le named.first word && nat_lt (word - named.first) named.words
+
+-- the first name that has a word, and the first whose words begin at it
+abbrev pub named : List Named → ℕ → Option Named
+named names word = find (λ n. is_word_of n word) names
+
+abbrev pub named_from : List Named → ℕ → Option Named
+named_from names word = find (λ n. n.first == word) names

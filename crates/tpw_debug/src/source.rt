@@ -1,0 +1,214 @@
+//! Debug information, borrowed.
+
+ghost use Rattle.std.specs.Prelude.{◌≡◌, option_map};
+ghost use Rattle.tpw_debug.specs.Said.{statement_at, line_before, is_word_of, named, named_from};
+
+use crate::printable::Printable;
+use std::fmt;
+use tp_image::LoopRow;
+
+/// A statement of a text, at the address of an instruction that it says.
+#[derive(Clone, Copy, Debug, PartialEq, Eq)]
+pub struct Statement<'a> {
+    pub at: usize,
+    /// The line of the text and the column of the statement, counted from 1.
+    pub line: usize,
+    pub column: usize,
+    pub text: Printable<'a>,
+}
+
+/// A label of a text, and its address.
+#[derive(Clone, Copy, Debug, PartialEq, Eq)]
+pub struct Label<'a> {
+    pub at: usize,
+    pub name: &'a str,
+}
+
+/// A name of workspace words: of the first, and of those behind it.
+#[derive(Clone, Copy, Debug, PartialEq, Eq)]
+pub struct Named<'a> {
+    pub first: usize,
+    pub words: usize,
+    pub name: &'a str,
+}
+
+impl<'a> Named<'a> {
+    /// Whether it names a word.
+    pub fn has(&self, word: usize) -> bool
+        ensures { result ≡ is_word_of self.now word }
+    {
+        self.first <= word && word.saturating_sub(self.first) < self.words
+    }
+
+    /// A word of the name, as a text writes it.
+    pub fn of(self, word: usize) -> Indexed<'a> {
+        Indexed { named: self, word }
+    }
+}
+
+/// A word of a name: `k` where the name has one word, else `buf[2]`.
+#[derive(Clone, Copy)]
+pub struct Indexed<'a> {
+    named: Named<'a>,
+    word: usize,
+}
+
+impl fmt::Display for Indexed<'_> {
+    fn fmt<W: fmt::Write>(&self, f: &mut fmt::Formatter<W>) -> fmt::Result {
+        f.write_str(self.named.name)?;
+        if self.named.words == 1 {
+            return Ok(());
+        }
+        let index = self.word.saturating_sub(self.named.first);
+        write!(f, "[{index}]")
+    }
+}
+
+/// The same as [`DebugInfo`](crate::DebugInfo), borrowed. An image that no text says has [`SourceText::NONE`].
+#[derive(Clone, Copy)]
+pub struct SourceText<'a> {
+    /// The name of the text, as faults of it have it.
+    pub name: &'a str,
+    pub statements: &'a [Statement<'a>],
+    pub labels: &'a [Label<'a>],
+    pub words: &'a [Named<'a>],
+}
+
+impl<'a> SourceText<'a> {
+    /// Nothing.
+    pub const NONE: SourceText<'static> = SourceText {
+        name: "",
+        statements: &[],
+        labels: &[],
+        words: &[],
+    };
+
+    /// The statement that says the instruction at an address.
+    pub fn statement_at(&self, at: usize) -> Option<Statement<'a>>
+        ensures { result ≡ statement_at self.now.statements.now at }
+    {
+        self.statements
+            .iter()
+            .copied()
+            .find(|statement| statement.at == at)
+    }
+
+    /// The name of a word, if it is the first of one.
+    pub fn name_of(&self, word: usize) -> Option<&'a str>
+        ensures { result ≡ option_map (λ n. n.name) (named_from self.now.words.now word) }
+    {
+        self.words
+            .iter()
+            .find(|named| named.first == word)
+            .map(|named| named.name)
+    }
+
+    /// The line of the last statement before an address.
+    pub fn line_before(&self, at: usize) -> Option<usize>
+        ensures { result ≡ line_before self.now.statements.now at }
+    {
+        self.statements
+            .iter()
+            .rev()
+            .find(|statement| statement.at < at)
+            .map(|statement| statement.line)
+    }
+
+    /// The loop of a row, by its name.
+    pub fn loop_name(&self, number: usize, row: &LoopRow) -> LoopName<'a> {
+        LoopName {
+            source: *self,
+            number,
+            control: row.control,
+            head: row.head,
+        }
+    }
+
+    /// The name that a word has, if it has one.
+    pub fn named(&self, word: usize) -> Option<Named<'a>>
+        ensures { result ≡ named self.now.words.now word }
+    {
+        self.words.iter().copied().find(|named| named.has(word))
+    }
+
+    /// A word, with its name if it has one.
+    pub fn word(&self, number: usize) -> WordName<'a> {
+        WordName {
+            number,
+            named: self.named(number),
+        }
+    }
+}
+
+/// A workspace word by its number, with its name behind it if it has one.
+#[derive(Clone, Copy)]
+pub struct WordName<'a> {
+    number: usize,
+    named: Option<Named<'a>>,
+}
+
+impl fmt::Display for WordName<'_> {
+    fn fmt<W: fmt::Write>(&self, f: &mut fmt::Formatter<W>) -> fmt::Result {
+        let number = self.number;
+        write!(f, "word {number}")?;
+        match self.named {
+            None => Ok(()),
+            Some(Named { first, name, .. }) if first == number => write!(f, " ({name})"),
+            Some(Named { first, name, .. }) => {
+                let behind = number.saturating_sub(first);
+                write!(f, " ({name} + {behind})")
+            }
+        }
+    }
+}
+
+/// The name of a loop: by its index's name and the line that begins it where a text says it, and by its row elsewhere.
+#[derive(Clone, Copy)]
+pub struct LoopName<'a> {
+    source: SourceText<'a>,
+    number: usize,
+    /// The workspace word of its index.
+    control: u32,
+    head: u32,
+}
+
+impl fmt::Display for LoopName<'_> {
+    fn fmt<W: fmt::Write>(&self, f: &mut fmt::Formatter<W>) -> fmt::Result {
+        let number = self.number;
+        match self.source.name_of(self.control as usize) {
+            Some(name) => f.write_str(name)?,
+            None => write!(f, "row {number}")?,
+        }
+        match self.source.line_before(self.head as usize) {
+            Some(line) => write!(f, " (line {line})"),
+            None => Ok(()),
+        }
+    }
+}
+
+/// The names of words from one on up to another, behind white space and in parentheses, if there are any.
+#[derive(Clone, Copy)]
+pub struct Names<'a> {
+    pub source: SourceText<'a>,
+    pub first: usize,
+    pub last: usize,
+}
+
+impl fmt::Display for Names<'_> {
+    fn fmt<W: fmt::Write>(&self, f: &mut fmt::Formatter<W>) -> fmt::Result {
+        let mut between = " (";
+        for named in self.source.words {
+            let end = named.first.saturating_add(named.words);
+            if named.first <= self.last && self.first < end {
+                f.write_str(between)?;
+                f.write_str(named.name)?;
+                between = ", ";
+            }
+        }
+        if between == ", " {
+            f.write_str(")")
+        } else {
+            Ok(())
+        }
+    }
+}

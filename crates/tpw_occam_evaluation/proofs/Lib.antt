@@ -1,2 +1,0 @@
-pub mod Evaluating
-pub mod Giving

@@ -1,5 +1,0 @@
-use Rattle.std.proofs.Common.{length}
-use Rattle.tpw_occam_evaluation.proofs.spelled.+further.Given as goal
-
-abbrev pub decreases-further : goal.decreases-further
-decreases-further l = length l.digits.now

@@ -1,0 +1,5 @@
+use Rattle.std.proofs.Common.{length}
+use Rattle.tpw_occam_interpreter.proofs.running.+assign.Given as goal
+
+abbrev pub decreases-assign : goal.decreases-assign
+decreases-assign l = length l.list.now

@@ -1,0 +1,24 @@
+use Rattle.std.proofs.Common.{◌<◌, ◌+◌, ◌%◌, ◌^◌, length, rules, arith}
+use Rattle.tpw_occam_core.specs.Meaning.{most_traced}
+use Rattle.tpw_occam_meaning.specs.States.{with_cell, turns}
+use Rattle.tpw_occam_scoped.specs.Meaning.{run}
+use Rattle.tpw_occam_interpreter.specs.Memories.{state_of}
+use Rattle.tpw_occam_interpreter.proofs.Growing.{lost_before, lost_turn}
+use Rattle.tpw_occam_interpreter.proofs.running.+run.Goals as goal
+
+pub returns-in_err-run-in-Sequence-clause-lost : goal.returns-in_err-run-in-Sequence-clause-lost
+returns-in_err-run-in-Sequence-clause-lost t c h =
+    let s = state_of c.args.memory.now in
+    let first = c.in-Sequence.first.value in
+    let lost : most_traced < length (run first s).traced = search rules in
+    rw c.in-Sequence.is (lost_before c.in-Sequence.second.value (run first s) lost)
+
+pub returns-in_err-run-in-Repeat-clause-lost : goal.returns-in_err-run-in-Repeat-clause-lost
+returns-in_err-run-in-Repeat-clause-lost t c h =
+    let s = state_of c.args.memory.now in
+    let r = c.in-Repeat in
+    let lost : most_traced < length (run r.body.value
+    (with_cell r.cell ((r.start + c.loop-turn.turn) % 2 ^ 32)
+    (turns (run r.body.value) r.cell r.start c.loop-turn.turn s))).traced = search rules in
+    let below : c.loop-turn.turn < r.count = omega arith in
+    rw r.is (lost_turn r.body.value r.cell r.start c.loop-turn.turn r.count s below lost)

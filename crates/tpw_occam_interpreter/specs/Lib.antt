@@ -1,0 +1,2 @@
+-- What a reader must believe: which state a memory holds.
+pub mod Memories

@@ -1,0 +1,93 @@
+//! Arrays, which are bytes, seen as words or as bytes.
+
+ghost use Rattle.std.specs.Prelude.{◌≡◌, slice_index, slice_set, ◌<◌, ◌^◌};
+ghost use Rattle.std.specs.Int.{w32, to_le_bytes};
+ghost use Rattle.tpw_occam_core.specs.Arrays.{size, element, kept, with_element, written};
+ghost use Rattle.tpw_occam_core.specs.Meaning as core;
+
+use tpw_occam_core::{Answer, Kind, checked_subscript};
+
+/// How many elements there are.
+pub(crate) fn size(kind: Kind, bytes: &[u8]) -> usize
+    ensures { result ≡ size kind bytes.now }
+{
+    match kind {
+        Kind::Word => bytes.len() / 4,
+        Kind::Byte => bytes.len(),
+    }
+}
+
+/// The byte at a place, or 0 behind the last.
+fn byte(bytes: &[u8], at: usize) -> u8
+    ensures { result ≡ slice_index bytes.now at }
+{
+    bytes.get(at).copied().unwrap_or(0)
+}
+
+/// The element at a subscript; 0 stands for what lies behind the last byte.
+pub(crate) fn element(kind: Kind, bytes: &[u8], i: u32) -> u32
+    ensures { result ≡ element kind bytes.now i }
+{
+    let i = i as usize;
+    match kind {
+        Kind::Word => u32::from_le_bytes([
+            byte(bytes, 4 * i),
+            byte(bytes, 4 * i + 1),
+            byte(bytes, 4 * i + 2),
+            byte(bytes, 4 * i + 3),
+        ]),
+        Kind::Byte => u32::from(byte(bytes, i)),
+    }
+}
+
+/// The element of an array at a subscript, checked.
+pub(crate) fn element_at(kind: Kind, bytes: &[u8], i: u32) -> Answer
+    ensures { result ≡ core.element_at kind bytes.now i }
+{
+    let at = checked_subscript(size(kind, bytes), i);
+    Answer {
+        word: element(kind, bytes, at.word),
+        flag: at.flag,
+    }
+}
+
+/// The word that a cell or an element of a kind keeps.
+pub(crate) fn kept(kind: Kind, word: u32) -> u32
+    ensures { result ≡ kept kind word }
+{
+    match kind {
+        Kind::Word => word,
+        Kind::Byte => word % 256,
+    }
+}
+
+/// Puts a byte at a place, if there is one.
+fn put_byte(bytes: &mut [u8], at: usize, byte: u8)
+    ensures { bytes.new ≡ slice_set bytes.old at byte }
+{
+    if at < bytes.len() {
+        bytes[at] = byte;
+    }
+}
+
+/// Puts a word's bytes from a place on.
+fn put_bytes(bytes: &mut [u8], at: usize, word: u32)
+    requires { at < 2 ^ 40 }
+    ensures { bytes.new ≡ written bytes.old at (to_le_bytes w32 word) }
+{
+    let [b0, b1, b2, b3] = word.to_le_bytes();
+    put_byte(bytes, at, b0);
+    put_byte(bytes, at + 1, b1);
+    put_byte(bytes, at + 2, b2);
+    put_byte(bytes, at + 3, b3);
+}
+
+/// An element of an array takes a word.
+pub(crate) fn put_element(kind: Kind, bytes: &mut [u8], i: u32, word: u32)
+    ensures { bytes.new ≡ with_element kind bytes.old i word }
+{
+    match kind {
+        Kind::Word => put_bytes(bytes, 4 * i as usize, word),
+        Kind::Byte => put_byte(bytes, i as usize, (word % 256) as u8),
+    }
+}

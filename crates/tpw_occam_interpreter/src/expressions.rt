@@ -1,0 +1,127 @@
+//! Expressions.
+
+ghost use Rattle.std.specs.Prelude.{◌≡◌};
+ghost use Rattle.tpw_occam_core.specs.Arithmetic as arithmetic;
+ghost use Rattle.tpw_occam_core.specs.Meaning as core;
+ghost use Rattle.tpw_occam_scoped.specs.Meaning as scoped;
+ghost use Rattle.tpw_occam_interpreter.specs.Memories.{state_in};
+
+use crate::arrays::element_at;
+use crate::memory::{Cells, bytes, word};
+use tp_outcome::words::complement;
+use tpw_occam_core::{Answer, applied, checked_subscript};
+use tpw_occam_scoped::Expression;
+
+/// A word that sets no flag.
+pub(crate) fn plain(word: u32) -> Answer
+    ensures { result ≡ arithmetic.plain word }
+{
+    Answer { word, flag: false }
+}
+
+/// The second answer, with the flag of the first kept.
+pub(crate) fn followed(first: Answer, second: Answer) -> Answer
+    ensures { result ≡ core.followed first (λ word. second) }
+{
+    Answer {
+        word: second.word,
+        flag: first.flag || second.flag,
+    }
+}
+
+/// The low byte of a word. The flag is set where there is more.
+fn low_byte(word: u32) -> Answer
+    ensures { result ≡ arithmetic.low_byte word }
+{
+    Answer {
+        word: word % 256,
+        flag: word >= 256,
+    }
+}
+
+/// The word of an OR, by that of its right operand.
+fn either(right: Answer) -> Answer
+    ensures { result ≡ core.either 0 right }
+{
+    Answer {
+        word: u32::from(right.word > 0),
+        flag: right.flag,
+    }
+}
+
+/// The value of an expression.
+pub(crate) fn value(cells: &Cells<'_>, e: &Expression) -> Answer
+    ensures { result ≡ scoped.value_of e.now (state_in cells.now) }
+{
+    match e {
+        Expression::Constant(c) => plain(*c),
+        Expression::Cell(x) => plain(word(cells, *x)),
+        Expression::Element {
+            array,
+            kind,
+            subscript,
+        } => {
+            let i = value(cells, subscript);
+            followed(i, element_at(*kind, bytes(cells, *array), i.word))
+        }
+        Expression::Listed {
+            table,
+            kind,
+            subscript,
+        } => {
+            let i = value(cells, subscript);
+            followed(i, element_at(*kind, table, i.word))
+        }
+        Expression::Checked { below, subscript } => {
+            let i = value(cells, subscript);
+            followed(i, checked_subscript(*below as usize, i.word))
+        }
+        Expression::Binary {
+            operator,
+            left,
+            right,
+        } => {
+            let b = value(cells, left);
+            let a = value(cells, right);
+            followed(b, followed(a, applied(*operator, b.word, a.word)))
+        }
+        Expression::Complement(e) => {
+            let a = value(cells, e);
+            followed(a, plain(complement(a.word)))
+        }
+        Expression::Not(e) => {
+            let a = value(cells, e);
+            followed(a, plain(u32::from(a.word == 0)))
+        }
+        Expression::LowByte(e) => {
+            let a = value(cells, e);
+            followed(a, low_byte(a.word))
+        }
+        Expression::And(left, right) => {
+            let a = value(cells, left);
+            let b = if a.word == 0 {
+                plain(0)
+            } else {
+                value(cells, right)
+            };
+            followed(a, b)
+        }
+        Expression::Or(left, right) => {
+            let a = value(cells, left);
+            let b = if a.word == 0 {
+                either(value(cells, right))
+            } else {
+                plain(1)
+            };
+            followed(a, b)
+        }
+        Expression::Within {
+            cell,
+            value: bound,
+            within,
+        } => {
+            let a = value(cells, bound);
+            followed(a, value(&Cells::With(*cell, a.word, &*cells), within))
+        }
+    }
+}

@@ -1,0 +1,12 @@
+//! An interpreter of scoped cores: it computes what a text does, packet by packet.
+#![tactic(auto)]
+
+mod arrays;
+mod expressions;
+mod memory;
+mod messages;
+mod running;
+mod writing;
+
+pub use memory::Memory;
+pub use running::Halt;

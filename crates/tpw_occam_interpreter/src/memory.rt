@@ -1,0 +1,48 @@
+//! The state of a worker while it is interpreted.
+
+ghost use Rattle.std.specs.Prelude.{◌≡◌};
+ghost use Rattle.tpw_occam_interpreter.specs.Memories.{state_in};
+
+/// The words of cells, the bytes of arrays, the error flag, the packet, the traces so far, and the result.
+#[derive(Drop)]
+pub struct Memory {
+    pub cells: Vec<u32>,
+    pub arrays: Vec<Vec<u8>>,
+    pub flag: bool,
+    pub packet: Vec<u8>,
+    pub traced: Vec<u8>,
+    pub result: Vec<u8>,
+}
+
+/// A memory, in which some cells have other words while an expression is evaluated.
+#[derive(Clone, Copy)]
+pub(crate) enum Cells<'c> {
+    Of(&'c Memory),
+    With(usize, u32, &'c Cells<'c>),
+}
+
+/// The word of a cell.
+pub(crate) fn word(cells: &Cells<'_>, x: usize) -> u32
+    ensures { result ≡ (state_in cells.now).cells x }
+{
+    match cells {
+        Cells::Of(memory) => match memory.cells.get(x) {
+            Some(word) => *word,
+            None => 0,
+        },
+        Cells::With(y, other, before) => { if x == *y { *other } else { word(before, x) } }
+    }
+}
+
+/// The bytes of an array.
+pub(crate) fn bytes<'r>(cells: &'r Cells<'_>, a: usize) -> &'r [u8]
+    ensures { result.now ≡ (state_in cells.now).arrays a }
+{
+    match cells {
+        Cells::Of(memory) => match memory.arrays.get(a) {
+            Some(bytes) => bytes,
+            None => &[],
+        },
+        Cells::With(_, _, before) => bytes(before, a),
+    }
+}

@@ -1,0 +1,179 @@
+//! Processes.
+
+ghost use Rattle.std.specs.Prelude.{◌≡◌, ◌<◌, length, OnOk, Err};
+ghost use Rattle.tpw_occam_core.specs.Meaning.{most_traced};
+ghost use Rattle.tpw_occam_meaning.specs.States.{with_array};
+ghost use Rattle.tpw_occam_scoped.specs.Meaning as scoped;
+ghost use Rattle.tpw_occam_scoped.specs.declared.process.Process.TheVariants as scoped_process;
+ghost use Rattle.tpw_occam_interpreter.specs.Memories.{state_of};
+
+use crate::arrays::{element, kept, size};
+use crate::expressions::{followed, plain, value};
+use crate::memory::{Cells, Memory, bytes};
+use crate::messages::{bytes_in, send, trace};
+use std::alloc::{AllocError, Global};
+use tpw_occam_core::{Answer, Kind, checked_subscript};
+use tpw_occam_scoped::{Assignment, Bytes, Process, Target};
+
+/// Why a process is not run to its end.
+#[derive(Clone, Copy, Debug, PartialEq, Eq)]
+pub enum Halt {
+    /// The packet is lost: more is traced than may be.
+    Lost,
+    /// A growth was refused.
+    Memory,
+}
+
+impl From<AllocError> for Halt {
+    ghost use Rattle.tpw_occam_interpreter.specs.declared.running.Halt.TheVariants as halt;
+
+    ghost from_gives = { λ _ e. e ≡ halt.Memory };
+
+    fn from(_: AllocError) -> Halt {
+        Halt::Memory
+    }
+}
+
+/// The subscript of a target, checked. A cell has none.
+fn subscript_of(memory: &Memory, target: &Target) -> Answer
+    ensures { result ≡ scoped.subscript_of target.now (state_of memory.now) }
+{
+    match target {
+        Target::Cell { .. } => plain(0),
+        Target::Element {
+            array,
+            kind,
+            subscript,
+        } => {
+            let i = value(&Cells::Of(memory), subscript);
+            let count = size(*kind, bytes(&Cells::Of(memory), *array));
+            followed(i, checked_subscript(count, i.word))
+        }
+    }
+}
+
+/// A target with this subscript takes a word.
+fn put(memory: &mut Memory, target: &Target, i: u32, word: u32) -> Result<(), AllocError>
+    ensures { OnOk result (state_of memory.new ≡ scoped.put target.now i word (state_of memory.old)) }
+{
+    match target {
+        Target::Cell { cell, kind } => memory.write(*cell, kept(*kind, word)),
+        Target::Element { array, kind, .. } => {
+            memory.set_element(*array, *kind, i, word);
+            Ok(())
+        }
+    }
+}
+
+/// A target takes a word, where its subscript and the word may set the flag.
+fn assigned(memory: &mut Memory, target: &Target, i: Answer, v: Answer) -> Result<(), AllocError>
+    ensures { OnOk result (state_of memory.new ≡ scoped.assigned target.now i v (state_of memory.old)) }
+{
+    put(memory, target, i.word, v.word)?;
+    memory.raise(v.flag || i.flag);
+    Ok(())
+}
+
+/// Evaluates all subscripts and values, then writes them, the last first.
+fn assign(memory: &mut Memory, list: &[Assignment]) -> Result<(), AllocError>
+    ensures { OnOk result (state_of memory.new ≡ scoped.all_assigned list.now (state_of memory.old)) }
+{
+    match list {
+        [] => Ok(()),
+        [first, more @ ..] => {
+            let i = subscript_of(memory, &first.target);
+            let v = value(&Cells::Of(&*memory), &first.value);
+            assign(memory, more)?;
+            assigned(memory, &first.target, i, v)
+        }
+    }
+}
+
+/// An array takes the bytes of another, or of a table.
+fn copy(alloc: Global, memory: &mut Memory, to: usize, from: &Bytes) -> Result<(), AllocError>
+    ensures { OnOk result
+        (state_of memory.new ≡ with_array to (scoped.bytes_in from.now (state_of memory.old)) (state_of memory.old)) }
+{
+    let bytes = Vec::from_slice(alloc, bytes_in(&Cells::Of(&*memory), from))?;
+    memory.set_array(alloc, to, bytes)
+}
+
+/// A target takes the first word of the packet.
+fn receive_word(memory: &mut Memory, target: &Target) -> Result<(), AllocError>
+    ensures { OnOk result
+        (state_of memory.new ≡ scoped.run (scoped_process.ReceiveWord target.now) (state_of memory.old)) }
+{
+    let i = subscript_of(memory, target);
+    let word = element(Kind::Word, &memory.packet, 0);
+    assigned(memory, target, i, plain(word))
+}
+
+/// An array takes the packet.
+fn receive_array(alloc: Global, memory: &mut Memory, to: usize) -> Result<(), AllocError>
+    ensures { OnOk result
+        (state_of memory.new ≡ with_array to (state_of memory.old).packet (state_of memory.old)) }
+{
+    let packet = Vec::from_slice(alloc, &memory.packet)?;
+    memory.set_array(alloc, to, packet)
+}
+
+/// Runs a process. The packet is lost where more is traced than may be.
+pub(crate) fn run(alloc: Global, memory: &mut Memory, p: &Process) -> Result<(), Halt>
+    ensures done { OnOk result (state_of memory.new ≡ scoped.run p.now (state_of memory.old)) }
+    ensures lost { result ≡ Err Halt.Lost → most_traced < length (scoped.run p.now (state_of memory.old)).traced }
+{
+    match p {
+        Process::Skip => {}
+        Process::Stop => memory.raise(true),
+        Process::Assign(list) => assign(memory, list)?,
+        Process::Copy { to, from } => copy(alloc, memory, *to, from)?,
+        Process::Sequence(first, second) => {
+            run(alloc, memory, first)?;
+            run(alloc, memory, second)?;
+        }
+        Process::Repeat {
+            cell,
+            start,
+            count,
+            body,
+        } => {
+            for turn in 0..*count {
+                memory.write(*cell, start.wrapping_add(turn))?;
+                run(alloc, memory, body)?;
+            }
+        }
+        Process::If {
+            guard,
+            guarded,
+            rest,
+        } => {
+            let answer = value(&Cells::Of(&*memory), guard);
+            memory.raise(answer.flag);
+            let branch = if answer.word == 0 { rest } else { guarded };
+            run(alloc, memory, branch)?;
+        }
+        Process::Variable { cell, body, .. } => {
+            memory.write(*cell, 0)?;
+            run(alloc, memory, body)?;
+        }
+        Process::Value {
+            cell,
+            value: bound,
+            body,
+        } => {
+            let answer = value(&Cells::Of(&*memory), bound);
+            memory.store(*cell, answer)?;
+            run(alloc, memory, body)?;
+        }
+        Process::Array { array, bytes, body } => {
+            memory.clear_array(alloc, *array, *bytes as usize)?;
+            run(alloc, memory, body)?;
+        }
+        Process::ReceiveWord(target) => receive_word(memory, target)?,
+        Process::ReceiveArray(to) => receive_array(alloc, memory, *to)?,
+        Process::Trace(m) => trace(alloc, memory, m)?,
+        Process::Send(m) => send(alloc, memory, m)?,
+        Process::At { body, .. } => run(alloc, memory, body)?,
+    }
+    Ok(())
+}

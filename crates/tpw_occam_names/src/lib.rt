@@ -1,0 +1,17 @@
+//! What names stand for while a text is resolved, on the call's own stack; and what numbers, characters, operators and
+//! types are by themselves.
+#![tactic(auto)]
+
+mod arrays;
+mod names;
+mod operators;
+mod scope;
+mod spelled;
+mod values;
+
+pub use arrays::element_at;
+pub use names::{element_type, named, type_of, type_of_one, type_of_two};
+pub use operators::{combined, low_byte, monadic};
+pub use scope::{Channel, Form, Meaning, Protocol, Scope, Shape, Storage, View, Word, look_up};
+pub use spelled::{character, number};
+pub use values::{Fault, followed};

@@ -1,0 +1,112 @@
+//! What operators make of values.
+
+ghost use Rattle.std.specs.Prelude.{◌≡◌, int_le};
+ghost use Rattle.tp_decode.specs.Words.{signed};
+ghost use Rattle.tp_step.specs.Numbers.{truth};
+ghost use Rattle.tpw_occam_core.specs.Arithmetic as arithmetic;
+ghost use Rattle.tpw_occam_core.specs.Meaning as core;
+ghost use Rattle.tpw_occam_meaning.specs.Values as text;
+
+use crate::values::{followed, plain};
+use tp_outcome::words::{complement, difference, is_less, is_positive};
+use tpw_occam_core::{Answer, Operator, applied};
+use tpw_occam_meaning::{Dyadic, Monadic};
+
+/// Whether a word is at most another, both read signed, as a word.
+#[tactic(auto, using(tp_outcome::proofs::Casts::casts))]
+fn is_at_most(a: u32, b: u32) -> u32
+    ensures { result ≡ truth (int_le (signed a) (signed b)) }
+{
+    u32::from(a.cast_signed() <= b.cast_signed())
+}
+
+/// The low byte of a word. The flag is set where there is more.
+pub fn low_byte(word: u32) -> Answer
+    ensures { result ≡ arithmetic.low_byte word }
+{
+    Answer {
+        word: word % 256,
+        flag: word >= 256,
+    }
+}
+
+/// What an operator makes of a word.
+pub fn monadic(operator: Monadic, a: u32) -> Answer
+    ensures { result ≡ text.monadic operator a }
+{
+    match operator {
+        Monadic::Negate => applied(Operator::Subtract, 0, a),
+        Monadic::Minus => applied(Operator::Minus, 0, a),
+        Monadic::Not => plain(u32::from(a == 0)),
+        Monadic::Complement | Monadic::BitNot | Monadic::Size | Monadic::Convert(_) => {
+            plain(complement(a))
+        }
+    }
+}
+
+fn of_words(operator: Dyadic, b: u32, a: u32) -> Answer
+    ensures { result ≡ text.dyadic operator b a }
+{
+    match operator {
+        Dyadic::Add => applied(Operator::Add, b, a),
+        Dyadic::Subtract => applied(Operator::Subtract, b, a),
+        Dyadic::Multiply => applied(Operator::Multiply, b, a),
+        Dyadic::Divide => applied(Operator::Divide, b, a),
+        Dyadic::Remainder => applied(Operator::Remainder, b, a),
+        Dyadic::Rem => applied(Operator::Remainder, b, a),
+        Dyadic::Plus => applied(Operator::Plus, b, a),
+        Dyadic::Minus => applied(Operator::Minus, b, a),
+        Dyadic::Times => applied(Operator::Times, b, a),
+        Dyadic::Conjunction => applied(Operator::BitAnd, b, a),
+        Dyadic::BitAnd => applied(Operator::BitAnd, b, a),
+        Dyadic::Disjunction => applied(Operator::BitOr, b, a),
+        Dyadic::BitOr => applied(Operator::BitOr, b, a),
+        Dyadic::ExclusiveOr => applied(Operator::BitXor, b, a),
+        Dyadic::ShiftLeft => applied(Operator::ShiftLeft, b, a),
+        Dyadic::ShiftRight => applied(Operator::ShiftRight, b, a),
+        Dyadic::Equal => plain(u32::from(b == a)),
+        Dyadic::NotEqual => plain(u32::from(!(b == a))),
+        Dyadic::Less => plain(is_less(b, a)),
+        Dyadic::Greater => plain(is_less(a, b)),
+        Dyadic::AtMost => plain(is_at_most(b, a)),
+        Dyadic::AtLeast => plain(is_at_most(a, b)),
+        Dyadic::After => plain(u32::from(is_positive(difference(b, a)))),
+        Dyadic::And => both(b, plain(a)),
+        Dyadic::Or => either(b, plain(a)),
+    }
+}
+
+/// What `AND` makes of its left operand and the right one.
+fn both(b: u32, right: Answer) -> Answer
+    ensures { result ≡ core.both b right }
+{
+    if b == 0 { plain(0) } else { right }
+}
+
+/// What `OR` makes of its left operand and the right one.
+fn either(b: u32, right: Answer) -> Answer
+    ensures { result ≡ core.either b right }
+{
+    if b == 0 {
+        Answer {
+            word: u32::from(right.word > 0),
+            flag: right.flag,
+        }
+    } else {
+        plain(1)
+    }
+}
+
+/// What an operator makes of its two operands.
+pub fn combined(operator: Dyadic, left: Answer, right: Answer) -> Answer
+    ensures { result ≡ text.combined operator left right }
+{
+    match operator {
+        Dyadic::And => followed(left, both(left.word, right)),
+        Dyadic::Or => followed(left, either(left.word, right)),
+        other => followed(
+            left,
+            followed(right, of_words(other, left.word, right.word)),
+        ),
+    }
+}

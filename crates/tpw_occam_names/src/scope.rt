@@ -1,0 +1,104 @@
+//! What names stand for.
+
+ghost use Rattle.std.specs.Prelude.{◌≡◌, MatchOption};
+ghost use Rattle.tpw_occam_meaning.specs.Names.{found, Nothing};
+ghost use Rattle.tpw_occam_names.specs.Scopes.{names_of, entry_of};
+
+use tpw_occam_core::Kind;
+use tpw_occam_meaning::{Expression, Parameters, Process};
+use tpw_occam_tree::{Name, Primitive};
+
+/// A constant, or the word that a cell has, which is only read.
+#[derive(Clone, Copy)]
+pub enum Word {
+    Constant(u32),
+    Kept(usize),
+}
+
+/// The bytes of an array, by its number, or those of a table.
+#[derive(Clone, Copy)]
+pub enum Storage<'s> {
+    Array(usize),
+    Table(&'s [u8]),
+}
+
+/// An array as a name shows it.
+#[derive(Clone, Copy)]
+pub struct View<'s> {
+    pub storage: Storage<'s>,
+    pub kind: Kind,
+    pub size: usize,
+    pub is_variable: bool,
+}
+
+/// What a channel carries.
+#[derive(Clone, Copy)]
+pub enum Protocol {
+    OneWord,
+    Several(Kind, usize),
+}
+
+#[derive(Clone, Copy)]
+pub enum Channel {
+    Packet,
+    Output,
+    Traces,
+}
+
+/// What an array has to be.
+#[derive(Clone, Copy)]
+pub struct Shape {
+    pub kind: Kind,
+    pub size: Option<usize>,
+    pub is_variable: bool,
+}
+
+/// What an argument has to be.
+#[derive(Clone, Copy)]
+pub enum Form {
+    OfValue(Primitive),
+    OfVariable(Primitive),
+    OfArray(Shape),
+    OfChannel(Protocol),
+}
+
+/// What a name stands for.
+#[derive(Clone, Copy)]
+pub enum Meaning<'s, 'a> {
+    /// A value that is only read.
+    Fixed(Primitive, Word),
+    Variable(Primitive, usize),
+    /// The element of an array at a subscript.
+    Element(View<'s>, Word),
+    Whole(View<'s>),
+    Carrier(Channel, Protocol),
+    Procedure(&'s [Form], &'a Parameters<'a>, &'a Process<'a>),
+    Function(Primitive, &'s [Form], &'a Parameters<'a>, &'a Expression<'a>),
+}
+
+/// The names that are in scope, from the innermost on.
+#[derive(Clone, Copy)]
+pub enum Scope<'s, 'a> {
+    Empty,
+    Within(&'a str, Meaning<'s, 'a>, &'s Scope<'s, 'a>),
+}
+
+/// What a name stands for, and the names that were declared before it.
+pub fn look_up<'r, 's, 'a>(
+    scope: &'r Scope<'s, 'a>,
+    name: Name<'_>,
+) -> Option<(Meaning<'s, 'a>, &'r Scope<'s, 'a>)>
+    ensures { MatchOption result (found name.entry (names_of scope.now) ≡ Nothing)
+        (λ r. found name.entry (names_of scope.now) ≡ entry_of r.0 (names_of r.1.now)) }
+{
+    match scope {
+        Scope::Empty => None,
+        Scope::Within(other, meaning, before) => {
+            if name.text == *other {
+                Some((*meaning, *before))
+            } else {
+                look_up(before, name)
+            }
+        }
+    }
+}

@@ -1,0 +1,28 @@
+-- What is declared.
+use Rattle.std.proofs.Common.{◌≡◌, ℕ, List, map, Some, sym, ap, ◌∙◌}
+use Rattle.std.specs.declared.boxed.Box.{Box}
+use Rattle.std.specs.declared.alloc.Global.{Global}
+use Rattle.tpw_occam_tree.specs.declared.tree.Name.{Name}
+use Rattle.tpw_occam_meaning.specs.declared.tree.Declaration.{Declaration}
+use Rattle.tpw_occam_meaning.specs.declared.tree.Declaration.TheVariants as declaration
+use Rattle.tpw_occam_meaning.specs.declared.tree.Process.{Process}
+use Rattle.tpw_occam_meaning.specs.declared.types.Parameters.{Parameters}
+use Rattle.tpw_occam_meaning.specs.Effects.{Effect}
+use Rattle.tpw_occam_meaning.specs.Maybe.{and_then}
+use Rattle.tpw_occam_meaning.specs.Names.{Procedure, Names, with_name, taking}
+use Rattle.tpw_occam_meaning.specs.Processes.{run, declared}
+use Rattle.tpw_occam_meaning.specs.Types.{forms_of}
+use Rattle.tpw_occam_names.specs.declared.scope.Form.{Form}
+use Rattle.tpw_occam_names.specs.Scopes.{form_of}
+
+pub procedure_done : (p : Declaration) (after : Names → ℕ → Effect) (names : Names) (d : ℕ) (name : Name) (takes : Parameters)
+    (b : Box Process Global) (body : Process) (forms found : List Form) (e : Effect) → p ≡ declaration.Procedure name takes b →
+    body ≡ b.value → forms_of takes names ≡ Some (map form_of found) → forms ≡ found →
+    e ≡ after (with_name name (Procedure (map form_of forms) (taking takes (run body) names)) names) d →
+    e ≡ declared p after names d
+procedure_done p after names d name takes b body forms found e p-is body-is found-is forms-is h =
+    h
+    ∙ (λ i. after (with_name name (Procedure (map form_of (forms-is i)) (taking takes (run (body-is i)) names)) names) d)
+    ∙ sym (ap (λ o. and_then (and_then o (λ forms. Some (Procedure forms (taking takes (run b.value) names))))
+    (λ entry. after (with_name name entry names) d)) found-is)
+    ∙ sym (ap (λ x. declared x after names d) p-is)

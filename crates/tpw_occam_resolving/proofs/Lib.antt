@@ -1,0 +1,6 @@
+pub mod Declaring
+pub mod Entering
+pub mod Making
+pub mod Operating
+pub mod Selecting
+pub mod Sending

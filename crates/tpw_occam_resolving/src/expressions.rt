@@ -1,0 +1,317 @@
+//! Expressions.
+
+ghost use Rattle.std.specs.Prelude.{◌≡◌, Some, IfOk, map};
+ghost use Rattle.tpw_occam_meaning.specs.Expressions as text;
+ghost use Rattle.tpw_occam_meaning.specs.Names.{found, taking};
+ghost use Rattle.tpw_occam_names.specs.Scopes.{names_of, form_of, shape_of};
+ghost use Rattle.tpw_occam_resolving.specs.Passing.{array_made};
+ghost use Rattle.tpw_occam_scoped.specs.Made.{value_made};
+
+use crate::arrays::{Array, named_array, table, view, with_element};
+use crate::depths::{depth_behind, word_passed};
+use crate::operands::{compared, operands_of};
+use crate::operators::{converted, of_one, of_two};
+use crate::parameters::first;
+use crate::values::{
+    element, is_type, named_value, size_value, spelled_character, spelled_number, typed,
+};
+use std::alloc::Global;
+use tpw_occam_core::Kind;
+use tpw_occam_meaning::{Expression, Expressions, Monadic, Parameters};
+use tpw_occam_names::{
+    Fault, Form, Meaning, Scope, Shape, element_type, look_up, named, type_of, type_of_two,
+};
+use tpw_occam_scoped::Value;
+use tpw_occam_tree::{Name, Primitive};
+
+/// What is made of an expression of a type, where `d` things are declared.
+#[cycle(value)]
+pub fn value<'a>(
+    alloc: Global,
+    scope: &Scope<'_, 'a>,
+    d: usize,
+    e: &Expression<'a>,
+    of: Primitive,
+    room: u32,
+) -> Result<Value, Fault>
+    ensures { IfOk result (λ v. text.value_of e.now of (names_of scope.now) d ≡ Some (value_made v)) }
+{
+    if room == 0 {
+        return Err(Fault::Deep);
+    }
+    match e {
+        Expression::Number { spelled, .. } => spelled_number(spelled, of),
+        Expression::Character { spelled, .. } => spelled_character(spelled, of),
+        Expression::Truth { value, .. } => {
+            typed(of, Primitive::Bool, Value::known(u32::from(*value)))
+        }
+        Expression::Most { is_negative, .. } => {
+            let word = if *is_negative {
+                0x8000_0000
+            } else {
+                0x7fff_ffff
+            };
+            typed(of, Primitive::Int, Value::known(word))
+        }
+        Expression::Name(name) => named_value(alloc, scope, *name, of),
+        Expression::Element {
+            array,
+            subscript,
+            ..
+        } => match named(scope, array) {
+            Some(view) => {
+                is_type(of, element_type(view.kind))?;
+                let i = value(alloc, scope, d, subscript, Primitive::Int, room - 1)?;
+                element(alloc, view, i)
+            }
+            None => Err(Fault::Wrong),
+        },
+        Expression::Call { name, arguments } => {
+            called(alloc, scope, d, *name, arguments, of, room - 1)
+        }
+        Expression::Bracketed { within, .. } => value(alloc, scope, d, within, of, room - 1),
+        Expression::Monadic {
+            operator,
+            operand: e,
+            ..
+        } => {
+            match operator {
+                Monadic::Size => typed(of, Primitive::Int, size_value(scope, e)?),
+                Monadic::Convert(to) => {
+                    is_type(of, *to)?;
+                    match type_of(scope, e) {
+                        Some(from) => {
+                            let a = value(alloc, scope, d, e, from, room - 1)?;
+                            converted(alloc, from, *to, a)
+                        }
+                        None => Err(Fault::Wrong),
+                    }
+                }
+                Monadic::Not => {
+                    let a = operand(alloc, scope, d, e, of, Primitive::Bool, room - 1)?;
+                    Ok(of_one(alloc, Monadic::Not, a)?)
+                }
+                Monadic::Negate => {
+                    let a = operand(alloc, scope, d, e, of, Primitive::Int, room - 1)?;
+                    Ok(of_one(alloc, Monadic::Negate, a)?)
+                }
+                Monadic::Minus => {
+                    let a = operand(alloc, scope, d, e, of, Primitive::Int, room - 1)?;
+                    Ok(of_one(alloc, Monadic::Minus, a)?)
+                }
+                Monadic::Complement => {
+                    let a = operand(alloc, scope, d, e, of, Primitive::Int, room - 1)?;
+                    Ok(of_one(alloc, Monadic::Complement, a)?)
+                }
+                Monadic::BitNot => {
+                    let a = operand(alloc, scope, d, e, of, Primitive::Int, room - 1)?;
+                    Ok(of_one(alloc, Monadic::BitNot, a)?)
+                }
+            }
+        }
+        Expression::Dyadic {
+            operator,
+            left,
+            right,
+            ..
+        } => {
+            is_type(of, type_of_two(*operator))?;
+            match operands_of(*operator, compared(scope, left, right)) {
+                Some(operand) => {
+                    let b = value(alloc, scope, d, left, operand, room - 1)?;
+                    let a = value(alloc, scope, d, right, operand, room - 1)?;
+                    Ok(of_two(alloc, *operator, b, a)?)
+                }
+                None => Err(Fault::Wrong),
+            }
+        }
+        _ => Err(Fault::Wrong),
+    }
+}
+
+/// What is made of an operand of a type, which is that of the whole.
+#[cycle(value)]
+fn operand<'a>(
+    alloc: Global,
+    scope: &Scope<'_, 'a>,
+    d: usize,
+    e: &Expression<'a>,
+    of: Primitive,
+    wanted: Primitive,
+    room: u32,
+) -> Result<Value, Fault>
+    ensures same { IfOk result (λ v. of ≡ wanted) }
+    ensures made { IfOk result (λ v. text.value_of e.now wanted (names_of scope.now) d ≡ Some (value_made v)) }
+{
+    if room == 0 {
+        return Err(Fault::Deep);
+    }
+    is_type(of, wanted)?;
+    value(alloc, scope, d, e, wanted, room - 1)
+}
+
+/// What is made of a FUNCTION's expression, with what is passed.
+#[cycle(value)]
+fn called<'a>(
+    alloc: Global,
+    scope: &Scope<'_, 'a>,
+    d: usize,
+    name: Name<'a>,
+    arguments: &Expressions<'a>,
+    of: Primitive,
+    room: u32,
+) -> Result<Value, Fault>
+    ensures { IfOk result (λ v. text.called of (found name.entry (names_of scope.now)) (text.passed arguments.now)
+        (names_of scope.now) d ≡ Some (value_made v)) }
+{
+    if room == 0 {
+        return Err(Fault::Deep);
+    }
+    match look_up(scope, name) {
+        Some((Meaning::Function(other, forms, takes, body), own)) => {
+            is_type(of, other)?;
+            passed(
+                alloc,
+                scope,
+                own,
+                forms,
+                takes,
+                arguments,
+                body,
+                other,
+                d,
+                room - 1,
+            )
+        }
+        _ => Err(Fault::Wrong),
+    }
+}
+
+/// What is made of a FUNCTION's expression, with the rest of what is passed.
+#[cycle(value)]
+fn passed<'a>(
+    alloc: Global,
+    scope: &Scope<'_, 'a>,
+    own: &Scope<'_, 'a>,
+    forms: &[Form],
+    takes: &Parameters<'a>,
+    arguments: &Expressions<'a>,
+    body: &Expression<'a>,
+    of: Primitive,
+    d: usize,
+    room: u32,
+) -> Result<Value, Fault>
+    ensures { IfOk result (λ v. text.passed arguments.now (map form_of forms.now)
+        (taking takes.now (text.value_of body.now of) (names_of own.now)) (names_of scope.now) d ≡ Some (value_made v)) }
+{
+    if room == 0 {
+        return Err(Fault::Deep);
+    }
+    let Expressions::More(e, more) = arguments else {
+        return match (forms, takes) {
+            ([], Parameters::End) => value(alloc, own, d, body, of, room - 1),
+            _ => Err(Fault::Wrong),
+        };
+    };
+    let Some((form, forms)) = forms.split_first() else {
+        return Err(Fault::Wrong);
+    };
+    let Some((name, takes)) = first(takes) else {
+        return Err(Fault::Wrong);
+    };
+    match *form {
+        Form::OfValue(kind) => {
+            let passed_value = value(alloc, scope, d, e, kind, room - 1)?;
+            let word = word_passed(d, &passed_value);
+            let n = depth_behind(d, &passed_value)?;
+            let own = Scope::Within(name, Meaning::Fixed(kind, word), &*own);
+            let rest = passed(
+                alloc,
+                scope,
+                &own,
+                forms,
+                takes,
+                more,
+                body,
+                of,
+                n,
+                room - 1,
+            )?;
+            Ok(passed_value.passed_into(alloc, d, rest)?)
+        }
+        Form::OfArray(shape) => {
+            let passed_array = array(alloc, scope, e, shape, room - 1)?;
+            let own = Scope::Within(name, Meaning::Whole(view(&passed_array)), &*own);
+            passed(
+                alloc,
+                scope,
+                &own,
+                forms,
+                takes,
+                more,
+                body,
+                of,
+                d,
+                room - 1,
+            )
+        }
+        _ => Err(Fault::Wrong),
+    }
+}
+
+/// The array that an expression is: a name, a text of BYTEs, or a table of constants.
+#[cycle(value)]
+pub(crate) fn array<'s, 'a>(
+    alloc: Global,
+    scope: &Scope<'s, 'a>,
+    e: &Expression<'a>,
+    shape: Shape,
+    room: u32,
+) -> Result<Array<'s>, Fault>
+    ensures { IfOk result (λ a. text.array_of e.now (shape_of shape) (names_of scope.now) ≡ Some (array_made a)) }
+{
+    if room == 0 {
+        return Err(Fault::Deep);
+    }
+    match e {
+        Expression::Name(name) => match look_up(scope, *name) {
+            Some((Meaning::Whole(view), _)) => named_array(shape, view),
+            _ => Err(Fault::Wrong),
+        },
+        Expression::Bracketed { within, .. } => array(alloc, scope, within, shape, room - 1),
+        Expression::Table { items, .. } => {
+            let bytes = elements_of(alloc, scope, items, shape.kind, room - 1)?;
+            table(shape.kind, bytes, shape)
+        }
+        _ => Err(Fault::Wrong),
+    }
+}
+
+/// The bytes of constants.
+#[cycle(value)]
+fn elements_of<'a>(
+    alloc: Global,
+    scope: &Scope<'_, 'a>,
+    items: &Expressions<'a>,
+    kind: Kind,
+    room: u32,
+) -> Result<Vec<u8>, Fault>
+    ensures { IfOk result (λ bytes. text.elements_of items.now kind (names_of scope.now) ≡ Some bytes.items) }
+{
+    if room == 0 {
+        return Err(Fault::Deep);
+    }
+    match items {
+        Expressions::End => Ok(Vec::new(alloc)),
+        Expressions::More(e, more) => {
+            let item = value(alloc, scope, 0, e, element_type(kind), room - 1)?;
+            match item.constant() {
+                Some(word) => {
+                    let more = elements_of(alloc, scope, more, kind, room - 1)?;
+                    with_element(alloc, kind, word, &more)
+                }
+                None => Err(Fault::Wrong),
+            }
+        }
+    }
+}
