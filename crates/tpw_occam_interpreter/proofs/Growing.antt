@@ -44,13 +44,13 @@ grows (process.Copy to from) s = omega arith
 grows (process.Sequence' p first q second) s =
     let one = grows first s in
     let two = grows second (run first s) in omega arith
-grows (process.Repeat' x start count p body) s = turns_grow (run body) (grows body) x start count s
+grows (process.Repeat' name x start count p body) s = turns_grow (run body) (grows body) x start count s
 grows (process.If' e p guarded q rest) s =
     let t = flagged (value_of e s).flag s in
     chosen_grows (value_of e s).word t (run guarded) (run rest) (grows guarded t) (grows rest t)
-grows (process.Variable' x kind p body) s = grows body (with_cell x 0 s)
-grows (process.Value' x e p body) s = grows body (stored x (value_of e s) s)
-grows (process.Array' a bytes p body) s = grows body _
+grows (process.Variable' name x kind p body) s = grows body (with_cell x 0 s)
+grows (process.Value' name x e p body) s = grows body (stored x (value_of e s) s)
+grows (process.Array' name a bytes p body) s = grows body _
 grows (process.ReceiveWord t) s =
     let same = ap length (put_traces t (subscript_of t s).word (element Word s.packet 0) s) in omega (arith, same)
 grows (process.ReceiveArray a) s = omega arith

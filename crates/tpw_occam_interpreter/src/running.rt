@@ -136,6 +136,7 @@ pub(crate) fn run(alloc: Global, memory: &mut Memory, p: &Process) -> Result<(),
             start,
             count,
             body,
+            ..
         } => {
             for turn in 0..*count {
                 memory.write(*cell, start.wrapping_add(turn))?;
@@ -160,12 +161,18 @@ pub(crate) fn run(alloc: Global, memory: &mut Memory, p: &Process) -> Result<(),
             cell,
             value: bound,
             body,
+            ..
         } => {
             let answer = value(&Cells::Of(&*memory), bound);
             memory.store(*cell, answer)?;
             run(alloc, memory, body)?;
         }
-        Process::Array { array, bytes, body } => {
+        Process::Array {
+            array,
+            bytes,
+            body,
+            ..
+        } => {
             memory.clear_array(alloc, *array, *bytes as usize)?;
             run(alloc, memory, body)?;
         }

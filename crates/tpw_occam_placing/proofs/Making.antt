@@ -1,6 +1,6 @@
 -- Processes, each of its parts.
 use Rattle.std.proofs.Common.{◌≡◌, ◌∙◌, ℕ, true, None, List, length, replicate, sym, ap, subst}
-use Rattle.std.specs.Prelude.{Some}
+use Rattle.std.specs.Prelude.{Option, Some}
 use Rattle.std.specs.List.{AllZip}
 use Rattle.std.specs.Borrow.{Bor}
 use Rattle.std.specs.declared.boxed.Box.{Box}
@@ -13,6 +13,7 @@ use Rattle.tpw_occam_core.specs.declared.process.Process.{Process}
 use Rattle.tpw_occam_core.specs.Meaning.{Store, with_value, with_array, array_of}
 use Rattle.tpw_occam_core.specs.Meaning as core
 use Rattle.tpw_occam_core.specs.Sound.{bytes_of}
+use Rattle.tpw_occam_tree.specs.declared.span.Span.{Span}
 use Rattle.tpw_occam_meaning.specs.States.{State}
 use Rattle.tpw_occam_meaning.specs.States as state
 use Rattle.tpw_occam_scoped.specs.declared.expression.Expression.{Expression as Scoped}
@@ -79,7 +80,7 @@ module _ (tables : Tables) (scope : Scope) (p : ScopedProcess) where
   module _ (q : Bor (Unit {0})) (x n : ℕ) (body : Box ScopedProcess Global) (body' : ScopedProcess) (inner made : Process)
       (body-is : body' ≡ body.value) (lies : is_this x (cell_in tables n) ≡ true) (new : variable_of tables scope x ≡ None)
       (placed : IsDone tables (Variable' n q scope) body' inner) where
-    pub repeat_done : (start count : ℕ) → p ≡ process.Repeat x start count body
+    pub repeat_done : {name : Span} (start count : ℕ) → p ≡ process.Repeat name x start count body
         → ((kinds : List Kind) (t : Store) → core.run kinds made t ≡ core.turns (core.run kinds inner) n start count t) → IsDone tables scope p made
     repeat_done start count is run-is =
         done_by tables scope p made (state.turns (scoped.run body') x start count)
@@ -88,7 +89,7 @@ module _ (tables : Tables) (scope : Scope) (p : ScopedProcess) where
         (run-is tables.kinds.items)
         (λ s t holds. done_turns tables scope q x n lies new (scoped.run body') (core.run tables.kinds.items inner) placed s t start count holds)
 
-    pub variable_done : (kind : Kind) → p ≡ process.Variable x kind body
+    pub variable_done : {name : Span} (kind : Kind) → p ≡ process.Variable name x kind body
         → ((kinds : List Kind) (t : Store) → core.run kinds made t ≡ core.run kinds inner (with_value n 0 t)) → IsDone tables scope p made
     variable_done kind is run-is =
         done_by tables scope p made (λ s. scoped.run body' (state.with_cell x 0 s)) (λ t. core.run tables.kinds.items inner (with_value n 0 t))
@@ -96,7 +97,7 @@ module _ (tables : Tables) (scope : Scope) (p : ScopedProcess) where
         (run-is tables.kinds.items)
         (λ s t holds. done_within tables scope q x n lies new (scoped.run body') (core.run tables.kinds.items inner) placed s t 0 holds)
 
-    pub value_done : (e : Scoped) (value : Expression) → p ≡ process.Value x e body → IsPlaced tables scope e value
+    pub value_done : {name : Option Span} (e : Scoped) (value : Expression) → p ≡ process.Value name x e body → IsPlaced tables scope e value
         → ((kinds : List Kind) (t : Store) → core.run kinds made t ≡ core.run kinds inner
         (with_value n (core.value_of value t).word (core.flagged (core.value_of value t).flag t)))
         → IsDone tables scope p made
@@ -107,9 +108,9 @@ module _ (tables : Tables) (scope : Scope) (p : ScopedProcess) where
         (run-is tables.kinds.items)
         (done_value tables scope q x n e value (scoped.run body') (core.run tables.kinds.items inner) lies new valued placed)
 
-  pub array_done : (q : Bor (Unit {0})) (a n bytes : ℕ) (body : Box ScopedProcess Global) (body' : ScopedProcess) (inner made : Process)
+  pub array_done : {name : Span} (q : Bor (Unit {0})) (a n bytes : ℕ) (body : Box ScopedProcess Global) (body' : ScopedProcess) (inner made : Process)
       → body' ≡ body.value → is_this a (array_in tables n) ≡ true → array_at tables scope a ≡ None → bytes_of (storage_at tables n) ≡ bytes
-      → IsDone tables (Array' n q scope) body' inner → p ≡ process.Array a bytes body
+      → IsDone tables (Array' n q scope) body' inner → p ≡ process.Array name a bytes body
       → ((kinds : List Kind) (t : Store) → core.run kinds made t ≡ core.run kinds inner (with_array n (replicate (length (array_of t n)) 0) t))
       → IsDone tables scope p made
   array_done q a n bytes body body' inner made body-is lies new long placed is run-is =

@@ -46,6 +46,7 @@ pub fn process(
             start,
             count,
             body,
+            ..
         } => {
             let Some(n) = tables.free_variable(scope, *cell, Kind::Word) else {
                 return Err(Fault::Misplaced);
@@ -64,7 +65,12 @@ pub fn process(
             let rest = process(alloc, tables, scope, rest, room - 1)?;
             Ok(parts::choice(alloc, guard, guarded, rest)?)
         }
-        Scoped::Variable { cell, kind, body } => {
+        Scoped::Variable {
+            cell,
+            kind,
+            body,
+            ..
+        } => {
             let Some(n) = tables.free_variable(scope, *cell, *kind) else {
                 return Err(Fault::Misplaced);
             };
@@ -72,7 +78,12 @@ pub fn process(
             let body = process(alloc, tables, &inner, body, room - 1)?;
             Ok(parts::variable(alloc, n, body)?)
         }
-        Scoped::Value { cell, value, body } => {
+        Scoped::Value {
+            cell,
+            value,
+            body,
+            ..
+        } => {
             let value = expression(alloc, tables, scope, value, room)?;
             let Some(n) = tables.free_variable(scope, *cell, Kind::Word) else {
                 return Err(Fault::Misplaced);
@@ -81,7 +92,12 @@ pub fn process(
             let body = process(alloc, tables, &inner, body, room - 1)?;
             Ok(parts::value(alloc, n, value, body)?)
         }
-        Scoped::Array { array, bytes, body } => {
+        Scoped::Array {
+            array,
+            bytes,
+            body,
+            ..
+        } => {
             let Some(n) = tables.free_array(scope, *array, *bytes) else {
                 return Err(Fault::Misplaced);
             };

@@ -4,3 +4,4 @@ pub mod Making
 pub mod Operating
 pub mod Selecting
 pub mod Sending
+pub mod Sequencing

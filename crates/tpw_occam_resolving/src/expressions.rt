@@ -224,7 +224,7 @@ fn passed<'a>(
             let passed_value = value(alloc, scope, d, e, kind, room - 1)?;
             let word = word_passed(d, &passed_value);
             let n = depth_behind(d, &passed_value)?;
-            let own = Scope::Within(name, Meaning::Fixed(kind, word), &*own);
+            let own = Scope::Within(name.text, Meaning::Fixed(kind, word), &*own);
             let rest = passed(
                 alloc,
                 scope,
@@ -241,7 +241,7 @@ fn passed<'a>(
         }
         Form::OfArray(shape) => {
             let passed_array = array(alloc, scope, e, shape, room - 1)?;
-            let own = Scope::Within(name, Meaning::Whole(view(&passed_array)), &*own);
+            let own = Scope::Within(name.text, Meaning::Whole(view(&passed_array)), &*own);
             passed(
                 alloc,
                 scope,

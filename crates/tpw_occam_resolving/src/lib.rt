@@ -7,6 +7,7 @@ mod cases;
 mod declarations;
 mod depths;
 mod expressions;
+mod lines;
 mod messages;
 mod operands;
 mod operators;

@@ -3,6 +3,7 @@
 ghost use Rattle.std.specs.Prelude.{◌≡◌, Some, IfOk, map};
 ghost use Rattle.tpw_occam_meaning.specs.Calls as calls;
 ghost use Rattle.tpw_occam_meaning.specs.Declarations as text_declarations;
+ghost use Rattle.tpw_occam_meaning.specs.Effects.{followed_by};
 ghost use Rattle.tpw_occam_meaning.specs.Expressions.{value_of};
 ghost use Rattle.tpw_occam_meaning.specs.Names.{Is, Whole, Procedure, Function, found, with_name, taking};
 ghost use Rattle.tpw_occam_meaning.specs.Processes as text;
@@ -19,6 +20,7 @@ use crate::declarations::{
 };
 use crate::depths::{depth_behind, next, word_passed};
 use crate::expressions::{array, value};
+use crate::lines::{at, expression_line, first_line, process_line};
 use crate::messages::traced;
 use crate::parameters::first;
 use crate::targets::{assignment, cell_kind};
@@ -33,9 +35,27 @@ use tpw_occam_names::{Channel, Fault, Form, Meaning, Scope, Storage, View, Word,
 use tpw_occam_scoped::Process;
 use tpw_occam_tree::{Name, Primitive};
 
-/// The process that is made of one of the text, where `d` things are declared.
+/// The process that is made of one of the text, where `d` things are declared, with its line.
 #[cycle(process)]
 pub fn process<'a>(
+    alloc: Global,
+    scope: &Scope<'_, 'a>,
+    d: usize,
+    p: &'a Tree<'a>,
+    room: u32,
+) -> Result<Process, Fault>
+    ensures { IfOk result (λ made. effect_of made ≡ text.run p.now (names_of scope.now) d) }
+{
+    if room == 0 {
+        return Err(Fault::Deep);
+    }
+    let made = without_line(alloc, scope, d, p, room - 1)?;
+    Ok(at(alloc, process_line(p), made)?)
+}
+
+/// .. without its own line.
+#[cycle(process)]
+fn without_line<'a>(
     alloc: Global,
     scope: &Scope<'_, 'a>,
     d: usize,
@@ -75,7 +95,7 @@ pub fn process<'a>(
                 &*scope,
             );
             let body = all(alloc, &within, next(d)?, steps, room - 1)?;
-            Ok(Process::repeat(alloc, d, from, turns, body)?)
+            Ok(Process::repeat(alloc, index.span, d, from, turns, body)?)
         }
         Tree::If { choices, .. } => first_true(alloc, scope, d, choices, room - 1),
         Tree::Declared {
@@ -111,12 +131,47 @@ fn all<'a>(
     if room == 0 {
         return Err(Fault::Deep);
     }
+    let (made, rest) = some(alloc, scope, d, steps, how_many(steps), room - 1)?;
+    match rest {
+        Processes::End => Ok(made),
+        Processes::More(_, _) => Err(Fault::Wrong),
+    }
+}
+
+/// How many processes there are.
+fn how_many(steps: &Processes<'_>) -> usize {
     match steps {
-        Processes::End => Ok(Process::skip()),
+        Processes::End => 0,
+        Processes::More(_, more) => how_many(more).saturating_add(1),
+    }
+}
+
+/// So many of some processes as a balanced tree, and those behind them.
+#[cycle(process)]
+fn some<'a>(
+    alloc: Global,
+    scope: &Scope<'_, 'a>,
+    d: usize,
+    steps: &'a Processes<'a>,
+    count: usize,
+    room: u32,
+) -> Result<(Process, &'a Processes<'a>), Fault>
+    ensures { IfOk result (λ r. text.all_run steps.now (names_of scope.now) d
+        ≡ followed_by (effect_of r.0) (text.all_run r.1.now (names_of scope.now) d)) }
+{
+    if room == 0 {
+        return Err(Fault::Deep);
+    }
+    if count > 1 {
+        let (first, rest) = some(alloc, scope, d, steps, count / 2, room - 1)?;
+        let (second, rest) = some(alloc, scope, d, rest, count - count / 2, room - 1)?;
+        return Ok((Process::sequence(alloc, first, second)?, rest));
+    }
+    match steps {
+        Processes::End => Ok((Process::skip(), steps)),
         Processes::More(first, more) => {
             let first = process(alloc, scope, d, first, room - 1)?;
-            let more = all(alloc, scope, d, more, room - 1)?;
-            Ok(Process::sequence(alloc, first, more)?)
+            Ok((first, &**more))
         }
     }
 }
@@ -138,10 +193,12 @@ fn first_true<'a>(
     match choices {
         Choices::End => Ok(Process::stop()),
         Choices::More(guard, body, more) => {
+            let line = expression_line(guard);
             let guard = value(alloc, scope, d, guard, Primitive::Bool, room)?;
             let body = process(alloc, scope, d, body, room - 1)?;
             let more = first_true(alloc, scope, d, more, room - 1)?;
-            Ok(Process::choice(alloc, guard, body, more)?)
+            let chosen = Process::choice(alloc, guard, body, more)?;
+            Ok(at(alloc, line, chosen)?)
         }
     }
 }
@@ -176,7 +233,7 @@ fn declared<'a>(
             let word = word_passed(d, &value);
             let within = Scope::Within(name.text, Meaning::Fixed(of, word), &*scope);
             let body = process(alloc, &within, depth_behind(d, &value)?, rest, room - 1)?;
-            Ok(Process::passed_to(alloc, d, value, body)?)
+            Ok(Process::passed_to(alloc, Some(name.span), d, value, body)?)
         }
         Declaration::Variables { of, names } => {
             if is_single(&of.sizes) {
@@ -329,7 +386,7 @@ fn variables<'a>(
         Names::More(name, more) => {
             let within = Scope::Within(name.text, Meaning::Variable(of, d), &*scope);
             let body = variables(alloc, &within, next(d)?, of, more, rest, room - 1)?;
-            Ok(Process::variable(alloc, d, cell_kind(of), body)?)
+            Ok(Process::variable(alloc, name.span, d, cell_kind(of), body)?)
         }
     }
 }
@@ -363,7 +420,7 @@ fn arrays<'a>(
             };
             let within = Scope::Within(name.text, Meaning::Whole(view), &*scope);
             let body = arrays(alloc, &within, next(d)?, kind, size, more, rest, room - 1)?;
-            Ok(Process::array(alloc, d, bytes_of(kind, size)?, body)?)
+            Ok(Process::array(alloc, name.span, d, bytes_of(kind, size)?, body)?)
         }
     }
 }
@@ -438,20 +495,20 @@ fn entered<'a>(
             let passed = value(alloc, scope, d, e, of, room)?;
             let word = word_passed(d, &passed);
             let n = depth_behind(d, &passed)?;
-            let own = Scope::Within(name, Meaning::Fixed(of, word), &*own);
+            let own = Scope::Within(name.text, Meaning::Fixed(of, word), &*own);
             let rest = entered(alloc, scope, &own, forms, takes, more, body, n, room - 1)?;
-            Ok(Process::passed_to(alloc, d, passed, rest)?)
+            Ok(Process::passed_to(alloc, Some(name.span), d, passed, rest)?)
         }
         Form::OfVariable(of) => {
             let lent = referred(alloc, scope, d, e, of, room)?;
             let n = depth_behind(d, &lent.subscript)?;
-            let own = Scope::Within(name, meaning_of(&lent), &*own);
+            let own = Scope::Within(name.text, meaning_of(&lent), &*own);
             let rest = entered(alloc, scope, &own, forms, takes, more, body, n, room - 1)?;
-            Ok(Process::passed_to(alloc, d, lent.subscript, rest)?)
+            Ok(Process::passed_to(alloc, None, d, lent.subscript, rest)?)
         }
         Form::OfArray(shape) => {
             let passed = array(alloc, scope, e, shape, room)?;
-            let own = Scope::Within(name, Meaning::Whole(view(&passed)), &*own);
+            let own = Scope::Within(name.text, Meaning::Whole(view(&passed)), &*own);
             entered(alloc, scope, &own, forms, takes, more, body, d, room - 1)
         }
         Form::OfChannel(wanted) => {
@@ -459,7 +516,11 @@ fn entered<'a>(
             if !same_protocol(wanted, protocol) {
                 return Err(Fault::Wrong);
             }
-            let own = Scope::Within(name, Meaning::Carrier(Channel::Traces, protocol), &*own);
+            let own = Scope::Within(
+                name.text,
+                Meaning::Carrier(Channel::Traces, protocol),
+                &*own,
+            );
             entered(alloc, scope, &own, forms, takes, more, body, d, room - 1)
         }
     }
@@ -490,7 +551,7 @@ fn case<'a>(
     let n = depth_behind(d, &passed)?;
     let other = otherwise(alloc, scope, n, cases, room - 1)?;
     let body = selected(alloc, scope, n, cases, of, word, other, room - 1)?;
-    Ok(Process::passed_to(alloc, d, passed, body)?)
+    Ok(Process::passed_to(alloc, None, d, passed, body)?)
 }
 
 /// What is behind ELSE, or STOP.
@@ -543,7 +604,8 @@ fn selected<'a>(
             let constants = constants_of(alloc, scope, list, of, room)?;
             let body = process(alloc, scope, d, body, room - 1)?;
             let rest = selected(alloc, scope, d, more, of, word, other, room - 1)?;
-            Ok(selection(alloc, word, &constants, body, rest)?)
+            let chosen = selection(alloc, word, &constants, body, rest)?;
+            Ok(at(alloc, first_line(list), chosen)?)
         }
         Cases::Else(_, more) => selected(alloc, scope, d, more, of, word, other, room - 1),
     }

@@ -85,12 +85,12 @@ run process.Stop s = flagged true s
 run (process.Assign list) s = all_assigned list.items s
 run (process.Copy to from) s = with_array to (bytes_in from s) s
 run (process.Sequence' p first q second) s = run second (run first s)
-run (process.Repeat' x start count p body) s = turns (run body) x start count s
+run (process.Repeat' name x start count p body) s = turns (run body) x start count s
 run (process.If' e p guarded q rest) s =
     chosen (value_of e s).word (run guarded) (run rest) (flagged (value_of e s).flag s)
-run (process.Variable' x kind p body) s = run body (with_cell x 0 s)
-run (process.Value' x e p body) s = run body (stored x (value_of e s) s)
-run (process.Array' a bytes p body) s = run body (with_array a (replicate bytes 0) s)
+run (process.Variable' name x kind p body) s = run body (with_cell x 0 s)
+run (process.Value' name x e p body) s = run body (stored x (value_of e s) s)
+run (process.Array' name a bytes p body) s = run body (with_array a (replicate bytes 0) s)
 run (process.ReceiveWord t) s = assigned t (subscript_of t s) (plain (element Word s.packet 0)) s
 run (process.ReceiveArray a) s = with_array a s.packet s
 run (process.Trace m) s = with_traced (bytes_of m s) (flagged (flag_of m s) s)

@@ -2,6 +2,7 @@
 
 use crate::expression::Expression;
 use tpw_occam_core::Kind;
+use tpw_occam_tree::Span;
 
 /// What is assigned to.
 #[derive(Drop)]
@@ -40,7 +41,7 @@ pub enum Message {
 }
 
 /// A process. A SEQ is a tree of pairs, to be built balanced, and an IF a chain: a guard, what it leads to, and the
-/// rest of the IF, which ends in STOP.
+/// rest of the IF, which ends in STOP. Of what is declared, `name` is the place of its name in the text, which means nothing.
 pub enum Process {
     Skip,
     Stop,
@@ -54,6 +55,7 @@ pub enum Process {
     Sequence(Box<Process>, Box<Process>),
     /// `count` turns, with the index in a cell, from `start` on.
     Repeat {
+        name: Span,
         cell: usize,
         start: u32,
         count: u32,
@@ -66,18 +68,21 @@ pub enum Process {
     },
     /// A process with a variable of its own, which is 0 first.
     Variable {
+        name: Span,
         cell: usize,
         kind: Kind,
         body: Box<Process>,
     },
-    /// A process within which a cell has a value.
+    /// A process within which a cell has a value, under a name or without one.
     Value {
+        name: Option<Span>,
         cell: usize,
         value: Expression,
         body: Box<Process>,
     },
     /// A process with an array of its own, whose bytes are 0 first.
     Array {
+        name: Span,
         array: usize,
         bytes: u32,
         body: Box<Process>,
@@ -115,22 +120,26 @@ impl Drop for Process {
                 rest: _second,
             } => {}
             Process::Value {
+                name: _,
                 cell: _,
                 value: _value,
                 body: _body,
             } => {}
             Process::Repeat {
+                name: _,
                 cell: _,
                 start: _,
                 count: _,
                 body: _body,
             }
             | Process::Variable {
+                name: _,
                 cell: _,
                 kind: _,
                 body: _body,
             }
             | Process::Array {
+                name: _,
                 array: _,
                 bytes: _,
                 body: _body,

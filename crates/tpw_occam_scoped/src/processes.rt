@@ -17,7 +17,7 @@ use crate::process::{Assignment, Bytes, Message, Process, Target};
 use crate::value::Value;
 use std::alloc::{AllocError, Global};
 use tpw_occam_core::Kind;
-use tpw_occam_tree::Primitive;
+use tpw_occam_tree::{Primitive, Span};
 
 impl Process {
     /// `SKIP`.
@@ -60,6 +60,7 @@ impl Process {
     /// `SEQ i = start FOR count`, with i in a cell.
     pub fn repeat(
         alloc: Global,
+        name: Span,
         cell: usize,
         start: u32,
         count: u32,
@@ -68,6 +69,7 @@ impl Process {
         ensures { IfOk result (λ p. effect_of p ≡ repeated cell start count (effect_of body)) }
     {
         Ok(Process::Repeat {
+            name,
             cell,
             start,
             count,
@@ -78,6 +80,7 @@ impl Process {
     /// A process with a variable of its own.
     pub fn variable(
         alloc: Global,
+        name: Span,
         cell: usize,
         kind: Kind,
         body: Process,
@@ -85,6 +88,7 @@ impl Process {
         ensures { IfOk result (λ p. effect_of p ≡ within_variable cell (effect_of body)) }
     {
         Ok(Process::Variable {
+            name,
             cell,
             kind,
             body: Box::new(alloc, body)?,
@@ -94,6 +98,7 @@ impl Process {
     /// A process within which a cell has a value.
     pub fn value(
         alloc: Global,
+        name: Option<Span>,
         cell: usize,
         value: Value,
         body: Process,
@@ -101,6 +106,7 @@ impl Process {
         ensures { IfOk result (λ p. effect_of p ≡ within_value cell (value_made value) (effect_of body)) }
     {
         Ok(Process::Value {
+            name,
             cell,
             value: value.expression(alloc)?,
             body: Box::new(alloc, body)?,
@@ -110,6 +116,7 @@ impl Process {
     /// A process behind a value that is passed: one that is no constant lies in a cell.
     pub fn passed_to(
         alloc: Global,
+        name: Option<Span>,
         cell: usize,
         value: Value,
         body: Process,
@@ -119,18 +126,19 @@ impl Process {
         match value {
             Value::Known(answer) => {
                 if answer.flag {
-                    Process::value(alloc, cell, Value::Known(answer), body)
+                    Process::value(alloc, name, cell, Value::Known(answer), body)
                 } else {
                     Ok(body)
                 }
             }
-            Value::Varying(e) => Process::value(alloc, cell, Value::Varying(e), body),
+            Value::Varying(e) => Process::value(alloc, name, cell, Value::Varying(e), body),
         }
     }
 
     /// A process with an array of its own, of so many bytes.
     pub fn array(
         alloc: Global,
+        name: Span,
         array: usize,
         bytes: u32,
         body: Process,
@@ -138,6 +146,7 @@ impl Process {
         ensures { IfOk result (λ p. effect_of p ≡ within_array array bytes (effect_of body)) }
     {
         Ok(Process::Array {
+            name,
             array,
             bytes,
             body: Box::new(alloc, body)?,

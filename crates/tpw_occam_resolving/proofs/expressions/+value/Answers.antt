@@ -10,7 +10,7 @@ pub passed-returns-in_ok-passed_into-in-OfValue : goal.passed-returns-in_ok-pass
 passed-returns-in_ok-passed_into-in-OfValue t c =
     value_passed (names_of c.args.scope.now) (names_of c.args.own.now) c.args.arguments.now c.deref-in-OfValue.result.now
     c.in-More.e c.in-More.more (map form_of c.args.forms.now) (map form_of c.in-Some.forms.now) c.deref.result.now
-    c.args.takes.now c.in-Some-first.takes.now c.in-Some-first.name.now c.in-More.is c.deref.ensures
+    c.args.takes.now c.in-Some-first.takes.now c.in-Some-first.name.text.now c.in-More.is c.deref.ensures
     c.deref-in-OfValue.ensures c.in-Some-first.ensures c.args.d (value_of c.args.body.now c.args.of) c.in-OfValue.kind
     (value_made c.in_ok-passed_value-in-OfValue.passed_value) (value_made c.in_ok-rest-in-OfValue.rest)
     (value_made c.in_ok-passed_into-in-OfValue.field-0) (word_of c.word_passed-word.result) c.in_ok-n-in-OfValue.n
@@ -24,7 +24,7 @@ passed-returns-in_ok-passed_array-in-OfArray t c =
     (λ v h. array_passed (names_of c.args.scope.now) (names_of c.args.own.now) c.args.arguments.now
     c.deref-in-OfArray-2.result.now c.in-More.e c.in-More.more (map form_of c.args.forms.now)
     (map form_of c.in-Some.forms.now) c.deref-in-OfArray.result.now c.args.takes.now c.in-Some-first.takes.now
-    c.in-Some-first.name.now c.in-More.is c.deref-in-OfArray.ensures c.deref-in-OfArray-2.ensures
+    c.in-Some-first.name.text.now c.in-More.is c.deref-in-OfArray.ensures c.deref-in-OfArray-2.ensures
     c.in-Some-first.ensures c.args.d (value_of c.args.body.now c.args.of) (shape_of c.in-OfArray.shape)
     (view_of c.view.result) (value_made v)
     (ap (map form_of) (c.in-Some.ensures.cases.0 ∙ ap (λ x. x ∷ c.in-Some.forms.now) c.in-OfArray.is))

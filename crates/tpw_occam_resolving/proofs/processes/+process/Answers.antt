@@ -1,12 +1,14 @@
 use Rattle.std.proofs.Common.{◌∷◌, map, Some, sym, ap, ◌∙◌}
 use Rattle.std.proofs.lemmas.Result.{IfOk-weaker}
 use Rattle.tpw_occam_meaning.specs.Calls.{entered}
+use Rattle.tpw_occam_meaning.specs.Effects.{followed_by}
 use Rattle.tpw_occam_meaning.specs.Names.{taking}
-use Rattle.tpw_occam_meaning.specs.Processes.{run}
+use Rattle.tpw_occam_meaning.specs.Processes.{run, all_run}
 use Rattle.tpw_occam_names.specs.Scopes.{names_of, form_of, shape_of, view_of, word_of, protocol_of}
 use Rattle.tpw_occam_scoped.specs.Made.{effect_of, value_made}
 use Rattle.tpw_occam_resolving.specs.Passing.{place_of}
 use Rattle.tpw_occam_resolving.proofs.Selecting.{case_run}
+use Rattle.tpw_occam_resolving.proofs.Sequencing.{followed_in_pairs}
 use Rattle.tpw_occam_resolving.proofs.Declaring.{procedure_done}
 use Rattle.tpw_occam_resolving.proofs.Entering.{value_entered, variable_entered, array_entered, channel_entered}
 use Rattle.tpw_occam_resolving.proofs.processes.+process.Goals as goal
@@ -24,7 +26,7 @@ pub entered-returns-in_ok-passed_to-in-OfValue : goal.entered-returns-in_ok-pass
 entered-returns-in_ok-passed_to-in-OfValue t c =
     value_entered (names_of c.args.scope.now) (names_of c.args.own.now) c.args.arguments.now c.deref-in-OfValue.result.now
     c.in-More.e c.in-More.more (map form_of c.args.forms.now) (map form_of c.in-Some.forms.now) c.deref.result.now
-    c.args.takes.now c.in-Some-first.takes.now c.in-Some-first.name.now c.in-More.is c.deref.ensures
+    c.args.takes.now c.in-Some-first.takes.now c.in-Some-first.name.text.now c.in-More.is c.deref.ensures
     c.deref-in-OfValue.ensures c.in-Some-first.ensures c.args.d (run c.args.body.now) c.in-OfValue.of
     (value_made c.in_ok-passed-in-OfValue.passed) (effect_of c.in_ok-rest-in-OfValue.rest)
     (effect_of c.in_ok-passed_to-in-OfValue.field-0) (word_of c.word_passed-word.result) c.in_ok-n-in-OfValue.n
@@ -39,7 +41,7 @@ entered-returns-in_ok-passed_to-in-OfVariable t c =
     let others = map form_of c.in-Some.forms.now in
     variable_entered names own c.args.arguments.now c.deref-in-OfVariable-2.result.now c.in-More.e c.in-More.more
     (map form_of c.args.forms.now) others c.deref-in-OfVariable.result.now c.args.takes.now c.in-Some-first.takes.now
-    c.in-Some-first.name.now c.in-More.is c.deref-in-OfVariable.ensures c.deref-in-OfVariable-2.ensures
+    c.in-Some-first.name.text.now c.in-More.is c.deref-in-OfVariable.ensures c.deref-in-OfVariable-2.ensures
     c.in-Some-first.ensures c.args.d (run c.args.body.now) c.in-OfVariable.of
     (value_made c.in_ok-lent-in-OfVariable.lent.subscript) (effect_of c.in_ok-rest-in-OfVariable.rest)
     (effect_of c.in_ok-passed_to-in-OfVariable.field-0) (place_of c.in_ok-lent-in-OfVariable.lent.place)
@@ -48,7 +50,7 @@ entered-returns-in_ok-passed_to-in-OfVariable t c =
     c.in_ok-lent-in-OfVariable.ensures c.in_ok-n-in-OfVariable.ensures
     (c.in_ok-rest-in-OfVariable.ensures
     ∙ ap (λ x. entered c.deref-in-OfVariable-2.result.now others
-    (taking c.in-Some-first.takes.now (run c.args.body.now) ((c.in-Some-first.name.now, x) ∷ own)) names c.in_ok-n-in-OfVariable.n)
+    (taking c.in-Some-first.takes.now (run c.args.body.now) ((c.in-Some-first.name.text.now, x) ∷ own)) names c.in_ok-n-in-OfVariable.n)
     (c.meaning_of.ensures own))
     c.in_ok-passed_to-in-OfVariable.ensures
 
@@ -58,7 +60,7 @@ entered-returns-else-not-same_protocol t c =
     (λ made h. channel_entered (names_of c.args.scope.now) (names_of c.args.own.now) c.args.arguments.now
     c.deref-in-OfChannel-2.result.now c.in-More.e c.in-More.more (map form_of c.args.forms.now)
     (map form_of c.in-Some.forms.now) c.deref-in-OfChannel.result.now c.args.takes.now c.in-Some-first.takes.now
-    c.in-Some-first.name.now c.in-More.is c.deref-in-OfChannel.ensures c.deref-in-OfChannel-2.ensures
+    c.in-Some-first.name.text.now c.in-More.is c.deref-in-OfChannel.ensures c.deref-in-OfChannel-2.ensures
     c.in-Some-first.ensures c.args.d (run c.args.body.now) (protocol_of c.in-OfChannel.wanted)
     (protocol_of c.in_ok-protocol-in-OfChannel.protocol) (effect_of made)
     (ap (map form_of) (c.in-Some.ensures.cases.0 ∙ ap (λ x. x ∷ c.in-Some.forms.now) c.in-OfChannel.is))
@@ -71,16 +73,24 @@ entered-returns-in_ok-passed-in-OfArray t c =
     (λ made h. array_entered (names_of c.args.scope.now) (names_of c.args.own.now) c.args.arguments.now
     c.deref-in-OfArray-2.result.now c.in-More.e c.in-More.more (map form_of c.args.forms.now)
     (map form_of c.in-Some.forms.now) c.deref-in-OfArray.result.now c.args.takes.now c.in-Some-first.takes.now
-    c.in-Some-first.name.now c.in-More.is c.deref-in-OfArray.ensures c.deref-in-OfArray-2.ensures
+    c.in-Some-first.name.text.now c.in-More.is c.deref-in-OfArray.ensures c.deref-in-OfArray-2.ensures
     c.in-Some-first.ensures c.args.d (run c.args.body.now) (shape_of c.in-OfArray.shape) (view_of c.view.result)
     (effect_of made)
     (ap (map form_of) (c.in-Some.ensures.cases.0 ∙ ap (λ x. x ∷ c.in-Some.forms.now) c.in-OfArray.is))
     (c.in_ok-passed-in-OfArray.ensures ∙ ap Some (sym c.view.ensures)) h)
     c.entered-in-OfArray.ensures
 
-pub process-returns-in-Case : goal.process-returns-in-Case
-process-returns-in-Case t c =
+pub without_line-returns-in-Case : goal.without_line-returns-in-Case
+without_line-returns-in-Case t c =
     IfOk-weaker c.case.result _ _
     (λ made h. case_run c.args.p.now c.in-Case.selector c.in-Case.cases c.deref-in-Case.result.now c.in-Case.span
     (names_of c.args.scope.now) c.args.d (effect_of made) c.in-Case.is c.deref-in-Case.ensures h)
     c.case.ensures
+
+pub some-returns-then-count-gt1 : goal.some-returns-then-count-gt1
+some-returns-then-count-gt1 t c =
+    let behind = all_run c.in_ok-second.rest.now (names_of c.args.scope.now) c.args.d in
+    let first = effect_of c.in_ok-first.first in
+    c.in_ok-first.ensures ∙ ap (followed_by first) c.in_ok-second.ensures
+    ∙ followed_in_pairs first (effect_of c.in_ok-second.second) behind
+    ∙ ap (λ e. followed_by e behind) (sym c.in_ok-sequence.ensures)

@@ -41,3 +41,9 @@ decreases-selected l = l.room
 
 abbrev pub decreases-variables : goal.decreases-variables
 decreases-variables l = l.room
+
+abbrev pub decreases-some : goal.decreases-some
+decreases-some l = l.room
+
+abbrev pub decreases-without_line : goal.decreases-without_line
+decreases-without_line l = l.room
