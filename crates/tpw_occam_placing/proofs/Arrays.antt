@@ -28,7 +28,7 @@ module _ (tables : Tables) where
       there m n a (array_of tables before a) (is_this a (array_in tables m)) refl h (found_there before a n)
 
   -- what lies there lies in no table
-  no_table : (a n : ℕ) → is_this a (array_in tables n) ≡ true → is_table (storage_at tables n) ≡ false
+  pub no_table : (a n : ℕ) → is_this a (array_in tables n) ≡ true → is_table (storage_at tables n) ≡ false
   no_table a n h = by_test (is_table (storage_at tables n)) refl h
     where
       by_test : (b : Bool) → is_table (storage_at tables n) ≡ b → is_this a (if b then None else slice_get tables.arrays.items n) ≡ true

@@ -34,7 +34,7 @@ module _ (tables : Tables) where
   there m n x rest false e h behind = behind h
 
   -- a cell lies where it is found
-  found_there : (scope : Scope) (x n : ℕ) → variable_of tables scope x ≡ Some n → is_this x (cell_in tables n) ≡ true
+  pub found_there : (scope : Scope) (x n : ℕ) → variable_of tables scope x ≡ Some n → is_this x (cell_in tables n) ≡ true
   found_there Empty x n h = cc
   found_there (Variable' m p before) x n h =
       there m n x (variable_of tables before x) (is_this x (cell_in tables m)) refl h (found_there before x n)

@@ -4,13 +4,16 @@
 
 mod assignments;
 mod expressions;
+mod needs;
 mod parts;
 mod process_parts;
 mod processes;
 mod scope;
 mod tables;
+mod workers;
 
 pub use expressions::expression;
 pub use processes::process;
 pub use scope::Scope;
 pub use tables::{Fault, Tables};
+pub use workers::place;

@@ -7,7 +7,7 @@ ghost use Rattle.tpw_occam_resolving.specs.Passing.{BeginsWith};
 use tpw_occam_meaning::Parameters;
 
 /// The first parameter, and those behind it.
-pub(crate) fn first<'r, 'a>(takes: &'r Parameters<'a>) -> Option<(&'a str, &'r Parameters<'a>)>
+pub fn first<'r, 'a>(takes: &'r Parameters<'a>) -> Option<(&'a str, &'r Parameters<'a>)>
     ensures { MatchOption result (takes.now ≡ End) (λ r. BeginsWith takes.now r.0.now r.1.now) }
 {
     match takes {
