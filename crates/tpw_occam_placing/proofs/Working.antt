@@ -1,5 +1,5 @@
 -- Whole workers: the first state, the packet, the steps, the result.
-use Rattle.std.proofs.Common.{◌≡◌, ◌≢◌, ◌∙◌, ℕ, zero, suc, ◌<◌, ◌||◌, nat_lt, Bool, true, false, if◌then◌else◌, Option, Some, None}
+use Rattle.std.proofs.Common.{◌≡◌, ◌≢◌, ◌∙◌, ℕ, zero, suc, ◌<◌, ◌||◌, nat_lt, Bool, true, false, if◌then◌else◌, Some, None}
 use Rattle.std.proofs.Common.{List, [], ◌∷◌, length, map, replicate, slice_index, slice_index_or, slice_set, refl, sym, ap, subst}
 use Rattle.std.proofs.Common.{length-set, get_or-set_same, get_or-set_other}
 use Rattle.std.proofs.lemmas.List.{length-map, length-replicate, set-get_or}
@@ -20,7 +20,7 @@ use Rattle.tpw_occam_core.specs.declared.worker.Storage.TheVariants.{Zeros, Tabl
 use Rattle.tpw_occam_core.specs.Arrays.{element}
 use Rattle.tpw_occam_core.specs.Meaning.{Store, with_value, with_array, first_bytes, most_traced, received}
 use Rattle.tpw_occam_core.specs.Meaning as core
-use Rattle.tpw_occam_core.specs.Sound.{storage_of, bytes_of, is_table}
+use Rattle.tpw_occam_core.specs.Sound.{bytes_of, is_table}
 use Rattle.tpw_occam_meaning.specs.States.{State, first}
 use Rattle.tpw_occam_meaning.specs.States as state
 use Rattle.tpw_occam_meaning.specs.Texts.{meant}
@@ -34,7 +34,7 @@ use Rattle.tpw_occam_placing.specs.declared.tables.Tables.{Tables}
 use Rattle.tpw_occam_placing.specs.declared.scope.Scope.{Scope}
 use Rattle.tpw_occam_placing.specs.declared.scope.Scope.TheVariants.{Empty, Variable', Array'}
 use Rattle.tpw_occam_placing.specs.Placing.{is_this, cell_in, storage_at, array_in, variable_of, array_of, Holds, IsTarget, IsMessage, IsDone}
-use Rattle.tpw_occam_placing.specs.Working.{Takes, first_of, given, IsFinished, IsReceived, IsBegun}
+use Rattle.tpw_occam_placing.specs.Working.{first_of, given, IsFinished, IsReceived, IsBegun}
 use Rattle.tpw_occam_placing.proofs.Holding.{one_place, within, found_there, holds_stored, holds_within}
 use Rattle.tpw_occam_placing.proofs.Arrays.{no_table, holds_array_stored, holds_array_within}
 use Rattle.tpw_occam_placing.proofs.Doing.{holds_flagged}
@@ -52,8 +52,8 @@ zero_at (suc k) zero = refl
 zero_at (suc k) (suc n) = zero_at k n
 
 zeros_of : (s : Storage) (bytes : ℕ) → is_table s ≡ false → bytes_of s ≡ bytes → replicate bytes 0 ≡ first_bytes s
-zeros_of (Zeros k) bytes no long = ap (λ (m : ℕ). replicate m 0) (sym long ∙ length-replicate {A = ℕ} k 0)
-zeros_of (Table v) bytes no long = cc
+zeros_of (Zeros k) bytes is_plain long = ap (λ (m : ℕ). replicate m 0) (sym long ∙ length-replicate {A = ℕ} k 0)
+zeros_of (Table v) bytes is_plain long = cc
 
 or_false : (b : Bool) → b ≡ b || false
 or_false true = refl
@@ -113,7 +113,7 @@ module _ (tables : Tables) where
           let none : variable_of tables scope y ≡ None = ap (variable_of tables scope) one ∙ new in
           cc
 
-  module _ (scope : Scope) (p : Scoped) where
+  module _ (scope : Scope) where
     pub cell_received : (to : ScopedTarget) (x n : ℕ) (kind : Kind) → to ≡ Cell x kind → kind ≡ Word → variable_of tables scope x ≡ Some n
         → IsReceived tables scope (process.ReceiveWord to) (place.Variable n) Skip
     cell_received to x n kind is word lies s t holds takes =
@@ -154,6 +154,7 @@ module _ (tables : Tables) where
         (holds_flagged tables scope _ _ (scoped.subscript_of to s).flag
         (placed.put (scoped.subscript_of to s).word word s u before))))
 
+  module _ (scope : Scope) (p : Scoped) where
     pub array_received : (a n : ℕ) → p ≡ process.ReceiveArray a → array_of tables scope a ≡ Some n
         → IsReceived tables scope p (place.Array n) Skip
     array_received a n is lies s t holds takes =
