@@ -1,17 +1,17 @@
 -- What a worker's state has of a scoped core's, where arrays take bytes, are declared and end.
-use Rattle.std.proofs.Common.{◌≡◌, ◌≢◌, ◌∙◌, ℕ, zero, suc, ◌<◌, ◌==◌, nat_eq, Bool, true, false, if◌then◌else◌, Option, Some, None}
-use Rattle.std.proofs.Common.{List, [], ◌∷◌, length, slice_get, slice_index_or, slice_set, refl, sym, ap, subst}
+use Rattle.std.proofs.Common.{◌≡◌, ◌≢◌, ◌∙◌, ℕ, ◌<◌, nat_eq, Bool, true, false, if◌then◌else◌, Option, Some, None}
+use Rattle.std.proofs.Common.{List, [], length, slice_get, slice_index_or, slice_set, refl, sym, ap, subst}
 use Rattle.std.proofs.Common.{length-set, get_or-set_same, get_or-set_other}
 use Rattle.std.specs.Borrow.{Bor}
 use Rattle.std.proofs.lemmas.Bool.{eqb-true, eq-eqb}
 use Rattle.tpw_occam_core.specs.Meaning.{Store, with_array, first_bytes}
-use Rattle.tpw_occam_core.specs.Sound.{storage_of, bytes_of, is_table}
+use Rattle.tpw_occam_core.specs.Sound.{bytes_of, is_table}
 use Rattle.tpw_occam_meaning.specs.States.{State}
 use Rattle.tpw_occam_meaning.specs.States as scoped
 use Rattle.tpw_occam_placing.specs.declared.tables.Tables.{Tables}
 use Rattle.tpw_occam_placing.specs.declared.scope.Scope.{Scope}
 use Rattle.tpw_occam_placing.specs.declared.scope.Scope.TheVariants.{Empty, Variable', Array'}
-use Rattle.tpw_occam_placing.specs.Placing.{is_this, cell_in, storage_at, array_in, variable_of, array_of, bytes_at, Holds}
+use Rattle.tpw_occam_placing.specs.Placing.{is_this, storage_at, array_in, array_of, bytes_at, Holds}
 use Rattle.tpw_occam_placing.proofs.Holding.{one_place, within, some_same}
 
 module _ (tables : Tables) where
@@ -28,7 +28,7 @@ module _ (tables : Tables) where
       there m n a (array_of tables before a) (is_this a (array_in tables m)) refl h (found_there before a n)
 
   -- what lies there lies in no table
-  no_table : (a n : ℕ) → is_this a (array_in tables n) ≡ true → is_table (storage_at tables n) ≡ false
+  pub no_table : (a n : ℕ) → is_this a (array_in tables n) ≡ true → is_table (storage_at tables n) ≡ false
   no_table a n h = by_test (is_table (storage_at tables n)) refl h
     where
       by_test : (b : Bool) → is_table (storage_at tables n) ≡ b → is_this a (if b then None else slice_get tables.arrays.items n) ≡ true

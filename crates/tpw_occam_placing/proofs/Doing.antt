@@ -1,5 +1,5 @@
 -- Processes: what each does with a worker's state that has a scoped core's.
-use Rattle.std.proofs.Common.{◌≡◌, ◌∙◌, ℕ, zero, suc, ◌+◌, ◌*◌, ◌%◌, ◌^◌, ◌||◌, Bool, true, None, List, [], ◌∷◌, length, slice_set, refl, sym, ap, subst}
+use Rattle.std.proofs.Common.{◌≡◌, ◌∙◌, ℕ, zero, suc, ◌+◌, ◌*◌, ◌%◌, ◌^◌, ◌||◌, Bool, true, None, List, [], ◌∷◌, length, slice_set, refl, ap}
 use Rattle.std.proofs.Common.{length-set}
 use Rattle.std.specs.Borrow.{Bor}
 use Rattle.std.specs.Int.{w32, to_le_bytes}

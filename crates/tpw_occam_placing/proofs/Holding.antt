@@ -1,16 +1,15 @@
 -- What a worker's state has of a scoped core's, through a store, a declaration and its end.
-use Rattle.std.proofs.Common.{◌≡◌, ◌≢◌, ◌∙◌, ℕ, zero, suc, ◌<◌, ◌==◌, nat_eq, Bool, true, false, if◌then◌else◌, Option, Some, None}
-use Rattle.std.proofs.Common.{List, [], ◌∷◌, length, slice_get, slice_index, slice_index_or, slice_set, refl, sym, ap, subst, arith}
+use Rattle.std.proofs.Common.{◌≡◌, ◌≢◌, ◌∙◌, ℕ, zero, suc, ◌<◌, nat_eq, Bool, true, false, if◌then◌else◌, Option, Some, None}
+use Rattle.std.proofs.Common.{List, [], ◌∷◌, length, slice_get, slice_index, slice_set, refl, sym, ap, subst, arith}
 use Rattle.std.proofs.Common.{length-set, get_or-set_same, get_or-set_other}
 use Rattle.std.specs.Borrow.{Bor}
 use Rattle.std.proofs.lemmas.Bool.{eqb-true, eq-eqb}
-use Rattle.tpw_occam_core.specs.Meaning.{Store, with_value, first_bytes}
-use Rattle.tpw_occam_core.specs.Sound.{storage_of, bytes_of, is_table}
+use Rattle.tpw_occam_core.specs.Meaning.{Store, with_value}
 use Rattle.tpw_occam_meaning.specs.States.{State, with_cell}
 use Rattle.tpw_occam_placing.specs.declared.tables.Tables.{Tables}
 use Rattle.tpw_occam_placing.specs.declared.scope.Scope.{Scope}
 use Rattle.tpw_occam_placing.specs.declared.scope.Scope.TheVariants.{Empty, Variable', Array'}
-use Rattle.tpw_occam_placing.specs.Placing.{is_this, cell_in, storage_at, array_in, variable_of, array_of, bytes_at, Holds}
+use Rattle.tpw_occam_placing.specs.Placing.{is_this, cell_in, variable_of, Holds}
 
 -- ---- what lies where
 
@@ -34,7 +33,7 @@ module _ (tables : Tables) where
   there m n x rest false e h behind = behind h
 
   -- a cell lies where it is found
-  found_there : (scope : Scope) (x n : ℕ) → variable_of tables scope x ≡ Some n → is_this x (cell_in tables n) ≡ true
+  pub found_there : (scope : Scope) (x n : ℕ) → variable_of tables scope x ≡ Some n → is_this x (cell_in tables n) ≡ true
   found_there Empty x n h = cc
   found_there (Variable' m p before) x n h =
       there m n x (variable_of tables before x) (is_this x (cell_in tables m)) refl h (found_there before x n)

@@ -5,3 +5,4 @@ pub mod Doing
 pub mod Assigning
 pub mod Made
 pub mod Making
+pub mod Working

@@ -1,6 +1,5 @@
 -- Processes, each by what it is made of.
-use Rattle.std.proofs.Common.{◌≡◌, ◌∙◌, ℕ, ◌||◌, true, None, List, length, replicate, sym, ap, subst}
-use Rattle.std.specs.Prelude.{Some}
+use Rattle.std.proofs.Common.{◌≡◌, ◌∙◌, ℕ, true, None, length, replicate, sym, subst}
 use Rattle.std.proofs.lemmas.List.{length-replicate}
 use Rattle.std.specs.Borrow.{Bor}
 use Rattle.tpw_occam_core.specs.declared.arithmetic.Answer.{Answer}
@@ -19,7 +18,7 @@ use Rattle.tpw_occam_placing.specs.declared.scope.Scope.{Scope}
 use Rattle.tpw_occam_placing.specs.declared.scope.Scope.TheVariants.{Variable', Array'}
 use Rattle.tpw_occam_placing.specs.Placing.{is_this, cell_in, array_in, storage_at, variable_of, array_of as array_at, Holds, IsPlaced, IsDone}
 use Rattle.tpw_occam_placing.proofs.Arrays.{holds_array_within, holds_array_without}
-use Rattle.tpw_occam_placing.proofs.Doing.{holds_flagged, done_within, done_turns, done_chosen}
+use Rattle.tpw_occam_placing.proofs.Doing.{holds_flagged, done_within, done_chosen}
 
 module _ (tables : Tables) (scope : Scope) where
   -- what is done and what is made, by what they do

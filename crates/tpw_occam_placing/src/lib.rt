@@ -4,13 +4,18 @@
 
 mod assignments;
 mod expressions;
+mod names;
+mod needs;
 mod parts;
 mod process_parts;
 mod processes;
 mod scope;
 mod tables;
+mod workers;
 
 pub use expressions::expression;
+pub use names::{Declared, names_of};
 pub use processes::process;
 pub use scope::Scope;
 pub use tables::{Fault, Tables};
+pub use workers::place;

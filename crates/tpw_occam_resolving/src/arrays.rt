@@ -15,7 +15,7 @@ use tpw_occam_scoped::Bytes;
 
 /// An array as a name shows it, or a table that is written where it is used.
 #[derive(Drop)]
-pub(crate) enum Array<'s> {
+pub enum Array<'s> {
     Named(View<'s>),
     Written { kind: Kind, bytes: Vec<u8> },
 }
@@ -31,7 +31,7 @@ fn elements(kind: Kind, bytes: &[u8]) -> usize
 }
 
 /// An array, as a name for it shows it.
-pub(crate) fn view<'r>(array: &'r Array<'r>) -> View<'r>
+pub fn view<'r>(array: &'r Array<'r>) -> View<'r>
     ensures { view_of result ≡ array_made array.now }
 {
     match array {

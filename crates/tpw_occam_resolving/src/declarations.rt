@@ -22,7 +22,7 @@ use tpw_occam_scoped::Value;
 use tpw_occam_tree::{Name, Passing, Primitive};
 
 /// Whether an expression is a text or a table.
-pub(crate) fn is_table(e: &Expression<'_>) -> bool
+pub fn is_table(e: &Expression<'_>) -> bool
     ensures { result ≡ text.is_table e.now }
 {
     match e {
@@ -33,7 +33,7 @@ pub(crate) fn is_table(e: &Expression<'_>) -> bool
 }
 
 /// The type of a value, where it is said, or else its own.
-pub(crate) fn type_of_value<'a>(
+pub fn type_of_value<'a>(
     scope: &Scope<'_, 'a>,
     of: &Option<Type<'a>>,
     e: &Expression<'a>,
@@ -57,7 +57,7 @@ pub(crate) fn type_of_value<'a>(
 }
 
 /// Whether a value may be declared: a constant may not set the flag.
-pub(crate) fn may_be_declared(value: &Value) -> bool
+pub fn may_be_declared(value: &Value) -> bool
     ensures { result ≡ text.may_be_declared (value_made value.now) }
 {
     match value {
@@ -173,7 +173,7 @@ fn forms_behind<'a>(
 }
 
 /// What the arguments of a call have to be.
-pub(crate) fn forms_of<'a>(
+pub fn forms_of<'a>(
     alloc: Global,
     scope: &Scope<'_, 'a>,
     takes: &Parameters<'a>,
@@ -196,7 +196,7 @@ fn is_value(form: Form) -> bool
 }
 
 /// Whether all arguments are values.
-pub(crate) fn are_values(forms: &[Form]) -> bool
+pub fn are_values(forms: &[Form]) -> bool
     ensures { result ≡ list_all types.is_value (map form_of forms.now) }
 {
     match forms.split_first() {
@@ -248,7 +248,7 @@ fn shape_of_table<'a>(
 }
 
 /// A table that is declared.
-pub(crate) fn table_declared<'s, 'a>(
+pub fn table_declared<'s, 'a>(
     alloc: Global,
     scope: &Scope<'s, 'a>,
     of: &Option<Type<'a>>,
@@ -289,7 +289,7 @@ fn seen_as(kind: Kind, view: View<'_>) -> Result<View<'_>, Fault>
 }
 
 /// Another name for the bytes or the words of an array.
-pub(crate) fn retyped<'s, 'a>(
+pub fn retyped<'s, 'a>(
     alloc: Global,
     scope: &Scope<'s, 'a>,
     of: &Type<'a>,

@@ -9,7 +9,7 @@ use tpw_occam_names::{Fault, Word};
 use tpw_occam_scoped::Value;
 
 /// One more.
-pub(crate) fn next(d: usize) -> Result<usize, Fault>
+pub fn next(d: usize) -> Result<usize, Fault>
     ensures { IfOk result (λ n. n ≡ d + 1) }
 {
     if d == usize::MAX {
@@ -20,7 +20,7 @@ pub(crate) fn next(d: usize) -> Result<usize, Fault>
 }
 
 /// A constant stands for itself, and a cell for another value.
-pub(crate) fn word_passed(d: usize, value: &Value) -> Word
+pub fn word_passed(d: usize, value: &Value) -> Word
     ensures { word_of result ≡ made.word_passed d (value_made value.now) }
 {
     match value {
@@ -36,7 +36,7 @@ pub(crate) fn word_passed(d: usize, value: &Value) -> Word
 }
 
 /// How much is declared behind a value that is passed.
-pub(crate) fn depth_behind(d: usize, value: &Value) -> Result<usize, Fault>
+pub fn depth_behind(d: usize, value: &Value) -> Result<usize, Fault>
     ensures { IfOk result (λ n. n ≡ made.depth_behind d (value_made value.now)) }
 {
     match value {

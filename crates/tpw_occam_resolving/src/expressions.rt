@@ -261,7 +261,7 @@ fn passed<'a>(
 
 /// The array that an expression is: a name, a text of BYTEs, or a table of constants.
 #[cycle(value)]
-pub(crate) fn array<'s, 'a>(
+pub fn array<'s, 'a>(
     alloc: Global,
     scope: &Scope<'s, 'a>,
     e: &Expression<'a>,

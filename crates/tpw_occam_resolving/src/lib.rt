@@ -17,5 +17,15 @@ mod targets;
 mod types;
 mod values;
 
-pub use expressions::value;
+pub use arrays::{Array, view};
+pub use declarations::{
+    are_values, forms_of, is_table, may_be_declared, retyped, table_declared, type_of_value,
+};
+pub use depths::{depth_behind, next, word_passed};
+pub use expressions::{array, value};
+pub use messages::message;
+pub use parameters::first;
 pub use processes::process;
+pub use targets::{Typed, cell_kind, target_of, written_array};
+pub use types::{bytes_of, is_single, shape};
+pub use values::is_type;

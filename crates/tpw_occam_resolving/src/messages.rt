@@ -17,7 +17,7 @@ use tpw_occam_scoped::{Message, Process};
 use tpw_occam_tree::{Name, Primitive};
 
 /// What is sent.
-pub(crate) fn message<'a>(
+pub fn message<'a>(
     alloc: Global,
     scope: &Scope<'_, 'a>,
     d: usize,

@@ -8,7 +8,7 @@ use tpw_occam_meaning::Parameters;
 use tpw_occam_tree::Name;
 
 /// The first parameter, and those behind it.
-pub(crate) fn first<'r, 'a>(takes: &'r Parameters<'a>) -> Option<(Name<'a>, &'r Parameters<'a>)>
+pub fn first<'r, 'a>(takes: &'r Parameters<'a>) -> Option<(Name<'a>, &'r Parameters<'a>)>
     ensures { MatchOption result (takes.now ≡ End) (λ r. BeginsWith takes.now r.0.text.now r.1.now) }
 {
     match takes {

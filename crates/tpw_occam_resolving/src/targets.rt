@@ -18,13 +18,13 @@ use tpw_occam_tree::{Name, Primitive};
 
 /// What is assigned to, of a type.
 #[derive(Drop)]
-pub(crate) struct Typed {
-    pub(crate) of: Primitive,
-    pub(crate) target: Target,
+pub struct Typed {
+    pub of: Primitive,
+    pub target: Target,
 }
 
 /// What a cell is of a type.
-pub(crate) fn cell_kind(of: Primitive) -> Kind
+pub fn cell_kind(of: Primitive) -> Kind
     ensures { result ≡ text.cell_kind of }
 {
     match of {
@@ -34,7 +34,7 @@ pub(crate) fn cell_kind(of: Primitive) -> Kind
 }
 
 /// The number of an array that may be written to.
-pub(crate) fn written_array(view: View<'_>) -> Option<usize>
+pub fn written_array(view: View<'_>) -> Option<usize>
     ensures { result ≡ text.written_array (view_of view.entry) }
 {
     if view.is_variable {
@@ -90,7 +90,7 @@ fn target_in(alloc: Global, scope: &Scope<'_, '_>, name: Name<'_>) -> Result<Typ
 }
 
 /// A variable or an element.
-pub(crate) fn target_of<'a>(
+pub fn target_of<'a>(
     alloc: Global,
     scope: &Scope<'_, 'a>,
     d: usize,

@@ -72,7 +72,7 @@ pub(crate) fn kind_of(of: Primitive) -> Option<Kind>
 }
 
 /// What an array of a type has to be.
-pub(crate) fn shape<'a>(
+pub fn shape<'a>(
     alloc: Global,
     scope: &Scope<'_, 'a>,
     of: &Type<'a>,
@@ -95,14 +95,14 @@ pub(crate) fn shape<'a>(
 }
 
 /// Whether a type is no array.
-pub(crate) fn is_single(sizes: &Sizes<'_>) -> bool
+pub fn is_single(sizes: &Sizes<'_>) -> bool
     ensures { result ≡ types.by_sizes sizes.now true false }
 {
     matches!(sizes, Sizes::End)
 }
 
 /// How many bytes so many elements have, where they are fewer than 2 to the 32.
-pub(crate) fn bytes_of(kind: Kind, n: usize) -> Result<u32, Fault>
+pub fn bytes_of(kind: Kind, n: usize) -> Result<u32, Fault>
     ensures { IfOk result (λ bytes. bytes ≡ types.bytes_of kind n) }
 {
     let bytes = match kind {

@@ -24,7 +24,7 @@ use tpw_occam_scoped::{Expression, Value};
 use tpw_occam_tree::{Name, Primitive};
 
 /// Whether two types are the same.
-pub(crate) fn is_type(of: Primitive, other: Primitive) -> Result<(), Fault>
+pub fn is_type(of: Primitive, other: Primitive) -> Result<(), Fault>
     ensures { IfOk result (λ u. of ≡ other) }
 {
     match (of, other) {

@@ -1,10 +1,4 @@
-use Rattle.std.proofs.Common.{◌≡◌, ◌∙◌, sym, ap, subst}
-use Rattle.std.specs.List.{AllZip}
-use Rattle.tpw_occam_core.specs.Meaning.{Store}
-use Rattle.tpw_occam_core.specs.Meaning as core
-use Rattle.tpw_occam_meaning.specs.States.{State}
-use Rattle.tpw_occam_scoped.specs.Meaning as scoped
-use Rattle.tpw_occam_placing.specs.Placing.{Holds, IsAssignment}
+use Rattle.std.proofs.Common.{◌∙◌, sym}
 use Rattle.tpw_occam_placing.proofs.Making.{assign_done, copy_done, sequence_done, repeat_done, choice_done, variable_done, value_done, array_done}
 use Rattle.tpw_occam_placing.proofs.processes.+process.Goals as goal
 

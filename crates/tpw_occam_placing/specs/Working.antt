@@ -1,0 +1,52 @@
+-- What a worker does with a packet, and what a scoped core does that receives it and sends the result.
+use Rattle.std.specs.Prelude.{◌≡◌, ℕ, nat_lt, if◌then◌else◌, false, Option, Some, None, List, [], length, map, replicate}
+use Rattle.tpw_occam_core.specs.declared.process.Message.{Message}
+use Rattle.tpw_occam_core.specs.declared.process.Process.{Process}
+use Rattle.tpw_occam_core.specs.declared.worker.Place.{Place}
+use Rattle.tpw_occam_core.specs.declared.worker.Place.TheVariants as place
+use Rattle.tpw_occam_core.specs.declared.worker.Storage.{Storage}
+use Rattle.tpw_occam_core.specs.Meaning.{Store, Meant, most_traced, first_bytes, received}
+use Rattle.tpw_occam_core.specs.Meaning as core
+use Rattle.tpw_occam_core.specs.Sound.{storage_of, bytes_of}
+use Rattle.tpw_occam_meaning.specs.States.{State}
+use Rattle.tpw_occam_meaning.specs.Texts.{meant}
+use Rattle.tpw_occam_scoped.specs.declared.process.Process.{Process as Scoped}
+use Rattle.tpw_occam_scoped.specs.Meaning as scoped
+use Rattle.tpw_occam_placing.specs.declared.tables.Tables.{Tables}
+use Rattle.tpw_occam_placing.specs.declared.scope.Scope.{Scope}
+use Rattle.tpw_occam_placing.specs.Placing.{Holds}
+
+-- a packet that goes to an array has as many bytes
+abbrev pub Takes : List Storage → Place → List ℕ → Type 0
+Takes storages (place.Variable x) packet = Unit
+Takes storages (place.Array a) packet = length packet ≡ bytes_of (storage_of storages a)
+
+-- every variable is 0 at first, and an array has what it is at first
+abbrev pub first_of : Tables → Store
+first_of tables = record {
+  values = replicate (length tables.kinds.items) 0;
+  arrays = map first_bytes tables.storages.items;
+  flag = false;
+  traced = [];
+}
+
+-- what is given in a state: nothing where too much is traced
+abbrev pub given : Message → Store → Option Meant
+given send t = if nat_lt most_traced (length t.traced) then None else Some (core.meant send t)
+
+-- from each state, what a scoped core gives that sends the result
+abbrev pub IsFinished : Tables → Scope → Scoped → Process → Message → Type 0
+IsFinished tables scope p body send =
+    (s : State) (t : Store) → Holds tables scope s t → meant (scoped.run p s) ≡ given send (core.run tables.kinds.items body t)
+
+-- a worker has the packet where a scoped core has it
+abbrev pub IsReceived : Tables → Scope → Scoped → Place → Process → Type 0
+IsReceived tables scope p receive body =
+    (s : State) (t : Store) → Holds tables scope s t → Takes tables.storages.items receive s.packet
+    → Holds tables scope (scoped.run p s) (core.run tables.kinds.items body (received receive s.packet t))
+
+-- from the first state, what a scoped core gives that receives the packet
+abbrev pub IsBegun : Tables → Scope → Scoped → Place → Process → Message → Type 0
+IsBegun tables scope p receive body send =
+    (s : State) → Holds tables scope s (first_of tables) → Takes tables.storages.items receive s.packet
+    → meant (scoped.run p s) ≡ given send (core.run tables.kinds.items body (received receive s.packet (first_of tables)))

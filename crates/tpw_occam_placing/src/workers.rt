@@ -1,0 +1,304 @@
+//! Whole workers.
+
+ghost use Rattle.std.specs.Prelude.{◌≡◌, List, ℕ, IfOk, slice_index};
+ghost use Rattle.tpw_occam_core.specs.declared.kind.Kind.{Kind};
+ghost use Rattle.tpw_occam_core.specs.Meaning as core;
+ghost use Rattle.tpw_occam_core.specs.Meaning.{Store, meaning, flagged, stored, subscript_of};
+ghost use Rattle.tpw_occam_meaning.specs.States.{first};
+ghost use Rattle.tpw_occam_meaning.specs.Texts.{meant};
+ghost use Rattle.tpw_occam_scoped.specs.declared.process.Process.TheVariants.{ReceiveWord};
+ghost use Rattle.tpw_occam_scoped.specs.Meaning.{run};
+ghost use Rattle.tpw_occam_placing.specs.Working.{IsFinished, IsReceived, IsBegun, Takes};
+
+use crate::assignments::{message, target};
+use crate::needs::{SPARE, needed};
+use crate::process_parts as parts;
+use crate::processes::process;
+use crate::scope::Scope;
+use crate::tables::{Fault, Tables};
+use std::alloc::Global;
+use tpw_occam_core::{
+    Assignment, Expression, Kind, Message, Place, Process, Storage, Target, Worker,
+};
+use tpw_occam_scoped::{Process as Scoped, Target as ScopedTarget};
+
+/// Where the packet goes, and what is done first with it.
+#[derive(Drop)]
+pub(crate) struct Packet {
+    pub(crate) place: Place,
+    pub(crate) body: Process,
+    pub(crate) line: u32,
+    /// A variable that the text has not: for a packet that goes to an element.
+    pub(crate) spare: Option<usize>,
+}
+
+/// What is done behind the packet, and what is sent.
+#[derive(Drop)]
+pub(crate) struct Steps {
+    pub(crate) body: Process,
+    pub(crate) send: Message,
+    pub(crate) line: u32,
+}
+
+/// What a worker does, and what is declared for the whole of it.
+#[derive(Drop)]
+pub(crate) struct Parts {
+    pub(crate) receive: Place,
+    pub(crate) body: Process,
+    pub(crate) send: Message,
+    pub(crate) variables: Vec<usize>,
+    pub(crate) arrays: Vec<usize>,
+    pub(crate) receive_line: u32,
+    pub(crate) send_line: u32,
+}
+
+/// A target takes the word of a variable.
+fn taken(alloc: Global, to: Target, n: usize) -> Result<Process, Fault>
+    ensures { IfOk result (λ p. (kinds : List Kind) (t : Store) → core.run kinds p t ≡ flagged (subscript_of to t).flag
+        (stored kinds to (subscript_of to t).word (slice_index t.values n) t)) }
+{
+    let mut list = Vec::new(alloc);
+    list.push(Assignment {
+        target: to,
+        value: Expression::Variable(n),
+    })?;
+    Ok(Process::Assign(list))
+}
+
+/// A packet that goes to a variable or an element.
+fn word_received(
+    alloc: Global,
+    tables: &Tables,
+    scope: &Scope<'_>,
+    to: &ScopedTarget,
+    line: u32,
+    room: u32,
+) -> Result<Packet, Fault>
+    ensures { IfOk result (λ r. IsReceived tables.now scope.now (ReceiveWord to.now) r.place r.body) }
+{
+    match to {
+        ScopedTarget::Cell { cell, kind } => match tables.variable(scope, *cell) {
+            Some(n) if *kind == Kind::Word => Ok(Packet {
+                place: Place::Variable(n),
+                body: Process::Skip,
+                line,
+                spare: None,
+            }),
+            _ => Err(Fault::Misplaced),
+        },
+        ScopedTarget::Element { .. } => {
+            let Some(n) = tables.free_variable(scope, SPARE, Kind::Word) else {
+                return Err(Fault::Misplaced);
+            };
+            let to = target(alloc, tables, scope, to, room)?;
+            Ok(Packet {
+                place: Place::Variable(n),
+                body: taken(alloc, to, n)?,
+                line,
+                spare: Some(n),
+            })
+        }
+    }
+}
+
+/// The packet.
+fn received(
+    alloc: Global,
+    tables: &Tables,
+    scope: &Scope<'_>,
+    p: &Scoped,
+    line: u32,
+    room: u32,
+) -> Result<Packet, Fault>
+    ensures { IfOk result (λ r. IsReceived tables.now scope.now p.now r.place r.body) }
+{
+    if room == 0 {
+        return Err(Fault::Deep);
+    }
+    match p {
+        Scoped::ReceiveWord(to) => word_received(alloc, tables, scope, to, line, room),
+        Scoped::ReceiveArray(a) => match tables.array(scope, *a) {
+            Some(n) => Ok(Packet {
+                place: Place::Array(n),
+                body: Process::Skip,
+                line,
+                spare: None,
+            }),
+            None => Err(Fault::Misplaced),
+        },
+        Scoped::At { line, body } => received(alloc, tables, scope, body, *line, room - 1),
+        _ => Err(Fault::Misplaced),
+    }
+}
+
+/// A step in front of others.
+fn stepped(alloc: Global, first: Process, rest: Steps) -> Result<Steps, Fault>
+    ensures body { IfOk result (λ r. (kinds : List Kind) (t : Store) →
+        core.run kinds r.body t ≡ core.run kinds rest.body (core.run kinds first t)) }
+    ensures send { IfOk result (λ r. r.send ≡ rest.send) }
+{
+    Ok(Steps {
+        body: parts::sequence(alloc, first, rest.body)?,
+        send: rest.send,
+        line: rest.line,
+    })
+}
+
+/// The steps behind the packet, of which the last sends the result.
+fn finished(
+    alloc: Global,
+    tables: &Tables,
+    scope: &Scope<'_>,
+    p: &Scoped,
+    line: u32,
+    room: u32,
+) -> Result<Steps, Fault>
+    ensures { IfOk result (λ r. IsFinished tables.now scope.now p.now r.body r.send) }
+{
+    if room == 0 {
+        return Err(Fault::Deep);
+    }
+    match p {
+        Scoped::Sequence(first, second) => {
+            let first = process(alloc, tables, scope, first, room - 1)?;
+            let rest = finished(alloc, tables, scope, second, line, room - 1)?;
+            stepped(alloc, first, rest)
+        }
+        Scoped::Send(m) => Ok(Steps {
+            body: Process::Skip,
+            send: message(alloc, tables, scope, m, room)?,
+            line,
+        }),
+        Scoped::At { line, body } => finished(alloc, tables, scope, body, *line, room - 1),
+        _ => Err(Fault::Misplaced),
+    }
+}
+
+/// What is declared for the whole worker is in scope.
+fn with_spare(alloc: Global, spare: Option<usize>) -> Result<Vec<usize>, Fault> {
+    let mut variables = Vec::new(alloc);
+    if let Some(n) = spare {
+        variables.push(n)?;
+    }
+    Ok(variables)
+}
+
+/// The packet, and what is behind it.
+fn joined(alloc: Global, received: Packet, finished: Steps) -> Result<Parts, Fault>
+    ensures receive { IfOk result (λ b. b.receive ≡ received.place) }
+    ensures body { IfOk result (λ b. (kinds : List Kind) (t : Store) →
+        core.run kinds b.body t ≡ core.run kinds finished.body (core.run kinds received.body t)) }
+    ensures send { IfOk result (λ b. b.send ≡ finished.send) }
+{
+    let variables = with_spare(alloc, received.spare)?;
+    Ok(Parts {
+        receive: received.place,
+        body: parts::sequence(alloc, received.body, finished.body)?,
+        send: finished.send,
+        variables,
+        arrays: Vec::new(alloc),
+        receive_line: received.line,
+        send_line: finished.line,
+    })
+}
+
+/// A variable is declared for the whole worker.
+fn with_variable(n: usize, begun: Parts) -> Result<Parts, Fault>
+    ensures { IfOk result (λ b. (b.receive ≡ begun.receive) × (b.body ≡ begun.body) × (b.send ≡ begun.send)) }
+{
+    let mut variables = begun.variables;
+    variables.push(n)?;
+    Ok(Parts { variables, ..begun })
+}
+
+/// An array is declared for the whole worker.
+fn with_array(n: usize, begun: Parts) -> Result<Parts, Fault>
+    ensures { IfOk result (λ b. (b.receive ≡ begun.receive) × (b.body ≡ begun.body) × (b.send ≡ begun.send)) }
+{
+    let mut arrays = begun.arrays;
+    arrays.push(n)?;
+    Ok(Parts { arrays, ..begun })
+}
+
+/// What is declared for the whole worker, the packet, and what is behind it.
+fn begun(
+    alloc: Global,
+    tables: &Tables,
+    scope: &Scope<'_>,
+    p: &Scoped,
+    room: u32,
+) -> Result<Parts, Fault>
+    ensures { IfOk result (λ b. IsBegun tables.now scope.now p.now b.receive b.body b.send) }
+{
+    if room == 0 {
+        return Err(Fault::Deep);
+    }
+    match p {
+        Scoped::Variable {
+            cell,
+            kind,
+            body,
+            ..
+        } => {
+            let Some(n) = tables.free_variable(scope, *cell, *kind) else {
+                return Err(Fault::Misplaced);
+            };
+            let inner = Scope::Variable(n, scope);
+            with_variable(n, begun(alloc, tables, &inner, body, room - 1)?)
+        }
+        Scoped::Array {
+            array,
+            bytes,
+            body,
+            ..
+        } => {
+            let Some(n) = tables.free_array(scope, *array, *bytes) else {
+                return Err(Fault::Misplaced);
+            };
+            let inner = Scope::Array(n, scope);
+            with_array(n, begun(alloc, tables, &inner, body, room - 1)?)
+        }
+        Scoped::Sequence(first, second) => {
+            let received = received(alloc, tables, scope, first, 0, room)?;
+            let finished = finished(alloc, tables, scope, second, 0, room)?;
+            joined(alloc, received, finished)
+        }
+        Scoped::At { body, .. } => begun(alloc, tables, scope, body, room - 1),
+        _ => Err(Fault::Misplaced),
+    }
+}
+
+/// Arrays that are declared for the whole worker, tables among them.
+fn with_tables(storages: &[Storage], arrays: Vec<usize>) -> Result<Vec<usize>, Fault> {
+    let mut arrays = arrays;
+    for (n, storage) in storages.iter().enumerate() {
+        if let Storage::Table(_) = storage {
+            arrays.push(n)?;
+        }
+    }
+    Ok(arrays)
+}
+
+/// A worker that does what a scoped core does, which receives the packet and sends the result.
+pub fn place(alloc: Global, p: &Scoped, room: u32) -> Result<Worker, Fault>
+    ensures { IfOk result (λ made. (packet : List ℕ) → Takes made.arrays.items made.receive packet
+        → meaning made packet ≡ meant (run p.now (first packet))) }
+{
+    let tables = needed(alloc, p)?;
+    if tables.kinds.len() != tables.cells.len() || tables.storages.len() != tables.arrays.len() {
+        return Err(Fault::Misplaced);
+    }
+    let begun = begun(alloc, &tables, &Scope::Empty, p, room)?;
+    let global_arrays = with_tables(&tables.storages, begun.arrays)?;
+    Ok(Worker {
+        variables: tables.kinds,
+        arrays: tables.storages,
+        global_variables: begun.variables,
+        global_arrays,
+        receive: begun.receive,
+        body: begun.body,
+        send: begun.send,
+        receive_line: begun.receive_line,
+        send_line: begun.send_line,
+    })
+}

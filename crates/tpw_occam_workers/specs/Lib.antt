@@ -1,0 +1,2 @@
+-- What a reader must believe: what stands behind declarations.
+pub mod Behind

@@ -1,0 +1,420 @@
+//! Declarations, and what stands behind them.
+
+ghost use Rattle.std.specs.Prelude.{◌≡◌, Some, IfOk, map};
+ghost use Rattle.tpw_occam_meaning.specs.Declarations as text_declarations;
+ghost use Rattle.tpw_occam_meaning.specs.Expressions.{value_of};
+ghost use Rattle.tpw_occam_meaning.specs.Maybe.{and_then};
+ghost use Rattle.tpw_occam_meaning.specs.Names.{Is, Whole, Procedure, Function, bound, with_name, taking};
+ghost use Rattle.tpw_occam_meaning.specs.Processes as processes;
+ghost use Rattle.tpw_occam_meaning.specs.States.{first};
+ghost use Rattle.tpw_occam_meaning.specs.Texts as text;
+ghost use Rattle.tpw_occam_meaning.specs.Texts.{MeansText, meant};
+ghost use Rattle.tpw_occam_names.specs.Scopes.{names_of, form_of};
+ghost use Rattle.tpw_occam_resolving.specs.Passing.{array_made};
+ghost use Rattle.tpw_occam_scoped.specs.Made.{effect_of};
+ghost use Rattle.tpw_occam_scoped.specs.Meaning.{run};
+ghost use Rattle.tpw_occam_workers.specs.Behind.{after_of, traces_places};
+
+use crate::channels::channels_of;
+use crate::rest::Rest;
+use crate::steps::{finished, first};
+use std::alloc::Global;
+use tpw_occam_core::Kind;
+use tpw_occam_meaning::{
+    Declaration, Declarations, Expression, Names, Parameters, Process as Tree, Processes, Source,
+};
+use tpw_occam_names::{Channel, Fault, Form, Meaning, Protocol, Scope, Storage, View};
+use tpw_occam_resolving::{
+    Array, are_values, bytes_of, cell_kind, depth_behind, first as first_parameter, forms_of,
+    is_single, is_table, may_be_declared, next, retyped, shape, table_declared, type_of_value,
+    value, view, word_passed,
+};
+use tpw_occam_scoped::Process;
+use tpw_occam_tree::{Name, Primitive};
+
+/// The scoped core that is made of a text: it receives the packet, and sends the result.
+pub fn resolve(alloc: Global, source: &Source<'_>, room: u32) -> Result<Process, Fault>
+    ensures { IfOk result (λ made. MeansText source.now (λ packet. meant (run made (first packet)))) }
+{
+    declarations(alloc, &Scope::Empty, 0, &source.declarations, room)
+}
+
+/// What stands behind declarations.
+#[cycle(rest)]
+fn behind<'a>(
+    alloc: Global,
+    scope: &Scope<'_, 'a>,
+    d: usize,
+    rest: Rest<'a>,
+    room: u32,
+) -> Result<Process, Fault>
+    ensures { IfOk result (λ made. effect_of made ≡ after_of rest.entry (names_of scope.now) d) }
+{
+    if room == 0 {
+        return Err(Fault::Deep);
+    }
+    match rest {
+        Rest::Body(p) => body(alloc, scope, d, p, room - 1),
+        Rest::Text(list) => declarations(alloc, scope, d, list, room - 1),
+    }
+}
+
+/// The declarations of a text, of which the last is the worker's PROC.
+#[cycle(rest)]
+fn declarations<'a>(
+    alloc: Global,
+    scope: &Scope<'_, 'a>,
+    d: usize,
+    list: &'a Declarations<'a>,
+    room: u32,
+) -> Result<Process, Fault>
+    ensures { IfOk result (λ made. effect_of made ≡ text.text_effect list.now (names_of scope.now) d) }
+{
+    if room == 0 {
+        return Err(Fault::Deep);
+    }
+    let Declarations::More(declaration, more) = list else {
+        return Err(Fault::Wrong);
+    };
+    match &**more {
+        Declarations::End => match declaration {
+            Declaration::Procedure {
+                parameters,
+                body,
+                ..
+            } if d == 0 => { worker(alloc, scope, parameters, body, room - 1) }
+            _ => Err(Fault::Wrong),
+        },
+        Declarations::More(_, _) => {
+            declared(alloc, scope, d, declaration, Rest::Text(more), room - 1)
+        }
+    }
+}
+
+/// A worker, with its channels.
+#[cycle(rest)]
+fn worker<'a>(
+    alloc: Global,
+    scope: &Scope<'_, 'a>,
+    takes: &'a Parameters<'a>,
+    body: &'a Tree<'a>,
+    room: u32,
+) -> Result<Process, Fault>
+    ensures { IfOk result (λ made. effect_of made ≡ text.worker takes.now body.now (names_of scope.now)) }
+{
+    if room == 0 {
+        return Err(Fault::Deep);
+    }
+    let forms = forms_of(alloc, scope, takes, room)?;
+    let carry = channels_of(&forms)?;
+    let Some((packet, others)) = first_parameter(takes) else {
+        return Err(Fault::Wrong);
+    };
+    let Some((output, others)) = first_parameter(others) else {
+        return Err(Fault::Wrong);
+    };
+    let receiving = Scope::Within(
+        packet,
+        Meaning::Carrier(Channel::Packet, carry.packet),
+        &*scope,
+    );
+    let sending = Scope::Within(
+        output,
+        Meaning::Carrier(Channel::Output, carry.output),
+        &receiving,
+    );
+    traced(alloc, &sending, carry.traces, others, body, room - 1)
+}
+
+/// A worker, with its traces' channel where there is one.
+#[cycle(rest)]
+fn traced<'a>(
+    alloc: Global,
+    scope: &Scope<'_, 'a>,
+    traces: Option<Protocol>,
+    takes: &'a Parameters<'a>,
+    p: &'a Tree<'a>,
+    room: u32,
+) -> Result<Process, Fault>
+    ensures { IfOk result (λ made. effect_of made
+        ≡ and_then (bound takes.now (traces_places traces) (names_of scope.now)) (λ own. text.worker_body p.now own 0)) }
+{
+    if room == 0 {
+        return Err(Fault::Deep);
+    }
+    match (traces, takes) {
+        (None, Parameters::End) => body(alloc, scope, 0, p, room - 1),
+        (Some(protocol), _) => match first_parameter(takes) {
+            Some((name, Parameters::End)) => {
+                let within = Scope::Within(
+                    name,
+                    Meaning::Carrier(Channel::Traces, protocol),
+                    &*scope,
+                );
+                body(alloc, &within, 0, p, room - 1)
+            }
+            _ => Err(Fault::Wrong),
+        },
+        _ => Err(Fault::Wrong),
+    }
+}
+
+/// Declarations, and a SEQ that begins with the packet.
+#[cycle(rest)]
+fn body<'a>(
+    alloc: Global,
+    scope: &Scope<'_, 'a>,
+    d: usize,
+    p: &'a Tree<'a>,
+    room: u32,
+) -> Result<Process, Fault>
+    ensures { IfOk result (λ made. effect_of made ≡ text.worker_body p.now (names_of scope.now) d) }
+{
+    if room == 0 {
+        return Err(Fault::Deep);
+    }
+    match p {
+        Tree::Declared {
+            declaration,
+            process,
+        } => declared(alloc, scope, d, declaration, Rest::Body(process), room - 1),
+        Tree::Sequence { steps, .. } => match &**steps {
+            Processes::More(step, more) => match &**step {
+                Tree::Receive {
+                    channel,
+                    target,
+                    span,
+                } => {
+                    let received = first(alloc, scope, d, *channel, target, *span, room)?;
+                    let rest = finished(alloc, scope, d, more, room)?;
+                    Ok(Process::sequence(alloc, received, rest)?)
+                }
+                _ => Err(Fault::Wrong),
+            },
+            Processes::End => Err(Fault::Wrong),
+        },
+        _ => Err(Fault::Wrong),
+    }
+}
+
+/// What stands behind a declaration, with the names and the numbers that it takes.
+#[cycle(rest)]
+fn declared<'a>(
+    alloc: Global,
+    scope: &Scope<'_, 'a>,
+    d: usize,
+    declaration: &'a Declaration<'a>,
+    rest: Rest<'a>,
+    room: u32,
+) -> Result<Process, Fault>
+    ensures { IfOk result (λ made.
+        effect_of made ≡ processes.declared declaration.now (after_of rest.entry) (names_of scope.now) d) }
+{
+    if room == 0 {
+        return Err(Fault::Deep);
+    }
+    match declaration {
+        Declaration::Value { of, name, value: e } => {
+            if is_table(e) {
+                let table = table_declared(alloc, scope, of, e, room)?;
+                return array_declared(alloc, scope, d, *name, &table, rest, room - 1);
+            }
+            let of = type_of_value(scope, of, e)?;
+            let value = value(alloc, scope, d, e, of, room)?;
+            if !may_be_declared(&value) {
+                return Err(Fault::Wrong);
+            }
+            let word = word_passed(d, &value);
+            let within = Scope::Within(name.text, Meaning::Fixed(of, word), &*scope);
+            let body = behind(alloc, &within, depth_behind(d, &value)?, rest, room - 1)?;
+            Ok(Process::passed_to(alloc, d, value, body)?)
+        }
+        Declaration::Variables { of, names } => {
+            if is_single(&of.sizes) {
+                return variables(alloc, scope, d, of.of, names, rest, room - 1);
+            }
+            let shape = shape(alloc, scope, of, true, room)?;
+            match shape.size {
+                Some(size) => arrays(alloc, scope, d, shape.kind, size, names, rest, room - 1),
+                None => Err(Fault::Wrong),
+            }
+        }
+        Declaration::Retypes { of, name, array } => {
+            let seen = retyped(alloc, scope, of, *array, room)?;
+            array_declared(alloc, scope, d, *name, &seen, rest, room - 1)
+        }
+        Declaration::Procedure {
+            name,
+            parameters,
+            body,
+        } => {
+            let forms = forms_of(alloc, scope, parameters, room)?;
+            procedure_declared(
+                alloc,
+                scope,
+                d,
+                *name,
+                &forms,
+                parameters,
+                body,
+                rest,
+                room - 1,
+            )
+        }
+        Declaration::Function {
+            of,
+            name,
+            parameters,
+            value: e,
+        } => {
+            let forms = forms_of(alloc, scope, parameters, room)?;
+            if !are_values(&forms) {
+                return Err(Fault::Wrong);
+            }
+            function_declared(
+                alloc,
+                scope,
+                d,
+                *of,
+                *name,
+                &forms,
+                parameters,
+                e,
+                rest,
+                room - 1,
+            )
+        }
+        _ => Err(Fault::Wrong),
+    }
+}
+
+/// What stands behind another name for an array, or one for a table.
+#[cycle(rest)]
+fn array_declared<'a>(
+    alloc: Global,
+    scope: &Scope<'_, 'a>,
+    d: usize,
+    name: Name<'a>,
+    array: &Array<'_>,
+    rest: Rest<'a>,
+    room: u32,
+) -> Result<Process, Fault>
+    ensures { IfOk result (λ made. effect_of made ≡ after_of rest.entry
+        (with_name name.entry (Is (Whole (array_made array.now))) (names_of scope.now)) d) }
+{
+    if room == 0 {
+        return Err(Fault::Deep);
+    }
+    let within = Scope::Within(name.text, Meaning::Whole(view(&*array)), &*scope);
+    behind(alloc, &within, d, rest, room - 1)
+}
+
+/// What stands behind the declaration of a PROC.
+#[cycle(rest)]
+fn procedure_declared<'a>(
+    alloc: Global,
+    scope: &Scope<'_, 'a>,
+    d: usize,
+    name: Name<'a>,
+    forms: &[Form],
+    takes: &'a Parameters<'a>,
+    body: &'a Tree<'a>,
+    rest: Rest<'a>,
+    room: u32,
+) -> Result<Process, Fault>
+    ensures { IfOk result (λ made. effect_of made ≡ after_of rest.entry (with_name name.entry
+        (Procedure (map form_of forms.now) (taking takes.now (processes.run body.now) (names_of scope.now)))
+        (names_of scope.now)) d) }
+{
+    if room == 0 {
+        return Err(Fault::Deep);
+    }
+    let within = Scope::Within(name.text, Meaning::Procedure(&*forms, takes, body), &*scope);
+    behind(alloc, &within, d, rest, room - 1)
+}
+
+/// What stands behind the declaration of a FUNCTION.
+#[cycle(rest)]
+fn function_declared<'a>(
+    alloc: Global,
+    scope: &Scope<'_, 'a>,
+    d: usize,
+    of: Primitive,
+    name: Name<'a>,
+    forms: &[Form],
+    takes: &'a Parameters<'a>,
+    e: &'a Expression<'a>,
+    rest: Rest<'a>,
+    room: u32,
+) -> Result<Process, Fault>
+    ensures { IfOk result (λ made. effect_of made ≡ after_of rest.entry (with_name name.entry
+        (Function of (map form_of forms.now) (taking takes.now (value_of e.now of) (names_of scope.now)))
+        (names_of scope.now)) d) }
+{
+    if room == 0 {
+        return Err(Fault::Deep);
+    }
+    let within = Scope::Within(name.text, Meaning::Function(of, &*forms, takes, e), &*scope);
+    behind(alloc, &within, d, rest, room - 1)
+}
+
+/// Variables, which are 0 at first.
+#[cycle(rest)]
+fn variables<'a>(
+    alloc: Global,
+    scope: &Scope<'_, 'a>,
+    d: usize,
+    of: Primitive,
+    names: &'a Names<'a>,
+    rest: Rest<'a>,
+    room: u32,
+) -> Result<Process, Fault>
+    ensures { IfOk result (λ made.
+        effect_of made ≡ text_declarations.variables of names.now (after_of rest.entry) (names_of scope.now) d) }
+{
+    if room == 0 {
+        return Err(Fault::Deep);
+    }
+    match names {
+        Names::End => behind(alloc, scope, d, rest, room - 1),
+        Names::More(name, more) => {
+            let within = Scope::Within(name.text, Meaning::Variable(of, d), &*scope);
+            let body = variables(alloc, &within, next(d)?, of, more, rest, room - 1)?;
+            Ok(Process::variable(alloc, d, cell_kind(of), body)?)
+        }
+    }
+}
+
+/// Arrays, whose elements are 0 at first.
+#[cycle(rest)]
+fn arrays<'a>(
+    alloc: Global,
+    scope: &Scope<'_, 'a>,
+    d: usize,
+    kind: Kind,
+    size: usize,
+    names: &'a Names<'a>,
+    rest: Rest<'a>,
+    room: u32,
+) -> Result<Process, Fault>
+    ensures { IfOk result (λ made. effect_of made
+        ≡ text_declarations.arrays kind (Some size) names.now (after_of rest.entry) (names_of scope.now) d) }
+{
+    if room == 0 {
+        return Err(Fault::Deep);
+    }
+    match names {
+        Names::End => behind(alloc, scope, d, rest, room - 1),
+        Names::More(name, more) => {
+            let view = View {
+                storage: Storage::Array(d),
+                kind,
+                size,
+                is_variable: true,
+            };
+            let within = Scope::Within(name.text, Meaning::Whole(view), &*scope);
+            let body = arrays(alloc, &within, next(d)?, kind, size, more, rest, room - 1)?;
+            Ok(Process::array(alloc, d, bytes_of(kind, size)?, body)?)
+        }
+    }
+}
