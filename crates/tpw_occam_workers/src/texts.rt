@@ -32,8 +32,15 @@ use tpw_occam_resolving::{
 use tpw_occam_scoped::Process;
 use tpw_occam_tree::{Name, Primitive};
 
+
+
+
 /// The scoped core that is made of a text: it receives the packet, and sends the result.
-pub fn resolve(alloc: Global, source: &Source<'_>, room: u32) -> Result<Process, Fault>
+pub fn resolve<'a>(
+    alloc: Global,
+    source: &'a Source<'a>,
+    room: u32,
+) -> Result<Process, Fault>
     ensures { IfOk result (λ made. MeansText source.now (λ packet. meant (run made (first packet)))) }
 {
     declarations(alloc, &Scope::Empty, 0, &source.declarations, room)
@@ -78,11 +85,9 @@ fn declarations<'a>(
     };
     match &**more {
         Declarations::End => match declaration {
-            Declaration::Procedure {
-                parameters,
-                body,
-                ..
-            } if d == 0 => { worker(alloc, scope, parameters, body, room - 1) }
+            Declaration::Procedure { parameters, body, .. } if d == 0 => {
+                worker(alloc, scope, parameters, body, room - 1)
+            }
             _ => Err(Fault::Wrong),
         },
         Declarations::More(_, _) => {
@@ -113,13 +118,9 @@ fn worker<'a>(
     let Some((output, others)) = first_parameter(others) else {
         return Err(Fault::Wrong);
     };
-    let receiving = Scope::Within(
-        packet,
-        Meaning::Carrier(Channel::Packet, carry.packet),
-        &*scope,
-    );
+    let receiving = Scope::Within(packet.text, Meaning::Carrier(Channel::Packet, carry.packet), &*scope);
     let sending = Scope::Within(
-        output,
+        output.text,
         Meaning::Carrier(Channel::Output, carry.output),
         &receiving,
     );
@@ -146,11 +147,8 @@ fn traced<'a>(
         (None, Parameters::End) => body(alloc, scope, 0, p, room - 1),
         (Some(protocol), _) => match first_parameter(takes) {
             Some((name, Parameters::End)) => {
-                let within = Scope::Within(
-                    name,
-                    Meaning::Carrier(Channel::Traces, protocol),
-                    &*scope,
-                );
+                let within =
+                    Scope::Within(name.text, Meaning::Carrier(Channel::Traces, protocol), &*scope);
                 body(alloc, &within, 0, p, room - 1)
             }
             _ => Err(Fault::Wrong),
@@ -180,11 +178,7 @@ fn body<'a>(
         } => declared(alloc, scope, d, declaration, Rest::Body(process), room - 1),
         Tree::Sequence { steps, .. } => match &**steps {
             Processes::More(step, more) => match &**step {
-                Tree::Receive {
-                    channel,
-                    target,
-                    span,
-                } => {
+                Tree::Receive { channel, target, span } => {
                     let received = first(alloc, scope, d, *channel, target, *span, room)?;
                     let rest = finished(alloc, scope, d, more, room)?;
                     Ok(Process::sequence(alloc, received, rest)?)
@@ -227,7 +221,7 @@ fn declared<'a>(
             let word = word_passed(d, &value);
             let within = Scope::Within(name.text, Meaning::Fixed(of, word), &*scope);
             let body = behind(alloc, &within, depth_behind(d, &value)?, rest, room - 1)?;
-            Ok(Process::passed_to(alloc, d, value, body)?)
+            Ok(Process::passed_to(alloc, Some(name.span), d, value, body)?)
         }
         Declaration::Variables { of, names } => {
             if is_single(&of.sizes) {
@@ -380,7 +374,7 @@ fn variables<'a>(
         Names::More(name, more) => {
             let within = Scope::Within(name.text, Meaning::Variable(of, d), &*scope);
             let body = variables(alloc, &within, next(d)?, of, more, rest, room - 1)?;
-            Ok(Process::variable(alloc, d, cell_kind(of), body)?)
+            Ok(Process::variable(alloc, name.span, d, cell_kind(of), body)?)
         }
     }
 }
@@ -414,7 +408,7 @@ fn arrays<'a>(
             };
             let within = Scope::Within(name.text, Meaning::Whole(view), &*scope);
             let body = arrays(alloc, &within, next(d)?, kind, size, more, rest, room - 1)?;
-            Ok(Process::array(alloc, d, bytes_of(kind, size)?, body)?)
+            Ok(Process::array(alloc, name.span, d, bytes_of(kind, size)?, body)?)
         }
     }
 }
