@@ -47,7 +47,7 @@ impl<'a> Cells<'a> {
         }
     }
 
-    pub(crate) fn write(&mut self, at: usize) {
+    pub fn write(&mut self, at: usize) {
         if let Some(cell) = self.cells.get_mut(at) {
             cell.is_written = true;
         }
