@@ -35,7 +35,7 @@ pub(crate) fn guard<'a>(
 }
 
 /// What a CASE chooses by.
-pub(crate) fn selector<'a>(
+pub(crate) fn chosen_by<'a>(
     checker: &mut Checker<'a>,
     frame: Frame,
     e: &'a Tree<'a>,

@@ -244,7 +244,7 @@ enum Kept {
 }
 
 /// What variables or arrays of a type are.
-fn kept<'a>(
+fn kept_of<'a>(
     checker: &mut Checker<'a>,
     frame: Frame,
     of: &'a Type<'a>,
@@ -280,7 +280,7 @@ fn variables<'a>(
     level: Level,
 ) -> Result<Declared, Stop> {
     let before = checker.per_call.point();
-    let kept = kept(checker, declared.frame, of, names);
+    let kept = kept_of(checker, declared.frame, of, names);
     let mut declared = declared;
     let mut rest = names;
     while let Names::More(name, more) = rest {
@@ -381,7 +381,10 @@ pub(crate) fn declare<'a>(
         }
         Declaration::Wrong { names } => return wrong(checker, declared, names),
         Declaration::Value { of, name, value: e } => {
-            (*name, value(checker, declared, of.as_ref(), *name, e, level))
+            (
+                *name,
+                value(checker, declared, of.as_ref(), *name, e, level),
+            )
         }
         Declaration::Retypes { of, name, array } => {
             (*name, retyped(checker, frame, of, *name, *array))

@@ -13,7 +13,7 @@ pub(crate) enum Message {
 }
 
 /// What a channel sends.
-pub(crate) fn message<'a>(
+pub(crate) fn sent_by<'a>(
     checker: &mut Checker<'a>,
     frame: Frame,
     protocol: Protocol,
@@ -48,7 +48,7 @@ pub(crate) fn trace<'a>(
     let (channel, protocol) = checker.channel_of(frame.scope, name)?;
     match channel {
         Channel::Traces => {
-            message(checker, frame, protocol, e, depth)?;
+            sent_by(checker, frame, protocol, e, depth)?;
             Ok(())
         }
         Channel::Packet => checker.fault(name.span, FaultKind::SendsPacket),

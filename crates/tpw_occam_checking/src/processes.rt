@@ -3,7 +3,7 @@
 //! `depth` counts down with each process that lies within another, calls in line among them.
 
 use crate::assignments::assignment;
-use crate::choices::{Seen, Selector, case_guard, guard, selector};
+use crate::choices::{Seen, Selector, case_guard, chosen_by, guard};
 use crate::declarations::{Declared, Level, declare};
 use crate::limits::{MAX_GUARDS, MAX_TURNS, halves};
 use crate::messages::trace;
@@ -213,7 +213,7 @@ fn case<'a>(
     cases: &'a Cases<'a>,
     depth: u32,
 ) -> Result<(), Stop> {
-    let selected = selector(checker, frame, e, depth);
+    let selected = chosen_by(checker, frame, e, depth);
     let selected = recovered(selected)?;
     let is_bound = selected.is_some_and(|selector| selector.is_bound);
     let depth = levels_within(depth, usize::from(is_bound));

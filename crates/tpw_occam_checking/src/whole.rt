@@ -1,6 +1,6 @@
 //! A whole text.
 
-ghost use Rattle.std.specs.Prelude.{◌≡◌};
+ghost use Rattle.std.specs.Prelude.{◌≡◌, true, [], IfOk, is_some};
 ghost use Rattle.tpw_occam_checking.specs.Checked.{IsChecked};
 
 use crate::declarations::{Declared, Level, declare};
@@ -61,7 +61,9 @@ fn check_text<'a>(
     checker: &mut Checker<'a>,
     source: Option<&'a Source<'a>>,
     misread: &[Misread],
-) -> Result<(), Stop> {
+) -> Result<(), Stop>
+    ensures { IfOk result (λ u. is_some source.entry ≡ true) }
+{
     report_misread(checker, misread)?;
     let Some(source) = source else {
         return Err(Stop::Ended);
@@ -91,12 +93,14 @@ pub fn check<'a>(
     source: Option<&'a Source<'a>>,
     misread: &[Misread],
 ) -> Result<Vec<Note<'a>>, CheckError<'a>>
-    ensures { IsChecked text.now result }
+    ensures checked { IsChecked text.now result }
+    ensures laid_out { IfOk result (λ notes. is_some source.entry ≡ true) }
+    ensures read { IfOk result (λ notes. misread.now ≡ []) }
 {
     let mut checker = Checker::new(alloc);
     match check_text(&mut checker, source, misread) {
         Err(Stop::Memory) => Err(CheckError::Memory),
-        Ok(()) if checker.findings.faults.is_empty() => {
+        Ok(()) if misread.is_empty() && checker.findings.faults.is_empty() => {
             checker.note_unread()?;
             Ok(reported_notes(alloc, text, &checker.findings.notes)?)
         }

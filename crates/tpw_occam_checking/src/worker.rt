@@ -2,7 +2,7 @@
 
 use crate::assignments::target;
 use crate::declarations::{Declared, Level, declare};
-use crate::messages::{Message, message};
+use crate::messages::{Message, sent_by};
 use crate::processes::steps;
 use crate::trees::{behind, last_step, steps_of};
 use tpw_occam_faults::{FaultKind, NoteKind, Stop};
@@ -48,7 +48,7 @@ fn channel<'a>(
 }
 
 /// The worker's channels.
-fn channels<'a>(
+fn channels_of<'a>(
     checker: &mut Checker<'a>,
     frame: Frame,
     worker: Name<'a>,
@@ -136,11 +136,7 @@ fn received<'a>(
 }
 
 /// Notes a result that nothing is assigned to.
-fn note_result<'a>(
-    checker: &mut Checker<'a>,
-    message: Message,
-    e: &Tree<'a>,
-) -> Result<(), Stop> {
+fn note_result<'a>(checker: &mut Checker<'a>, message: Message, e: &Tree<'a>) -> Result<(), Stop> {
     let is_assigned = match message {
         Message::Value(Root::Variable(x)) => checker.cells.is_written(x),
         Message::Value(Root::Named) => false,
@@ -172,7 +168,7 @@ fn sent<'a>(
     if found != Channel::Output {
         return checker.fault(channel.span, FaultKind::NoSend);
     }
-    let message = message(checker, frame, protocol, value, MAX_DEPTH)?;
+    let message = sent_by(checker, frame, protocol, value, MAX_DEPTH)?;
     note_result(checker, message, value)
 }
 
@@ -236,7 +232,7 @@ pub(crate) fn worker<'a>(
     list: &'a Parameters<'a>,
     body: &'a Written<'a>,
 ) -> Result<(), Stop> {
-    let channels = channels(checker, frame, name, list)?;
+    let channels = channels_of(checker, frame, name, list)?;
     let whole = match behind(body) {
         Written::Wrong => return Err(Stop::Reported),
         Written::Sequence { steps, span } => Steps {
