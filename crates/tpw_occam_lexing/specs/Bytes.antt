@@ -1,5 +1,5 @@
 -- Runs of bytes
-use Rattle.std.specs.Prelude.{ℕ, ◌+◌, ◌<◌, Bool, true, false, ◌==◌, ◌&&◌, ◌||◌, not, nat_le, if◌then◌else◌, is_some, List, [], ◌∷◌, length, slice_index}
+use Rattle.std.specs.Prelude.{ℕ, ◌+◌, ◌<◌, Bool, ◌==◌, ◌&&◌, ◌||◌, not, nat_le, if◌then◌else◌, is_some, List, [], ◌∷◌, length, slice_index}
 use Rattle.tpw_occam_tree.specs.Spelling.{digit}
 use Rattle.tpw_occam_lexing.specs.declared.bytes.Class.{Class}
 use Rattle.tpw_occam_lexing.specs.declared.bytes.Class.TheVariants as class
@@ -19,7 +19,6 @@ has class.Digit c = is_digit c
 has class.Hexadecimal c = is_some (digit c)
 has class.Space c = c == 32
 has class.Line c = not (c == 10)
-has class.Foreign c = false
 has class.Wide c = nat_le 128 c
 has class.Tab c = c == 9
 

@@ -15,8 +15,6 @@ pub(crate) enum Class {
     Space,
     /// Those of a line of a text.
     Line,
-    /// Those that no token begins with.
-    Foreign,
     /// Those that are not ASCII.
     Wide,
     Tab,
@@ -40,7 +38,6 @@ impl Class {
             Class::Hexadecimal => is_hexadecimal(byte),
             Class::Space => byte == b' ',
             Class::Line => byte != b'\n',
-            Class::Foreign => false,
             Class::Wide => byte >= 128,
             Class::Tab => byte == b'\t',
         }
