@@ -1,6 +1,7 @@
 //! The lines of tokens of a text.
 
 ghost use Rattle.std.specs.Prelude.{◌≡◌, ◌∷◌, ◌<◌, [], MatchOption, IfOk, IfSome, length, map};
+ghost use Rattle.std.specs.Str.{IsUtf8};
 ghost use Rattle.tpw_occam_lexing.specs.Lines.{written, text_lines, without_return, lines_of, where_clean};
 
 use crate::bytes::{Class, run};
@@ -12,6 +13,7 @@ use std::alloc::{AllocError, Global};
 fn first_line(rest: &str) -> (&str, Option<&str>)
     ensures lines { MatchOption result.1 (text_lines rest.now ≡ result.0.now ∷ [])
         (λ more. text_lines rest.now ≡ result.0.now ∷ text_lines more.now) }
+    ensures text { IsUtf8 result.0.now × IfSome result.1 (λ more. IsUtf8 more.now) }
     ensures smaller { IfSome result.1 (λ more. length more.now < length rest.now) }
 {
     let width = run(rest.as_bytes(), Class::Line);
