@@ -1,5 +1,5 @@
 use Rattle.std.proofs.Common.{◌+◌, ◌*◌}
-use Rattle.tpw_occam_parsing.proofs.processes.+processes.Given as goal
+use Rattle.tpw_occam_parsing.proofs.processes.Parser.+processes.Given as goal
 
 abbrev pub decreases-entry : goal.decreases-entry
 decreases-entry l = 10 * l.depth
