@@ -41,7 +41,11 @@ fn standing_of(lexed: &Lexed<'_>, source: &Source<'_>, has_faults: bool) -> Stan
     ensures { result ≡ Standing.Read → (lexed.now.is_clean ≡ true) × (seen_lines lexed.now.lines.items ≡ unparse source.now) }
 {
     if lexed.is_clean && is_unparsed(source, &lexed.lines) {
-        return if has_faults { Standing::Faulty } else { Standing::Read };
+        return if has_faults {
+            Standing::Faulty
+        } else {
+            Standing::Read
+        };
     }
     if has_faults {
         Standing::Faulty
