@@ -101,12 +101,7 @@ impl Memory {
     }
 
     /// An array has so many bytes, which are 0.
-    pub fn clear_array(
-        &mut self,
-        alloc: Global,
-        a: usize,
-        count: usize,
-    ) -> Result<(), AllocError>
+    pub fn clear_array(&mut self, alloc: Global, a: usize, count: usize) -> Result<(), AllocError>
         ensures { OnOk result (state_of self.new ≡ state.with_array a (replicate count 0) (state_of self.old)) }
     {
         let bytes = vec![in alloc; 0u8; count]?;

@@ -4,6 +4,7 @@ use Rattle.std.proofs.Common.{List, [], ◌∷◌, length, map, replicate, slice
 use Rattle.std.proofs.Common.{length-set, get_or-set_same, get_or-set_other}
 use Rattle.std.proofs.lemmas.List.{length-map, length-replicate, set-get_or}
 use Rattle.std.specs.Prelude.{Result, Ok, Err, IfOk}
+use Rattle.std.specs.Prelude.{Option}
 use Rattle.std.specs.Borrow.{Bor}
 use Rattle.std.specs.declared.boxed.Box.{Box}
 use Rattle.std.specs.declared.alloc.Global.{Global}
@@ -126,7 +127,7 @@ module _ (tables : Tables) where
 
   -- nothing but zeros and tables
   pub fresh_first : IsFresh tables Empty (first_of tables)
-  fresh_first = record { values = λ n out. zero_at (length tables.kinds.items) n; arrays = refl; }
+  fresh_first = record { values = λ n out. zero_at (length tables.kinds.items) n; arrays = refl }
 
   -- where a cell lies that is not in scope, nothing does that is
   apart : (scope : Scope) (x n : ℕ) → is_this x (cell_in tables n) ≡ true → variable_of tables scope x ≡ None
@@ -179,7 +180,7 @@ module _ (tables : Tables) where
         other m out same = out x (within_scope ∙ ap Some (sym same))
 
   fresh_array : (scope : Scope) (q : Bor (Unit {0})) (n : ℕ) (t : Store) → IsFresh tables scope t → IsFresh tables (Array' n q scope) t
-  fresh_array scope q n t fresh = record { values = λ m out. fresh.values m out; arrays = fresh.arrays; }
+  fresh_array scope q n t fresh = record { values = λ m out. fresh.values m out; arrays = fresh.arrays }
 
   -- ---- packets
 

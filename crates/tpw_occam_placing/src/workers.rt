@@ -249,12 +249,7 @@ fn set(alloc: Global, tables: &Tables, n: usize, word: u32) -> Result<Process, F
 }
 
 /// A variable takes a word, and where the word sets the flag that is set first.
-fn set_answer(
-    alloc: Global,
-    tables: &Tables,
-    n: usize,
-    answer: Answer,
-) -> Result<Process, Fault>
+fn set_answer(alloc: Global, tables: &Tables, n: usize, answer: Answer) -> Result<Process, Fault>
     ensures { IfOk result (λ p. (t : Store) →
         core.run tables.now.kinds.items p t ≡ with_value n answer.word (flagged answer.flag t)) }
 {
@@ -325,7 +320,12 @@ fn begun(
             let inner = Scope::Variable(n, scope);
             with_variable(n, begun(alloc, tables, &inner, known, body, room - 1)?)
         }
-        Scoped::Value { cell, value, body, .. } => {
+        Scoped::Value {
+            cell,
+            value,
+            body,
+            ..
+        } => {
             let Some(n) = tables.free_variable(scope, *cell, Kind::Word) else {
                 return Err(Fault::Misplaced);
             };
