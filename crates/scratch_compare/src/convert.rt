@@ -10,6 +10,8 @@ use tpw_occam_tree::{Name, Span};
 pub struct Converter<'a> {
     pub alloc: Global,
     pub text: &'a str,
+    /// Whether brackets are put around each expression.
+    pub is_bracketed: bool,
 }
 
 type Made<T> = Result<T, AllocError>;
@@ -74,6 +76,22 @@ impl<'a> Converter<'a> {
     }
 
     pub fn expression(self, e: &old::Expression<'a>) -> Made<new::Expression<'a>> {
+        let made = self.bare(e)?;
+        if !self.is_bracketed {
+            return Ok(made);
+        }
+        let span = Span {
+            line: 1,
+            column: 1,
+            width: 0,
+        };
+        Ok(new::Expression::Bracketed {
+            within: Box::new(self.alloc, made)?,
+            span,
+        })
+    }
+
+    fn bare(self, e: &old::Expression<'a>) -> Made<new::Expression<'a>> {
         let alloc = self.alloc;
         Ok(match e {
             old::Expression::Number { span, .. } => new::Expression::Number {

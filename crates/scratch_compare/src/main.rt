@@ -41,9 +41,13 @@ fn old_answer(alloc: Global, text: &str) -> Result<String> {
     Ok(out)
 }
 
-fn new_answer(alloc: Global, text: &str) -> Result<String> {
+fn new_answer(alloc: Global, text: &str, is_bracketed: bool) -> Result<String> {
     let source = parse(alloc, text)?;
-    let converter = Converter { alloc, text };
+    let converter = Converter {
+        alloc,
+        text,
+        is_bracketed,
+    };
     let made = converter.source(&source)?;
     let given = if source.is_laid_out { Some(&made) } else { None };
     let mut out = String::new(alloc);
@@ -67,8 +71,9 @@ fn new_answer(alloc: Global, text: &str) -> Result<String> {
 
 fn compare(rt: &HostRuntime, alloc: Global, name: &str, text: &str) -> Result<bool> {
     let old = old_answer(alloc, text)?;
-    let new = new_answer(alloc, text)?;
-    if old.as_str() == new.as_str() {
+    let plain = new_answer(alloc, text, false)?;
+    let new = new_answer(alloc, text, true)?;
+    if old.as_str() == plain.as_str() && old.as_str() == new.as_str() {
         return Ok(true);
     }
     let (old, new) = (old.as_str(), new.as_str());
