@@ -1,0 +1,170 @@
+//! Assignments.
+
+use crate::trees::only;
+use tpw_occam_faults::{FaultKind, Role, Stop};
+use tpw_occam_meaning::{Expression as Tree, Expressions};
+use tpw_occam_names::element_type;
+use tpw_occam_tree::{Name, Primitive};
+use tpw_occam_typing::{
+    Access, Checker, Frame, Meaning, Shape, bare, count_of, name_alone, span_of,
+};
+
+/// The type of a name that is assigned to.
+fn named_target<'a>(
+    checker: &mut Checker<'a>,
+    frame: Frame,
+    name: Name<'a>,
+) -> Result<Primitive, Stop> {
+    let entry = checker.find(frame.scope, name)?;
+    match entry.meaning {
+        Meaning::Variable { of, variable } => {
+            checker.cells.write(variable);
+            Ok(of)
+        }
+        Meaning::Element { storage, of } => {
+            checker.cells.write_array(storage);
+            Ok(of)
+        }
+        _ => checker.not_a(name, entry, Role::Variable),
+    }
+}
+
+/// The type of an element that is assigned to.
+fn element_target<'a>(
+    checker: &mut Checker<'a>,
+    frame: Frame,
+    array: Name<'a>,
+    subscript: &'a Tree<'a>,
+    depth: u32,
+) -> Result<Primitive, Stop> {
+    let place = checker.subscript_at(subscript);
+    let view = checker.written_view(frame.scope, array);
+    let subscript = checker.expression(frame, subscript, Some(Primitive::Int), depth);
+    let (view, subscript) = (view?, subscript?);
+    checker.check_subscript(array, view, subscript.worth, place)?;
+    checker.cells.write_array(view.storage);
+    Ok(element_type(view.kind))
+}
+
+/// The type of what is assigned to.
+pub(crate) fn target<'a>(
+    checker: &mut Checker<'a>,
+    frame: Frame,
+    e: &'a Tree<'a>,
+    depth: u32,
+) -> Result<Primitive, Stop> {
+    match bare(e) {
+        Tree::Name(name) => named_target(checker, frame, *name),
+        Tree::Element {
+            array,
+            subscript,
+            ..
+        } => {
+            let array = checker.array_name(array)?;
+            element_target(checker, frame, array, subscript, depth)
+        }
+        Tree::Wrong { .. } => Err(Stop::Reported),
+        other => checker.fault(span_of(other), FaultKind::VariableWanted),
+    }
+}
+
+/// A target and its value. Where the target is wrong, the value is looked at all the same.
+fn pair<'a>(
+    checker: &mut Checker<'a>,
+    frame: Frame,
+    to: &'a Tree<'a>,
+    value: &'a Tree<'a>,
+    depth: u32,
+) -> Result<(), Stop> {
+    match target(checker, frame, to, depth) {
+        Ok(of) => {
+            checker.expression(frame, value, Some(of), depth)?;
+            Ok(())
+        }
+        Err(Stop::Reported) => {
+            if checker.named_array(frame.scope, value).is_none() {
+                checker.expression(frame, value, None, depth)?;
+            }
+            Err(Stop::Reported)
+        }
+        Err(stop) => Err(stop),
+    }
+}
+
+/// An array that takes the elements of another, or of a table.
+fn copy<'a>(
+    checker: &mut Checker<'a>,
+    frame: Frame,
+    target: Name<'a>,
+    value: &'a Tree<'a>,
+    depth: u32,
+) -> Result<(), Stop> {
+    let to = checker.written_view(frame.scope, target)?;
+    let shape = Shape {
+        kind: to.kind,
+        elements: Some(to.elements),
+    };
+    let from = checker.array(frame, value, shape, depth)?;
+    checker.cells.write_array(to.storage);
+    checker.cells.read_array(from.storage);
+    Ok(())
+}
+
+/// The name of an array that is assigned to whole, if it is one.
+fn whole_array<'a>(checker: &Checker<'a>, frame: Frame, target: &Tree<'a>) -> Option<Name<'a>> {
+    let view = checker.named_array(frame.scope, target)?;
+    if view.access == Access::ReadAndWrite {
+        name_alone(target)
+    } else {
+        None
+    }
+}
+
+/// Assignments to variables and elements.
+fn pairs<'a>(
+    checker: &mut Checker<'a>,
+    frame: Frame,
+    targets: &'a Expressions<'a>,
+    values: &'a Expressions<'a>,
+    depth: u32,
+) -> Result<(), Stop> {
+    let mut is_whole = true;
+    let mut values = values;
+    let mut rest = targets;
+    while let Expressions::More(target, more) = rest {
+        let Expressions::More(value, further) = values else {
+            break;
+        };
+        match pair(checker, frame, target, value, depth) {
+            Ok(()) => {}
+            Err(Stop::Reported) => is_whole = false,
+            Err(stop) => return Err(stop),
+        }
+        values = further;
+        rest = more;
+    }
+    if is_whole {
+        Ok(())
+    } else {
+        Err(Stop::Reported)
+    }
+}
+
+/// `x, a[e] := f, g`, or `a := b`. The reader has seen to it that there are as many values as targets.
+pub(crate) fn assignment<'a>(
+    checker: &mut Checker<'a>,
+    frame: Frame,
+    targets: &'a Expressions<'a>,
+    values: &'a Expressions<'a>,
+    depth: u32,
+) -> Result<(), Stop> {
+    if count_of(targets) != count_of(values) {
+        return Err(Stop::Reported);
+    }
+    if let (Some(target), Some(value)) = (only(targets), only(values)) {
+        if let Some(name) = whole_array(checker, frame, target) {
+            return copy(checker, frame, name, value, depth);
+        }
+    }
+    pairs(checker, frame, targets, values, depth)
+}

@@ -1,0 +1,116 @@
+//! The guards of IF, and the constants of CASE.
+
+use crate::limits::MAX_GUARDS;
+use tpw_occam_faults::{FaultKind, Limit, Stop};
+use tpw_occam_meaning::{Expression as Tree, Expressions};
+use tpw_occam_tree::{Primitive, Span};
+use tpw_occam_typing::{Checker, Frame, Root, Worth, levels_within, span_of};
+
+/// What a CASE chooses by: its type, and whether a name is bound for it.
+#[derive(Clone, Copy)]
+pub(crate) struct Selector {
+    pub(crate) of: Primitive,
+    pub(crate) is_bound: bool,
+}
+
+/// A constant of a CASE, and where it stands.
+#[derive(Clone, Copy)]
+pub(crate) struct Seen {
+    word: u32,
+    span: Span,
+}
+
+/// Whether the guard of a choice is TRUE as it is written.
+pub(crate) fn guard<'a>(
+    checker: &mut Checker<'a>,
+    frame: Frame,
+    e: &'a Tree<'a>,
+    depth: u32,
+) -> Result<bool, Stop> {
+    let value = checker.expression(frame, e, Some(Primitive::Bool), depth)?;
+    Ok(match value.worth {
+        Worth::Constant(word) => word != 0,
+        _ => false,
+    })
+}
+
+/// What a CASE chooses by.
+pub(crate) fn chosen_by<'a>(
+    checker: &mut Checker<'a>,
+    frame: Frame,
+    e: &'a Tree<'a>,
+    depth: u32,
+) -> Result<Selector, Stop> {
+    let value = checker.expression(frame, e, None, depth)?;
+    let of = value.of;
+    if of == Primitive::Bool {
+        return checker.fault(span_of(e), FaultKind::CaseOfBools);
+    }
+    let is_bound = match (value.worth, value.root) {
+        (Worth::Constant(_), _) => false,
+        (_, Root::Named) => false,
+        (_, Root::Variable(_)) => false,
+        (_, Root::Made) => true,
+    };
+    Ok(Selector { of, is_bound })
+}
+
+/// A constant of a CASE, which stands in it once.
+fn case_constant<'a>(
+    checker: &mut Checker<'a>,
+    frame: Frame,
+    e: &'a Tree<'a>,
+    of: Primitive,
+    seen: &mut Vec<Seen>,
+) -> Result<(), Stop> {
+    let word = checker.constant(frame, e, of)?;
+    let span = span_of(e);
+    if seen.len() >= MAX_GUARDS {
+        return checker.fault(span, FaultKind::Limit(Limit::Guards));
+    }
+    if let Some(first) = seen.iter().find(|other| other.word == word).copied() {
+        return checker.fault(span, FaultKind::CaseTwice { first: first.span });
+    }
+    seen.push(Seen { word, span })?;
+    Ok(())
+}
+
+/// How many of the constants of a choice of a CASE are without a fault.
+fn case_constants<'a>(
+    checker: &mut Checker<'a>,
+    frame: Frame,
+    list: &'a Expressions<'a>,
+    of: Primitive,
+    seen: &mut Vec<Seen>,
+) -> Result<usize, Stop> {
+    let mut count: usize = 0;
+    let mut rest = list;
+    while let Expressions::More(e, more) = rest {
+        match case_constant(checker, frame, e, of, seen) {
+            Ok(()) => count = count.saturating_add(1),
+            Err(Stop::Reported) => {}
+            Err(stop) => return Err(stop),
+        }
+        rest = more;
+    }
+    Ok(count)
+}
+
+/// The constants of a choice of a CASE, of which each is compared within the comparison of those behind it.
+pub(crate) fn case_guard<'a>(
+    checker: &mut Checker<'a>,
+    frame: Frame,
+    constants: &'a Expressions<'a>,
+    of: Primitive,
+    seen: &mut Vec<Seen>,
+    depth: u32,
+) -> Result<(), Stop> {
+    let count = case_constants(checker, frame, constants, of, seen)?;
+    let Expressions::More(first, _) = constants else {
+        return Err(Stop::Reported);
+    };
+    if levels_within(depth, count) == 0 {
+        return checker.fault(span_of(first), FaultKind::Limit(Limit::Depth));
+    }
+    Ok(())
+}

@@ -1,0 +1,407 @@
+//! Declarations.
+
+use crate::trees::first_of;
+use std::alloc::AllocError;
+use tpw_occam_core::Kind;
+use tpw_occam_faults::{FaultKind, Stop};
+use tpw_occam_meaning::{
+    Declaration, Expression as Tree, Expressions, Names, Parameters, Process, Type,
+};
+use tpw_occam_tree::{Name, Primitive};
+use tpw_occam_typing::{
+    Access, Callee, Checker, Frame, MAX_DEPTH, Meaning, Point, Root, Shape, Size, Storage, Value,
+    View, Worth, bare, bytes_of, is_table, levels_within, or_else, size_of, span_of,
+};
+
+/// Where declarations stand.
+#[derive(Clone, Copy, PartialEq)]
+pub(crate) enum Level {
+    /// Outside of PROCs.
+    Text,
+    /// In front of the worker's SEQ, where every variable and every byte of an array is 0.
+    Worker,
+    /// In front of a process.
+    Process,
+}
+
+/// What is in scope behind declarations, how deep these may be, and how many names they bind around the process.
+#[derive(Clone, Copy)]
+pub(crate) struct Declared {
+    pub(crate) frame: Frame,
+    depth: u32,
+    pub(crate) names: usize,
+}
+
+impl Declared {
+    /// Nothing is declared yet.
+    pub(crate) fn new(frame: Frame, depth: u32) -> Declared {
+        Declared {
+            frame,
+            depth,
+            names: 0,
+        }
+    }
+
+    /// How deep a value behind these declarations may be: in front of a process each that is bound lies within those
+    /// before it.
+    fn levels(self, level: Level) -> u32 {
+        match level {
+            Level::Process => levels_within(self.depth, self.names),
+            _ => self.depth,
+        }
+    }
+}
+
+/// What a name is declared to stand for, and whether a name is bound around the process for it.
+#[derive(Clone, Copy)]
+struct Made<'a> {
+    meaning: Meaning<'a>,
+    is_bound: bool,
+}
+
+/// A name for which nothing is bound.
+fn unbound<'a>(meaning: Meaning<'a>) -> Made<'a> {
+    Made {
+        meaning,
+        is_bound: false,
+    }
+}
+
+/// Declares a name behind the others.
+fn put<'a>(
+    checker: &mut Checker<'a>,
+    declared: Declared,
+    name: Name<'a>,
+    made: Made<'a>,
+) -> Result<Declared, Stop> {
+    checker.count(name.span)?;
+    let scope = checker.declare(declared.frame.scope, name, made.meaning)?;
+    Ok(Declared {
+        frame: declared.frame.with_scope(scope),
+        depth: declared.depth,
+        names: declared.names.saturating_add(usize::from(made.is_bound)),
+    })
+}
+
+/// Adds a name to those that stand for something else in each call, if one of them was looked up behind a point.
+fn add_per_call<'a>(
+    checker: &mut Checker<'a>,
+    name: Name<'a>,
+    before: Point,
+) -> Result<(), AllocError> {
+    if checker.per_call.point() == before {
+        return Ok(());
+    }
+    checker.per_call.add(name.span)
+}
+
+/// What a name stands for that is declared to have a value. In front of the worker's SEQ the value is worked out at once.
+fn named_value<'a>(
+    checker: &mut Checker<'a>,
+    e: &Tree<'a>,
+    value: Value,
+    level: Level,
+) -> Result<Made<'a>, Stop> {
+    let of = value.of;
+    match (value.worth, level) {
+        (Worth::Constant(word), _) => Ok(unbound(Meaning::Constant { of, word })),
+        (Worth::Flagged(span), _) => checker.fault(span, FaultKind::SetsFlag),
+        (Worth::Computed, Level::Text) => checker.fault(span_of(e), FaultKind::NotConstant),
+        (Worth::Computed, Level::Worker) => Ok(unbound(Meaning::Value {
+            of,
+            root: Root::Made,
+        })),
+        (Worth::Computed, Level::Process) => Ok(Made {
+            meaning: Meaning::Value {
+                of,
+                root: Root::Named,
+            },
+            is_bound: true,
+        }),
+    }
+}
+
+/// A table of a shape.
+fn named_table<'a>(
+    checker: &mut Checker<'a>,
+    frame: Frame,
+    e: &'a Tree<'a>,
+    shape: Shape,
+) -> Result<Made<'a>, Stop> {
+    if !is_table(e) {
+        return checker.fault(span_of(e), FaultKind::TableWanted);
+    }
+    let view = checker.array(frame, e, shape, MAX_DEPTH)?;
+    Ok(unbound(Meaning::Array(view)))
+}
+
+/// What the elements of a list are: what its first constant is.
+fn kind_of_list<'a>(
+    checker: &mut Checker<'a>,
+    frame: Frame,
+    items: &'a Expressions<'a>,
+) -> Result<Kind, Stop> {
+    let Expressions::More(first, _) = items else {
+        return Ok(Kind::Word);
+    };
+    let value = checker.expression(frame, first, None, MAX_DEPTH)?;
+    checker.kind_of(value.of, span_of(first))
+}
+
+/// The shape of a table without a type: a text has BYTEs.
+fn shape_of_table<'a>(
+    checker: &mut Checker<'a>,
+    frame: Frame,
+    e: &'a Tree<'a>,
+) -> Result<Shape, Stop> {
+    let kind = match bare(e) {
+        Tree::Table { items, .. } => kind_of_list(checker, frame, items)?,
+        _ => Kind::Byte,
+    };
+    Ok(Shape {
+        kind,
+        elements: None,
+    })
+}
+
+/// A value, of the type that is wanted where one is.
+fn single<'a>(
+    checker: &mut Checker<'a>,
+    declared: Declared,
+    of: Option<Primitive>,
+    e: &'a Tree<'a>,
+    level: Level,
+) -> Result<Made<'a>, Stop> {
+    let value = checker.expression(declared.frame, e, of, declared.levels(level))?;
+    named_value(checker, e, value, level)
+}
+
+/// What `VAL n IS e` makes of a name.
+fn value<'a>(
+    checker: &mut Checker<'a>,
+    declared: Declared,
+    of: Option<&'a Type<'a>>,
+    name: Name<'a>,
+    e: &'a Tree<'a>,
+    level: Level,
+) -> Result<Made<'a>, Stop> {
+    let frame = declared.frame;
+    match of {
+        None if is_table(e) => {
+            let shape = shape_of_table(checker, frame, e)?;
+            named_table(checker, frame, e, shape)
+        }
+        None => single(checker, declared, None, e, level),
+        Some(of) if matches!(size_of(of), Size::One) => {
+            single(checker, declared, Some(of.of), e, level)
+        }
+        Some(of) => {
+            let shape = checker.shape(frame, of, name.span)?;
+            named_table(checker, frame, e, shape)
+        }
+    }
+}
+
+/// A new array of a shape that says how many elements it has.
+fn variable_array<'a>(
+    checker: &mut Checker<'a>,
+    name: Name<'a>,
+    shape: Shape,
+) -> Result<Made<'a>, Stop> {
+    let Some(elements) = shape.elements else {
+        return checker.fault(name.span, FaultKind::NoSize);
+    };
+    let array = checker.cells.add(name)?;
+    Ok(Made {
+        meaning: Meaning::Array(View {
+            storage: Storage::Array(array),
+            kind: shape.kind,
+            elements,
+            access: Access::ReadAndWrite,
+        }),
+        is_bound: true,
+    })
+}
+
+/// A new variable.
+fn variable<'a>(
+    checker: &mut Checker<'a>,
+    name: Name<'a>,
+    of: Primitive,
+) -> Result<Made<'a>, Stop> {
+    let variable = checker.cells.add(name)?;
+    Ok(Made {
+        meaning: Meaning::Variable { of, variable },
+        is_bound: true,
+    })
+}
+
+/// What variables or arrays of one type are.
+#[derive(Clone, Copy)]
+enum Kept {
+    Variable(Primitive),
+    Array(Result<Shape, Stop>),
+}
+
+/// What variables or arrays of a type are.
+fn kept_of<'a>(
+    checker: &mut Checker<'a>,
+    frame: Frame,
+    of: &'a Type<'a>,
+    names: &Names<'a>,
+) -> Kept {
+    match (size_of(of), first_of(names)) {
+        (Size::One, _) => Kept::Variable(of.of),
+        (_, Some(name)) => Kept::Array(checker.shape(frame, of, name.span)),
+        (_, None) => Kept::Variable(of.of),
+    }
+}
+
+/// A variable or an array.
+fn made_of<'a>(
+    checker: &mut Checker<'a>,
+    name: Name<'a>,
+    kept: Kept,
+    level: Level,
+) -> Result<Made<'a>, Stop> {
+    match (level, kept) {
+        (Level::Text, _) => checker.fault(name.span, FaultKind::OutsideProc),
+        (_, Kept::Variable(of)) => variable(checker, name, of),
+        (_, Kept::Array(shape)) => variable_array(checker, name, shape?),
+    }
+}
+
+/// Variables or arrays of a type.
+fn variables<'a>(
+    checker: &mut Checker<'a>,
+    declared: Declared,
+    of: &'a Type<'a>,
+    names: &'a Names<'a>,
+    level: Level,
+) -> Result<Declared, Stop> {
+    let before = checker.per_call.point();
+    let kept = kept_of(checker, declared.frame, of, names);
+    let mut declared = declared;
+    let mut rest = names;
+    while let Names::More(name, more) = rest {
+        let made = made_of(checker, *name, kept, level);
+        let made = or_else(made, unbound(Meaning::Wrong))?;
+        add_per_call(checker, *name, before)?;
+        declared = put(checker, declared, *name, made)?;
+        rest = more;
+    }
+    Ok(declared)
+}
+
+/// The array of another, seen as words or bytes.
+fn retyped<'a>(
+    checker: &mut Checker<'a>,
+    frame: Frame,
+    of: &'a Type<'a>,
+    name: Name<'a>,
+    array: Name<'a>,
+) -> Result<Made<'a>, Stop> {
+    let view = checker.view_of(frame.scope, array)?;
+    let shape = checker.shape(frame, of, name.span)?;
+    let bytes = bytes_of(view.kind, view.elements);
+    let elements = match shape.kind {
+        Kind::Word if bytes % 4 == 0 => bytes / 4,
+        Kind::Word => return checker.fault(array.span, FaultKind::NoWords { bytes }),
+        Kind::Byte => bytes,
+    };
+    let view = View {
+        kind: shape.kind,
+        elements: u32::try_from(elements).unwrap_or(u32::MAX),
+        ..view
+    };
+    let view = checker.of_shape(view, shape, name.span)?;
+    Ok(unbound(Meaning::Array(view)))
+}
+
+/// A PROC: its parameters, its body and its scope.
+fn procedure<'a>(
+    checker: &mut Checker<'a>,
+    frame: Frame,
+    parameters: &'a Parameters<'a>,
+    body: &'a Process<'a>,
+) -> Result<Made<'a>, Stop> {
+    let signature = checker.signature(frame, parameters, Callee::Procedure)?;
+    Ok(unbound(Meaning::Procedure {
+        signature,
+        body,
+        scope: frame.scope,
+    }))
+}
+
+/// A FUNCTION: its parameters, which are VAL.
+fn function<'a>(
+    checker: &mut Checker<'a>,
+    frame: Frame,
+    of: Primitive,
+    parameters: &'a Parameters<'a>,
+    value: &'a Tree<'a>,
+) -> Result<Made<'a>, Stop> {
+    checker.check_values(parameters)?;
+    let signature = checker.signature(frame, parameters, Callee::Function)?;
+    Ok(unbound(Meaning::Function {
+        of,
+        signature,
+        value,
+        scope: frame.scope,
+    }))
+}
+
+/// Names whose declaration was not read.
+fn wrong<'a>(
+    checker: &mut Checker<'a>,
+    declared: Declared,
+    names: &'a Names<'a>,
+) -> Result<Declared, Stop> {
+    let mut declared = declared;
+    let mut rest = names;
+    while let Names::More(name, more) = rest {
+        declared = put(checker, declared, *name, unbound(Meaning::Wrong))?;
+        rest = more;
+    }
+    Ok(declared)
+}
+
+/// A declaration. A name whose declaration is wrong is known to be.
+pub(crate) fn declare<'a>(
+    checker: &mut Checker<'a>,
+    declared: Declared,
+    declaration: &'a Declaration<'a>,
+    level: Level,
+) -> Result<Declared, Stop> {
+    let frame = declared.frame;
+    let before = checker.per_call.point();
+    let (name, made) = match declaration {
+        Declaration::Variables { of, names } => {
+            return variables(checker, declared, of, names, level);
+        }
+        Declaration::Wrong { names } => return wrong(checker, declared, names),
+        Declaration::Value { of, name, value: e } => {
+            (
+                *name,
+                value(checker, declared, of.as_ref(), *name, e, level),
+            )
+        }
+        Declaration::Retypes { of, name, array } => {
+            (*name, retyped(checker, frame, of, *name, *array))
+        }
+        Declaration::Procedure {
+            name,
+            parameters,
+            body,
+        } => (*name, procedure(checker, frame, parameters, body)),
+        Declaration::Function {
+            of,
+            name,
+            parameters,
+            value,
+        } => (*name, function(checker, frame, *of, parameters, value)),
+    };
+    let made = or_else(made, unbound(Meaning::Wrong))?;
+    add_per_call(checker, name, before)?;
+    put(checker, declared, name, made)
+}

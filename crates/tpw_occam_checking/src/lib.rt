@@ -1,0 +1,14 @@
+//! A check of workers in occam: all that is wrong with a text, and what may not be meant.
+#![tactic(auto)]
+
+mod assignments;
+mod choices;
+mod declarations;
+mod limits;
+mod messages;
+mod processes;
+mod trees;
+mod whole;
+mod worker;
+
+pub use whole::{CheckError, check};

@@ -1,0 +1,57 @@
+//! Messages.
+
+use tpw_occam_faults::{FaultKind, Stop};
+use tpw_occam_meaning::Expression as Tree;
+use tpw_occam_tree::{Name, Primitive};
+use tpw_occam_typing::{Channel, Checker, Frame, Protocol, Root, Shape, Storage};
+
+/// What a message is of.
+#[derive(Clone, Copy)]
+pub(crate) enum Message {
+    Value(Root),
+    Array(Storage),
+}
+
+/// What a channel sends.
+pub(crate) fn sent_by<'a>(
+    checker: &mut Checker<'a>,
+    frame: Frame,
+    protocol: Protocol,
+    e: &'a Tree<'a>,
+    depth: u32,
+) -> Result<Message, Stop> {
+    match protocol {
+        Protocol::Value => {
+            let value = checker.expression(frame, e, Some(Primitive::Int), depth)?;
+            Ok(Message::Value(value.root))
+        }
+        Protocol::Array { kind, elements } => {
+            let shape = Shape {
+                kind,
+                elements: Some(elements),
+            };
+            let view = checker.array(frame, e, shape, depth)?;
+            checker.cells.read_array(view.storage);
+            Ok(Message::Array(view.storage))
+        }
+    }
+}
+
+/// `trace ! x`.
+pub(crate) fn trace<'a>(
+    checker: &mut Checker<'a>,
+    frame: Frame,
+    name: Name<'a>,
+    e: &'a Tree<'a>,
+    depth: u32,
+) -> Result<(), Stop> {
+    let (channel, protocol) = checker.channel_of(frame.scope, name)?;
+    match channel {
+        Channel::Traces => {
+            sent_by(checker, frame, protocol, e, depth)?;
+            Ok(())
+        }
+        Channel::Packet => checker.fault(name.span, FaultKind::SendsPacket),
+        Channel::Output => checker.fault(name.span, FaultKind::Send),
+    }
+}

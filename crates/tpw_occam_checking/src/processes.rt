@@ -1,0 +1,319 @@
+//! Processes, with the bodies of PROCs in line.
+//!
+//! `depth` counts down with each process that lies within another, calls in line among them.
+
+use crate::assignments::assignment;
+use crate::choices::{Seen, Selector, case_guard, chosen_by, guard};
+use crate::declarations::{Declared, Level, declare};
+use crate::limits::{MAX_GUARDS, MAX_TURNS, halves};
+use crate::messages::trace;
+use crate::trees::{cases_of, guards_of, place_of, steps_of};
+use tpw_occam_faults::{FaultKind, Limit, NoteKind, Role, Stop};
+use tpw_occam_meaning::{
+    Cases, Choices, Expression as Tree, Expressions, Process as Written, Processes,
+};
+use tpw_occam_tree::{Name, Primitive, Span};
+use tpw_occam_typing::{
+    Checker, Frame, MOST_POSITIVE, Meaning, Root, count_of, levels_within, recovered, span_of,
+};
+
+/// Whether the last of so many indices from one on is no INT.
+fn is_beyond(first: u32, turns: u32) -> bool {
+    turns > 0 && turns - 1 > MOST_POSITIVE.wrapping_sub(first)
+}
+
+/// The turns of a replicated SEQ, whose last index is an INT.
+fn check_turns<'a>(
+    checker: &mut Checker<'a>,
+    frame: Frame,
+    start: &'a Tree<'a>,
+    count: &'a Tree<'a>,
+) -> Result<(), Stop> {
+    let first = checker.constant(frame, start, Primitive::Int);
+    let turns = checker.constant(frame, count, Primitive::Int);
+    let (first, turns) = (first?, turns?);
+    if turns > MAX_TURNS {
+        let kind = FaultKind::Turns {
+            count: i64::from(turns.cast_signed()),
+        };
+        return checker.fault(span_of(count), kind);
+    }
+    if is_beyond(first, turns) {
+        return checker.fault(span_of(count), FaultKind::LastIndex);
+    }
+    Ok(())
+}
+
+/// A process whose simple form is at hand.
+fn simple<'a>(
+    checker: &mut Checker<'a>,
+    frame: Frame,
+    p: &'a Written<'a>,
+    depth: u32,
+) -> Result<(), Stop> {
+    match p {
+        Written::Skip { .. } => Ok(()),
+        Written::Stop { .. } => Ok(()),
+        Written::Assign {
+            targets,
+            values,
+            ..
+        } => assignment(checker, frame, targets, values, depth),
+        Written::Send { channel, value, .. } => trace(checker, frame, *channel, value, depth),
+        Written::Receive { channel, .. } => checker.fault(channel.span, FaultKind::Receive),
+        _ => Err(Stop::Reported),
+    }
+}
+
+/// So many processes one after another. Where one is wrong, those behind it are looked at all the same.
+#[cycle(process)]
+pub(crate) fn steps<'a>(
+    checker: &mut Checker<'a>,
+    frame: Frame,
+    list: &'a Processes<'a>,
+    many: usize,
+    depth: u32,
+) -> Result<(), Stop> {
+    let depth = levels_within(depth, halves(many));
+    let mut is_whole = true;
+    let mut rest = list;
+    for _ in 0..many {
+        let Processes::More(step, more) = rest else {
+            break;
+        };
+        let made = process(checker, frame, step, depth);
+        is_whole = recovered(made)?.is_some() && is_whole;
+        rest = more;
+    }
+    if is_whole {
+        Ok(())
+    } else {
+        Err(Stop::Reported)
+    }
+}
+
+/// `SEQ i = s FOR n`.
+#[cycle(process)]
+fn replicated<'a>(
+    checker: &mut Checker<'a>,
+    frame: Frame,
+    index: Name<'a>,
+    turns: Result<(), Stop>,
+    list: &'a Processes<'a>,
+    depth: u32,
+) -> Result<(), Stop> {
+    let meaning = Meaning::Value {
+        of: Primitive::Int,
+        root: Root::Named,
+    };
+    let scope = checker.declare(frame.scope, index, meaning)?;
+    let within = frame.with_scope(scope);
+    let body = steps(checker, within, list, steps_of(list), depth);
+    turns?;
+    body
+}
+
+/// IF.
+#[cycle(process)]
+fn choice<'a>(
+    checker: &mut Checker<'a>,
+    frame: Frame,
+    choices: &'a Choices<'a>,
+    span: Span,
+    depth: u32,
+) -> Result<(), Stop> {
+    if guards_of(choices) > MAX_GUARDS {
+        return checker.fault(span, FaultKind::Limit(Limit::Guards));
+    }
+    let mut has_true = false;
+    let mut is_whole = true;
+    let mut index: usize = 0;
+    let mut rest = choices;
+    while let Choices::More(e, p, more) = rest {
+        let depth = levels_within(depth, index);
+        let made = guard(checker, frame, e, depth);
+        let body = process(checker, frame, p, depth);
+        let (made, body) = (recovered(made)?, recovered(body)?);
+        has_true = has_true || made.unwrap_or(false);
+        is_whole = is_whole && made.is_some() && body.is_some();
+        index = index.saturating_add(1);
+        rest = more;
+    }
+    if !is_whole {
+        return Err(Stop::Reported);
+    }
+    if !has_true {
+        checker.findings.note(span, NoteKind::NoGuard)?;
+    }
+    Ok(())
+}
+
+/// The choices of a CASE, each tried within those before it. ELSE, wherever it stands, is within all of them.
+#[cycle(process)]
+fn all_cases<'a>(
+    checker: &mut Checker<'a>,
+    frame: Frame,
+    selector: Option<Selector>,
+    cases: &'a Cases<'a>,
+    depth: u32,
+) -> Result<(), Stop> {
+    let many = cases_of(cases);
+    let mut seen = Vec::new(checker.alloc);
+    let mut is_whole = selector.is_some();
+    let mut index: usize = 0;
+    let mut rest = cases;
+    loop {
+        let made = match rest {
+            Cases::End => break,
+            Cases::Constants(constants, p, more) => {
+                rest = more;
+                let depth = levels_within(depth, index);
+                let body = process(checker, frame, p, depth);
+                let body = recovered(body)?.is_some();
+                constants_of(checker, frame, selector, constants, &mut seen, depth)? && body
+            }
+            Cases::Else(p, more) => {
+                rest = more;
+                let made = process(checker, frame, p, levels_within(depth, many));
+                recovered(made)?.is_some()
+            }
+        };
+        is_whole = is_whole && made;
+        index = index.saturating_add(1);
+    }
+    if is_whole {
+        Ok(())
+    } else {
+        Err(Stop::Reported)
+    }
+}
+
+/// Whether the constants of a choice are without a fault, where it is known what is chosen by.
+fn constants_of<'a>(
+    checker: &mut Checker<'a>,
+    frame: Frame,
+    selector: Option<Selector>,
+    constants: &'a Expressions<'a>,
+    seen: &mut Vec<Seen>,
+    depth: u32,
+) -> Result<bool, Stop> {
+    let Some(selector) = selector else {
+        return Ok(false);
+    };
+    let made = case_guard(checker, frame, constants, selector.of, seen, depth);
+    Ok(recovered(made)?.is_some())
+}
+
+/// CASE.
+#[cycle(process)]
+fn case<'a>(
+    checker: &mut Checker<'a>,
+    frame: Frame,
+    e: &'a Tree<'a>,
+    cases: &'a Cases<'a>,
+    depth: u32,
+) -> Result<(), Stop> {
+    let selected = chosen_by(checker, frame, e, depth);
+    let selected = recovered(selected)?;
+    let is_bound = selected.is_some_and(|selector| selector.is_bound);
+    let depth = levels_within(depth, usize::from(is_bound));
+    all_cases(checker, frame, selected, cases, depth)
+}
+
+/// `p (e, ..)`: the PROC's body, with its parameters bound.
+#[cycle(process)]
+fn procedure_call<'a>(
+    checker: &mut Checker<'a>,
+    frame: Frame,
+    name: Name<'a>,
+    arguments: &'a Expressions<'a>,
+    depth: u32,
+) -> Result<(), Stop> {
+    let entry = checker.find(frame.scope, name)?;
+    let Meaning::Procedure {
+        signature,
+        body,
+        scope,
+    } = entry.meaning
+    else {
+        return checker.not_a(name, entry, Role::Procedure);
+    };
+    if frame.calls == 0 {
+        return checker.fault(name.span, FaultKind::Limit(Limit::Calls));
+    }
+    checker.check_count(name, entry, signature, count_of(arguments))?;
+    let bound = checker.bound(frame, signature, arguments, scope, depth)?;
+    let within = Frame {
+        scope: bound.scope,
+        calls: frame.calls - 1,
+    };
+    let depth = levels_within(depth, bound.names);
+    process(checker, within, body, depth)
+}
+
+/// Declarations, and the process that they are for.
+#[cycle(process)]
+fn scoped<'a>(
+    checker: &mut Checker<'a>,
+    frame: Frame,
+    p: &'a Written<'a>,
+    depth: u32,
+) -> Result<(), Stop> {
+    let mut declared = Declared::new(frame, depth);
+    let mut rest = p;
+    while let Written::Declared {
+        declaration,
+        process,
+    } = rest
+    {
+        declared = declare(checker, declared, declaration, Level::Process)?;
+        rest = process;
+    }
+    let depth = levels_within(depth, declared.names);
+    process(checker, declared.frame, rest, depth)
+}
+
+/// A process.
+#[cycle(process)]
+pub(crate) fn process<'a>(
+    checker: &mut Checker<'a>,
+    frame: Frame,
+    p: &'a Written<'a>,
+    depth: u32,
+) -> Result<(), Stop> {
+    let Some(span) = place_of(p) else {
+        return Err(Stop::Reported);
+    };
+    checker.count(span)?;
+    if depth == 0 {
+        return checker.fault(span, FaultKind::Limit(Limit::Depth));
+    }
+    match p {
+        Written::Sequence { steps: list, .. } => {
+            steps(checker, frame, list, steps_of(list), depth - 1)
+        }
+        Written::Replicated {
+            index,
+            start,
+            count,
+            steps,
+            ..
+        } => {
+            let turns = check_turns(checker, frame, start, count);
+            replicated(checker, frame, *index, turns, steps, depth - 1)
+        }
+        Written::If { choices, span } => choice(checker, frame, choices, *span, depth - 1),
+        Written::Case {
+            selector,
+            cases,
+            ..
+        } => case(checker, frame, selector, cases, depth - 1),
+        Written::Call {
+            name,
+            arguments,
+            ..
+        } => procedure_call(checker, frame, *name, arguments, depth - 1),
+        Written::Declared { .. } => scoped(checker, frame, p, depth - 1),
+        other => simple(checker, frame, other, depth),
+    }
+}

@@ -1,0 +1,118 @@
+//! What is read off declarations and processes.
+
+use tpw_occam_meaning::{
+    Cases, Choices, Declaration, Declarations, Expression, Expressions, Names, Process, Processes,
+};
+use tpw_occam_tree::{Name, Span};
+
+/// The first of several names.
+pub(crate) fn first_of<'a>(names: &Names<'a>) -> Option<Name<'a>> {
+    match names {
+        Names::End => None,
+        Names::More(name, _) => Some(*name),
+    }
+}
+
+/// The place of a declaration: the first name that it declares.
+pub(crate) fn declared_place(declaration: &Declaration<'_>) -> Option<Span> {
+    match declaration {
+        Declaration::Value { name, .. } => Some(name.span),
+        Declaration::Variables { names, .. } => Some(first_of(names)?.span),
+        Declaration::Retypes { name, .. } => Some(name.span),
+        Declaration::Procedure { name, .. } => Some(name.span),
+        Declaration::Function { name, .. } => Some(name.span),
+        Declaration::Wrong { names } => Some(first_of(names)?.span),
+    }
+}
+
+/// The place of a process: its line, or that of its first declaration. One that was not read has none.
+pub(crate) fn place_of(p: &Process<'_>) -> Option<Span> {
+    match p {
+        Process::Skip { span } => Some(*span),
+        Process::Stop { span } => Some(*span),
+        Process::Assign { span, .. } => Some(*span),
+        Process::Sequence { span, .. } => Some(*span),
+        Process::Replicated { span, .. } => Some(*span),
+        Process::If { span, .. } => Some(*span),
+        Process::Case { span, .. } => Some(*span),
+        Process::Call { span, .. } => Some(*span),
+        Process::Receive { span, .. } => Some(*span),
+        Process::Send { span, .. } => Some(*span),
+        Process::Declared { declaration, .. } => declared_place(declaration),
+        Process::Wrong => None,
+    }
+}
+
+/// The process behind all declarations in front of it.
+pub(crate) fn behind<'a>(p: &'a Process<'a>) -> &'a Process<'a> {
+    match p {
+        Process::Declared { process, .. } => behind(process),
+        other => other,
+    }
+}
+
+/// The one expression of a list.
+pub(crate) fn only<'a>(list: &'a Expressions<'a>) -> Option<&'a Expression<'a>> {
+    match list {
+        Expressions::More(e, more) if matches!(**more, Expressions::End) => Some(e),
+        _ => None,
+    }
+}
+
+/// How many steps a SEQ has.
+pub(crate) fn steps_of(steps: &Processes<'_>) -> usize {
+    let mut count: usize = 0;
+    let mut rest = steps;
+    while let Processes::More(_, more) = rest {
+        count = count.saturating_add(1);
+        rest = more;
+    }
+    count
+}
+
+/// The last step of a SEQ.
+pub(crate) fn last_step<'a>(steps: &'a Processes<'a>) -> Option<&'a Process<'a>> {
+    let mut last: Option<&'a Process<'a>> = None;
+    let mut rest = steps;
+    while let Processes::More(step, more) = rest {
+        last = Some(step);
+        rest = more;
+    }
+    last
+}
+
+/// How many guards an IF has.
+pub(crate) fn guards_of(choices: &Choices<'_>) -> usize {
+    let mut count: usize = 0;
+    let mut rest = choices;
+    while let Choices::More(_, _, more) = rest {
+        count = count.saturating_add(1);
+        rest = more;
+    }
+    count
+}
+
+/// How many choices a CASE has, with ELSE.
+pub(crate) fn cases_of(cases: &Cases<'_>) -> usize {
+    let mut count: usize = 0;
+    let mut rest = cases;
+    loop {
+        match rest {
+            Cases::End => return count,
+            Cases::Constants(_, _, more) => rest = more,
+            Cases::Else(_, more) => rest = more,
+        }
+        count = count.saturating_add(1);
+    }
+}
+
+/// The last declaration of a text.
+pub(crate) fn last_declaration<'a>(list: &'a Declarations<'a>) -> Option<&'a Declaration<'a>> {
+    let mut last: Option<&'a Declaration<'a>> = None;
+    let mut rest = list;
+    while let Declarations::More(declaration, more) = rest {
+        last = Some(declaration);
+        rest = more;
+    }
+    last
+}

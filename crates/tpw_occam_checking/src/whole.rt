@@ -1,0 +1,112 @@
+//! A whole text.
+
+ghost use Rattle.std.specs.Prelude.{◌≡◌, true, [], IfOk, is_some};
+ghost use Rattle.tpw_occam_checking.specs.Checked.{IsChecked};
+
+use crate::declarations::{Declared, Level, declare};
+use crate::trees::{declared_place, last_declaration};
+use crate::worker::worker;
+use std::alloc::{AllocError, Global};
+use tpw_occam_faults::{FIRST, Fault, FaultKind, Note, Stop, reported_faults, reported_notes};
+use tpw_occam_meaning::{Declaration, Declarations, Source};
+use tpw_occam_tree::Fault as Misread;
+use tpw_occam_typing::{Checker, Frame, MAX_DEPTH};
+
+/// Why a text has no worker.
+#[derive(Debug, Drop)]
+pub enum CheckError<'a> {
+    /// What is wrong, by places.
+    Faults(Vec<Fault<'a>>),
+    /// A growth was refused.
+    Memory,
+}
+
+impl From<AllocError> for CheckError<'_> {
+    ghost use Rattle.tpw_occam_checking.specs.declared.whole.CheckError.TheVariants.{Memory};
+
+    ghost from_gives = { λ _ e. e ≡ Memory };
+
+    fn from(_: AllocError) -> Self {
+        CheckError::Memory
+    }
+}
+
+/// Reports what is wrong with how a text is written.
+fn report_misread<'a>(checker: &mut Checker<'a>, misread: &[Misread]) -> Result<(), Stop> {
+    for fault in misread {
+        checker
+            .findings
+            .report(fault.span, FaultKind::Syntax(fault.kind))?;
+    }
+    Ok(())
+}
+
+/// What is in scope behind all declarations but the last.
+fn others<'a>(checker: &mut Checker<'a>, list: &'a Declarations<'a>) -> Result<Frame, Stop> {
+    let mut declared = Declared::new(Frame::OUTERMOST, MAX_DEPTH);
+    let mut rest = list;
+    while let Declarations::More(declaration, more) = rest {
+        if matches!(**more, Declarations::End) {
+            return Ok(declared.frame);
+        }
+        declared = declare(checker, declared, declaration, Level::Text)?;
+        rest = more;
+    }
+    Ok(declared.frame)
+}
+
+/// Reports all that is wrong with a text. Its worker is its last declaration. Where the indentation is wrong, no more is
+/// looked for.
+fn check_text<'a>(
+    checker: &mut Checker<'a>,
+    source: Option<&'a Source<'a>>,
+    misread: &[Misread],
+) -> Result<(), Stop>
+    ensures { IfOk result (λ u. is_some source.entry ≡ true) }
+{
+    report_misread(checker, misread)?;
+    let Some(source) = source else {
+        return Err(Stop::Ended);
+    };
+    let Some(last) = last_declaration(&source.declarations) else {
+        return checker.fault(FIRST, FaultKind::NoWorker);
+    };
+    let frame = others(checker, &source.declarations)?;
+    match last {
+        Declaration::Procedure {
+            name,
+            parameters,
+            body,
+        } => worker(checker, frame, *name, parameters, body),
+        other => {
+            let place = declared_place(other).unwrap_or(FIRST);
+            checker.fault(place, FaultKind::NoWorker)
+        }
+    }
+}
+
+/// What may not be meant in a text, by places; or all that is wrong with it: with how it is written, `misread`, or with what
+/// it says. It is read as `source`; where its indentation is wrong, as nothing.
+pub fn check<'a>(
+    alloc: Global,
+    text: &str,
+    source: Option<&'a Source<'a>>,
+    misread: &[Misread],
+) -> Result<Vec<Note<'a>>, CheckError<'a>>
+    ensures checked { IsChecked text.now result }
+    ensures laid_out { IfOk result (λ notes. is_some source.entry ≡ true) }
+    ensures read { IfOk result (λ notes. misread.now ≡ []) }
+{
+    let mut checker = Checker::new(alloc);
+    match check_text(&mut checker, source, misread) {
+        Err(Stop::Memory) => Err(CheckError::Memory),
+        Ok(()) if misread.is_empty() && checker.findings.faults.is_empty() => {
+            checker.note_unread()?;
+            Ok(reported_notes(alloc, text, &checker.findings.notes)?)
+        }
+        _ => {
+            let faults = reported_faults(alloc, text, &checker.findings.faults)?;
+            Err(CheckError::Faults(faults))
+        }
+    }
+}

@@ -1,0 +1,247 @@
+//! The worker: its channels, its declarations, and its SEQ, which begins with the packet and ends with the result.
+
+use crate::assignments::target;
+use crate::declarations::{Declared, Level, declare};
+use crate::messages::{Message, sent_by};
+use crate::processes::steps;
+use crate::trees::{behind, last_step, steps_of};
+use tpw_occam_faults::{FaultKind, NoteKind, Stop};
+use tpw_occam_meaning::{Expression as Tree, Parameters, Process as Written, Processes};
+use tpw_occam_tree::{Name, Primitive, Span};
+use tpw_occam_typing::{
+    Callee, Channel, Checker, Form, Frame, MAX_DEPTH, Meaning, Parameter, Protocol, Root, Scope,
+    Shape, Storage, name_alone, name_of, recovered, span_of,
+};
+
+/// The channels of the worker, in scope, and what the packet's and the result's carry.
+#[derive(Clone, Copy)]
+struct Channels {
+    scope: Scope,
+    packet: Protocol,
+    output: Protocol,
+}
+
+/// The steps of the worker's SEQ, and its line.
+#[derive(Clone, Copy)]
+struct Steps<'a> {
+    list: &'a Processes<'a>,
+    span: Span,
+}
+
+/// What one of the worker's channels carries, declared as such.
+fn channel<'a>(
+    checker: &mut Checker<'a>,
+    worker: Name<'a>,
+    scope: Scope,
+    parameter: Parameter<'a>,
+    channel: Channel,
+) -> Result<(Scope, Protocol), Stop> {
+    match parameter.form {
+        Form::Channel(protocol) => {
+            let meaning = Meaning::Channel { channel, protocol };
+            let scope = checker.declare(scope, parameter.name, meaning)?;
+            Ok((scope, protocol))
+        }
+        Form::Wrong => Err(Stop::Reported),
+        _ => checker.fault(worker.span, FaultKind::WorkerParameters),
+    }
+}
+
+/// The worker's channels.
+fn channels_of<'a>(
+    checker: &mut Checker<'a>,
+    frame: Frame,
+    worker: Name<'a>,
+    list: &'a Parameters<'a>,
+) -> Result<Channels, Stop> {
+    let signature = checker.signature(frame, list, Callee::Procedure)?;
+    let packet = checker.parameter(signature, 0);
+    let output = checker.parameter(signature, 1);
+    let (Some(packet), Some(output)) = (packet, output) else {
+        return checker.fault(worker.span, FaultKind::WorkerParameters);
+    };
+    if signature.count > 3 {
+        return checker.fault(worker.span, FaultKind::WorkerParameters);
+    }
+    let (scope, packet) = channel(checker, worker, frame.scope, packet, Channel::Packet)?;
+    let (scope, output) = channel(checker, worker, scope, output, Channel::Output)?;
+    let scope = match checker.parameter(signature, 2) {
+        Some(traces) => channel(checker, worker, scope, traces, Channel::Traces)?.0,
+        None => scope,
+    };
+    Ok(Channels {
+        scope,
+        packet,
+        output,
+    })
+}
+
+/// A packet that is a number.
+fn received_value<'a>(
+    checker: &mut Checker<'a>,
+    frame: Frame,
+    e: &'a Tree<'a>,
+) -> Result<(), Stop> {
+    let found = target(checker, frame, e, MAX_DEPTH)?;
+    checker.check_type(name_of(e), found, Primitive::Int, span_of(e))
+}
+
+/// A packet that is an array.
+fn received_array<'a>(
+    checker: &mut Checker<'a>,
+    frame: Frame,
+    e: &Tree<'a>,
+    shape: Shape,
+) -> Result<(), Stop> {
+    let Some(name) = name_alone(e) else {
+        return checker.fault(span_of(e), FaultKind::ArrayWanted);
+    };
+    let view = checker.written_view(frame.scope, name)?;
+    let view = checker.of_shape(view, shape, name.span)?;
+    checker.cells.write_array(view.storage);
+    Ok(())
+}
+
+/// `packet ? x`, the worker's first step.
+fn received<'a>(
+    checker: &mut Checker<'a>,
+    frame: Frame,
+    step: &'a Written<'a>,
+    line: Span,
+    protocol: Protocol,
+) -> Result<(), Stop> {
+    let (channel, target) = match step {
+        Written::Receive {
+            channel,
+            target,
+            ..
+        } => (*channel, target),
+        Written::Wrong => return Err(Stop::Reported),
+        _ => return checker.fault(line, FaultKind::NoReceive),
+    };
+    let (found, _) = checker.channel_of(frame.scope, channel)?;
+    if found != Channel::Packet {
+        return checker.fault(channel.span, FaultKind::NoReceive);
+    }
+    match protocol {
+        Protocol::Value => received_value(checker, frame, target),
+        Protocol::Array { kind, elements } => {
+            let shape = Shape {
+                kind,
+                elements: Some(elements),
+            };
+            received_array(checker, frame, target, shape)
+        }
+    }
+}
+
+/// Notes a result that nothing is assigned to.
+fn note_result<'a>(checker: &mut Checker<'a>, message: Message, e: &Tree<'a>) -> Result<(), Stop> {
+    let is_assigned = match message {
+        Message::Value(Root::Variable(x)) => checker.cells.is_written(x),
+        Message::Value(Root::Named) => false,
+        Message::Value(Root::Made) => true,
+        Message::Array(Storage::Array(a)) => checker.cells.is_written(a),
+        Message::Array(Storage::Table(_)) => true,
+    };
+    if let (false, Some(name)) = (is_assigned, name_of(e)) {
+        let kind = NoteKind::NeverAssigned { name };
+        checker.findings.note(span_of(e), kind)?;
+    }
+    Ok(())
+}
+
+/// `result ! x`, the worker's last step.
+fn sent<'a>(
+    checker: &mut Checker<'a>,
+    frame: Frame,
+    step: &'a Written<'a>,
+    line: Span,
+    protocol: Protocol,
+) -> Result<(), Stop> {
+    let (channel, value) = match step {
+        Written::Send { channel, value, .. } => (*channel, value),
+        Written::Wrong => return Err(Stop::Reported),
+        _ => return checker.fault(line, FaultKind::NoSend),
+    };
+    let (found, _) = checker.channel_of(frame.scope, channel)?;
+    if found != Channel::Output {
+        return checker.fault(channel.span, FaultKind::NoSend);
+    }
+    let message = sent_by(checker, frame, protocol, value, MAX_DEPTH)?;
+    note_result(checker, message, value)
+}
+
+/// Reports a SEQ of at most one step, which does not both begin with the packet and end with the result.
+fn check_few<'a>(checker: &mut Checker<'a>, steps: Steps<'a>) -> Result<(), Stop> {
+    match steps.list {
+        Processes::More(step, _) => match **step {
+            Written::Wrong => Err(Stop::Reported),
+            Written::Receive { .. } => checker.fault(steps.span, FaultKind::NoSend),
+            _ => checker.fault(steps.span, FaultKind::NoReceive),
+        },
+        Processes::End => checker.fault(steps.span, FaultKind::NoReceive),
+    }
+}
+
+/// The worker's steps, once its channels and declarations are known.
+fn check_steps<'a>(
+    checker: &mut Checker<'a>,
+    frame: Frame,
+    whole: Steps<'a>,
+    channels: Channels,
+) -> Result<(), Stop> {
+    let Processes::More(first, rest) = whole.list else {
+        return check_few(checker, whole);
+    };
+    let Some(last) = last_step(rest) else {
+        return check_few(checker, whole);
+    };
+    let packet = received(checker, frame, first, whole.span, channels.packet);
+    recovered(packet)?;
+    let many = steps_of(rest).saturating_sub(1);
+    let made = steps(checker, frame, rest, many, MAX_DEPTH);
+    recovered(made)?;
+    sent(checker, frame, last, whole.span, channels.output)
+}
+
+/// The frame behind the worker's declarations.
+fn declared<'a>(
+    checker: &mut Checker<'a>,
+    frame: Frame,
+    body: &'a Written<'a>,
+) -> Result<Frame, Stop> {
+    let mut declared = Declared::new(frame, MAX_DEPTH);
+    let mut rest = body;
+    while let Written::Declared {
+        declaration,
+        process,
+    } = rest
+    {
+        declared = declare(checker, declared, declaration, Level::Worker)?;
+        rest = process;
+    }
+    Ok(declared.frame)
+}
+
+/// The worker of a PROC.
+pub(crate) fn worker<'a>(
+    checker: &mut Checker<'a>,
+    frame: Frame,
+    name: Name<'a>,
+    list: &'a Parameters<'a>,
+    body: &'a Written<'a>,
+) -> Result<(), Stop> {
+    let channels = channels_of(checker, frame, name, list)?;
+    let whole = match behind(body) {
+        Written::Wrong => return Err(Stop::Reported),
+        Written::Sequence { steps, span } => Steps {
+            list: steps,
+            span: *span,
+        },
+        _ => return checker.fault(name.span, FaultKind::WorkerBody),
+    };
+    let frame = frame.with_scope(channels.scope);
+    let frame = declared(checker, frame, body)?;
+    check_steps(checker, frame, whole, channels)
+}

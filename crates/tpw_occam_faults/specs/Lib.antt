@@ -1,0 +1,2 @@
+-- What a reader must believe: the order of faults and notes.
+pub mod Order

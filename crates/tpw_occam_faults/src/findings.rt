@@ -1,0 +1,77 @@
+//! What is found while a text is looked at.
+
+ghost use Rattle.std.specs.Prelude.{IfOk};
+
+use crate::fault::{Fault, FaultKind};
+use crate::note::{Note, NoteKind};
+use std::alloc::{AllocError, AllocFailed, Global};
+use tpw_occam_tree::{MAX_FAULTS, Span};
+
+/// Why no more is known.
+#[derive(Clone, Copy, Debug, PartialEq, Eq)]
+pub enum Stop {
+    /// A growth was refused.
+    Memory,
+    /// What is wrong is reported.
+    Reported,
+    /// No more is looked for: a limit is reached, of the text or of faults.
+    Ended,
+}
+
+impl From<AllocError> for Stop {
+    fn from(_: AllocError) -> Self {
+        Stop::Memory
+    }
+}
+
+impl<T: Drop> From<AllocFailed<T>> for Stop {
+    fn from(_: AllocFailed<T>) -> Self {
+        Stop::Memory
+    }
+}
+
+/// Faults and notes, in the order in which they are found.
+#[derive(Drop)]
+pub struct Findings<'a> {
+    pub faults: Vec<Fault<'a>>,
+    pub notes: Vec<Note<'a>>,
+}
+
+impl<'a> Findings<'a> {
+    /// Nothing is found.
+    pub fn new(alloc: Global) -> Findings<'a> {
+        Findings {
+            faults: Vec::new(alloc),
+            notes: Vec::new(alloc),
+        }
+    }
+
+    /// Reports what is wrong, once for each place. No more is looked for behind the last fault that is reported.
+    pub fn report(&mut self, span: Span, kind: FaultKind<'a>) -> Result<(), Stop> {
+        if self.faults.iter().any(|fault| fault.span == span) {
+            return Ok(());
+        }
+        self.faults.push(Fault { span, kind })?;
+        if self.faults.len() >= MAX_FAULTS {
+            return Err(Stop::Ended);
+        }
+        Ok(())
+    }
+
+    /// Reports what is wrong, and fails.
+    pub fn fault<T>(&mut self, span: Span, kind: FaultKind<'a>) -> Result<T, Stop>
+        ensures { IfOk result (λ t. ⊥) }
+    {
+        self.report(span, kind)?;
+        Err(Stop::Reported)
+    }
+
+    /// Notes what may not be meant, once for each place.
+    pub fn note(&mut self, span: Span, kind: NoteKind<'a>) -> Result<(), AllocError> {
+        if self.notes.iter().any(|note| note.span == span) {
+            return Ok(());
+        }
+        self.notes.push(Note { span, kind })?;
+        Ok(())
+    }
+}

@@ -1,0 +1,94 @@
+//! What names stand for, as a fault says it.
+
+use std::fmt;
+use tpw_occam_tree::Primitive;
+
+/// What a name stands for.
+#[derive(Clone, Copy, Debug, PartialEq, Eq)]
+pub enum Sort {
+    /// A constant, a value or an index: read, and not assigned to.
+    Value(Primitive),
+    /// A variable, or another name for one or for an element.
+    Variable(Primitive),
+    /// An array that may be assigned to.
+    Array { of: Primitive, elements: u32 },
+    /// A table, or a VAL parameter that is an array.
+    Table { of: Primitive, elements: u32 },
+    Procedure,
+    Function,
+    Channel,
+}
+
+/// What a name is used as.
+#[derive(Clone, Copy, Debug, PartialEq, Eq)]
+pub enum Role {
+    /// A value is read.
+    Value,
+    /// It is assigned to, or passed to be.
+    Variable,
+    /// An array is read.
+    Array,
+    /// An array is assigned to, or passed to be.
+    WrittenArray,
+    /// It is called as a process.
+    Procedure,
+    /// It is called in an expression.
+    Function,
+    /// It receives or sends.
+    Channel,
+}
+
+/// A type with its article.
+pub(crate) fn with_article(of: Primitive) -> &'static str {
+    match of {
+        Primitive::Int => "an INT",
+        Primitive::Bool => "a BOOL",
+        Primitive::Byte => "a BYTE",
+    }
+}
+
+/// A type by its keyword.
+pub(crate) fn keyword(of: Primitive) -> &'static str {
+    match of {
+        Primitive::Int => "INT",
+        Primitive::Bool => "BOOL",
+        Primitive::Byte => "BYTE",
+    }
+}
+
+impl fmt::Display for Sort {
+    fn fmt<W: fmt::Write>(&self, f: &mut fmt::Formatter<W>) -> fmt::Result {
+        match self {
+            Sort::Value(of) => {
+                let of = with_article(*of);
+                write!(f, "{of} that is not assigned to")
+            }
+            Sort::Variable(of) => f.write_str(with_article(*of)),
+            Sort::Array { of, elements } => {
+                let of = keyword(*of);
+                write!(f, "an array [{elements}]{of}")
+            }
+            Sort::Table { of, elements } => {
+                let of = keyword(*of);
+                write!(f, "a table [{elements}]{of}, which is not assigned to")
+            }
+            Sort::Procedure => f.write_str("a PROC"),
+            Sort::Function => f.write_str("a FUNCTION"),
+            Sort::Channel => f.write_str("a channel"),
+        }
+    }
+}
+
+impl fmt::Display for Role {
+    fn fmt<W: fmt::Write>(&self, f: &mut fmt::Formatter<W>) -> fmt::Result {
+        f.write_str(match self {
+            Role::Value => "a value",
+            Role::Variable => "a variable",
+            Role::Array => "an array or a table",
+            Role::WrittenArray => "an array",
+            Role::Procedure => "a PROC",
+            Role::Function => "a FUNCTION",
+            Role::Channel => "a channel",
+        })
+    }
+}

@@ -1,0 +1,318 @@
+//! Arguments of calls, bound to parameters.
+
+use crate::checker::{Checker, Frame};
+use crate::environment::{Access, Channel, Entry, Meaning, Protocol, Scope, View};
+use crate::limits::levels_within;
+use crate::operators::checked;
+use crate::signatures::{Callee, Form, Signature};
+use crate::trees::{bare, name_alone, span_of};
+use crate::value::{Root, Value, Worth};
+use tpw_occam_faults::{FaultKind, Role, Stop};
+use tpw_occam_meaning::{Expression as Tree, Expressions};
+use tpw_occam_names::element_type;
+use tpw_occam_tree::{Name, Primitive, Span};
+
+/// What a parameter stands for, and whether a name is bound around the body for it.
+#[derive(Clone, Copy)]
+pub(crate) struct Passed<'a> {
+    meaning: Meaning<'a>,
+    is_bound: bool,
+}
+
+/// The scope in which the body of a call stands, and how many names are bound around it.
+#[derive(Clone, Copy)]
+pub struct Bound {
+    pub scope: Scope,
+    pub names: usize,
+    /// Whether each argument was made, without a fault.
+    pub is_whole: bool,
+}
+
+/// A parameter for which nothing is bound.
+fn alias<'a>(meaning: Meaning<'a>) -> Passed<'a> {
+    Passed {
+        meaning,
+        is_bound: false,
+    }
+}
+
+/// A parameter that stands for a value: a constant, a name that has it already, or a name that is bound to it.
+fn passed_value<'a>(value: Value, fixed: Option<Meaning<'a>>) -> Passed<'a> {
+    let of = value.of;
+    match (value.worth, fixed) {
+        (Worth::Constant(word), _) => alias(Meaning::Constant { of, word }),
+        (_, Some(meaning)) => alias(meaning),
+        (_, None) => Passed {
+            meaning: Meaning::Value {
+                of,
+                root: Root::Named,
+            },
+            is_bound: true,
+        },
+    }
+}
+
+impl<'a> Checker<'a> {
+    /// Reports a call with another number of arguments than there are parameters.
+    pub fn check_count(
+        &mut self,
+        name: Name<'a>,
+        entry: Entry<'a>,
+        signature: Signature,
+        found: usize,
+    ) -> Result<(), Stop> {
+        if signature.count == found {
+            return Ok(());
+        }
+        let kind = FaultKind::Arguments {
+            name: name.text,
+            declared: entry.name.span,
+            wanted: signature.count,
+            found,
+        };
+        self.fault(name.span, kind)
+    }
+
+    /// What a parameter stands for whose argument is a name with a value that stays the same while the body is
+    /// evaluated: one that is given its value once, or a variable where the body is an expression.
+    fn fixed(&self, scope: Scope, e: &Tree<'a>, callee: Callee) -> Option<Meaning<'a>> {
+        let name = name_alone(e)?;
+        match self.environment.find(scope, name.text)?.meaning {
+            Meaning::Value { of, root } => Some(Meaning::Value { of, root }),
+            Meaning::Variable { of, variable } if callee == Callee::Function => {
+                Some(Meaning::Value {
+                    of,
+                    root: Root::Variable(variable),
+                })
+            }
+            _ => None,
+        }
+    }
+
+    /// A parameter that is another name for an array.
+    fn passed_array(&mut self, view: View, access: Access) -> Passed<'a> {
+        self.cells.read_array(view.storage);
+        alias(Meaning::Array(View { access, ..view }))
+    }
+
+    /// A parameter that is another name for an array that is written to.
+    fn passed_written(
+        &mut self,
+        scope: Scope,
+        e: &Tree<'a>,
+        view: View,
+    ) -> Result<Passed<'a>, Stop> {
+        let Some(name) = name_alone(e) else {
+            return self.fault(span_of(e), FaultKind::VariableWanted);
+        };
+        self.written_view(scope, name)?;
+        self.cells.write_array(view.storage);
+        Ok(self.passed_array(view, Access::ReadAndWrite))
+    }
+
+    /// The traces' channel, where it carries what is wanted.
+    fn traces(
+        &mut self,
+        scope: Scope,
+        name: Name<'a>,
+        wanted: Protocol,
+    ) -> Result<Passed<'a>, Stop> {
+        let (channel, protocol) = self.channel_of(scope, name)?;
+        if channel != Channel::Traces {
+            return self.fault(name.span, FaultKind::NoTraces);
+        }
+        if protocol != wanted {
+            let declared = self.find(scope, name)?.name.span;
+            let kind = FaultKind::OtherProtocol {
+                name: name.text,
+                declared,
+            };
+            return self.fault(name.span, kind);
+        }
+        Ok(alias(Meaning::Channel { channel, protocol }))
+    }
+
+    /// A parameter that is another name for the traces' channel.
+    fn passed_channel(
+        &mut self,
+        scope: Scope,
+        e: &'a Tree<'a>,
+        wanted: Protocol,
+    ) -> Result<Passed<'a>, Stop> {
+        match bare(e) {
+            Tree::Name(name) => self.traces(scope, *name, wanted),
+            Tree::Channel { name, .. } => self.traces(scope, *name, wanted),
+            other => self.fault(span_of(other), FaultKind::NoTraces),
+        }
+    }
+
+    /// Reports a name that is of another type than is wanted.
+    pub fn check_type(
+        &mut self,
+        name: Option<&'a str>,
+        found: Primitive,
+        wanted: Primitive,
+        span: Span,
+    ) -> Result<(), Stop> {
+        if found == wanted {
+            return Ok(());
+        }
+        let kind = FaultKind::Type {
+            name,
+            wanted,
+            found,
+        };
+        self.fault(span, kind)
+    }
+
+    /// A parameter that is another name for a variable.
+    fn passed_variable(
+        &mut self,
+        scope: Scope,
+        name: Name<'a>,
+        wanted: Primitive,
+    ) -> Result<Passed<'a>, Stop> {
+        let entry = self.find(scope, name)?;
+        let found = match entry.meaning {
+            Meaning::Variable { of, variable } => {
+                self.cells.write(variable);
+                of
+            }
+            Meaning::Element { of, .. } => of,
+            _ => return self.not_a(name, entry, Role::Variable),
+        };
+        self.check_type(Some(name.text), found, wanted, name.span)?;
+        Ok(alias(entry.meaning))
+    }
+
+    /// A parameter that is another name for an element, whose subscript is worked out at the call.
+    fn passed_element(&mut self, view: View, subscript: Worth, span: Span) -> Passed<'a> {
+        self.cells.write_array(view.storage);
+        let subscript = checked(view.elements, subscript, span);
+        Passed {
+            meaning: Meaning::Element {
+                storage: view.storage,
+                of: element_type(view.kind),
+            },
+            is_bound: !matches!(subscript, Worth::Constant(_)),
+        }
+    }
+
+    /// A parameter that is another name for an element `a[e]`.
+    #[cycle(expressions)]
+    fn element_reference(
+        &mut self,
+        frame: Frame,
+        of: Primitive,
+        array: Name<'a>,
+        subscript: &'a Tree<'a>,
+        depth: u32,
+    ) -> Result<Passed<'a>, Stop> {
+        let place = self.subscript_at(subscript);
+        let view = self.written_view(frame.scope, array);
+        let subscript = self.expression(frame, subscript, Some(Primitive::Int), depth);
+        let (view, subscript) = (view?, subscript?);
+        self.check_subscript(array, view, subscript.worth, place)?;
+        self.check_type(Some(array.text), element_type(view.kind), of, array.span)?;
+        Ok(self.passed_element(view, subscript.worth, array.span))
+    }
+
+    /// A parameter that is another name for a variable or an element.
+    #[cycle(expressions)]
+    fn reference(
+        &mut self,
+        frame: Frame,
+        of: Primitive,
+        e: &'a Tree<'a>,
+        depth: u32,
+    ) -> Result<Passed<'a>, Stop> {
+        match bare(e) {
+            Tree::Name(name) => self.passed_variable(frame.scope, *name, of),
+            Tree::Element { array, subscript, .. } => {
+                let array = self.array_name(array)?;
+                self.element_reference(frame, of, array, subscript, depth)
+            }
+            Tree::Channel { name, .. } => self.no_channel(frame.scope, *name, Role::Variable),
+            other => self.fault(span_of(other), FaultKind::VariableWanted),
+        }
+    }
+
+    /// What a parameter stands for where this is its argument.
+    #[cycle(expressions)]
+    fn passed(
+        &mut self,
+        frame: Frame,
+        form: Form,
+        e: &'a Tree<'a>,
+        callee: Callee,
+        depth: u32,
+    ) -> Result<Passed<'a>, Stop> {
+        match form {
+            Form::Value(of) => {
+                let value = self.expression(frame, e, Some(of), depth)?;
+                Ok(passed_value(value, self.fixed(frame.scope, e, callee)))
+            }
+            Form::Variable(of) => self.reference(frame, of, e, depth),
+            Form::Array { shape, access } => {
+                let view = self.array(frame, e, shape, depth)?;
+                match access {
+                    Access::Read => Ok(self.passed_array(view, Access::Read)),
+                    Access::ReadAndWrite => self.passed_written(frame.scope, e, view),
+                }
+            }
+            Form::Channel(protocol) => self.passed_channel(frame.scope, e, protocol),
+            Form::Wrong => Ok(alias(Meaning::Wrong)),
+        }
+    }
+
+    /// Declares a parameter behind those that are bound, with what is bound to it; also where its argument is wrong,
+    /// which is reported.
+    fn with_argument(
+        &mut self,
+        name: Name<'a>,
+        passed: Result<Passed<'a>, Stop>,
+        bound: Bound,
+    ) -> Result<Bound, Stop> {
+        let (passed, is_right) = match passed {
+            Ok(passed) => (passed, true),
+            Err(Stop::Reported) => (alias(Meaning::Wrong), false),
+            Err(stop) => return Err(stop),
+        };
+        Ok(Bound {
+            scope: self.declare(bound.scope, name, passed.meaning)?,
+            names: bound.names.saturating_add(usize::from(passed.is_bound)),
+            is_whole: bound.is_whole && is_right,
+        })
+    }
+
+    /// Binds the parameters of a call to its arguments, of which there are as many.
+    #[cycle(expressions)]
+    pub fn bound(
+        &mut self,
+        frame: Frame,
+        signature: Signature,
+        arguments: &'a Expressions<'a>,
+        scope: Scope,
+        depth: u32,
+    ) -> Result<Bound, Stop> {
+        let mut bound = Bound {
+            scope,
+            names: 0,
+            is_whole: true,
+        };
+        let mut index: usize = 0;
+        let mut rest = arguments;
+        while let Expressions::More(argument, more) = rest {
+            let Some(parameter) = self.parameter(signature, index) else {
+                bound.is_whole = false;
+                return Ok(bound);
+            };
+            let depth = levels_within(depth, bound.names);
+            let passed = self.passed(frame, parameter.form, argument, signature.callee, depth);
+            bound = self.with_argument(parameter.name, passed, bound)?;
+            index = index.saturating_add(1);
+            rest = more;
+        }
+        Ok(bound)
+    }
+}

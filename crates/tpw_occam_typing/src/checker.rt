@@ -1,0 +1,143 @@
+//! What is known while a text is checked.
+
+use crate::cells::Cells;
+use crate::environment::{Environment, Meaning, Scope};
+use crate::limits::{MAX_CALLS, MAX_IN_LINE};
+use crate::per_call::PerCall;
+use crate::signatures::{Parameter, Signature};
+use std::alloc::{AllocError, Global};
+use tpw_occam_faults::{FaultKind, Findings, Limit, NoteKind, Stop};
+use tpw_occam_tree::{Name, Span};
+
+/// The names in scope, and how many calls may still lie within one another.
+#[derive(Clone, Copy)]
+pub struct Frame {
+    pub scope: Scope,
+    pub calls: u32,
+}
+
+impl Frame {
+    /// Nothing is in scope, and no call is entered.
+    pub const OUTERMOST: Frame = Frame {
+        scope: Scope::EMPTY,
+        calls: MAX_CALLS,
+    };
+
+    /// The same call with other names in scope.
+    pub fn with_scope(self, scope: Scope) -> Frame {
+        Frame {
+            scope,
+            calls: self.calls,
+        }
+    }
+}
+
+/// A text that is checked: its names, and what was found.
+#[derive(Drop)]
+pub struct Checker<'a> {
+    pub alloc: Global,
+    pub findings: Findings<'a>,
+    pub cells: Cells<'a>,
+    pub per_call: PerCall,
+    pub(crate) environment: Environment<'a>,
+    /// The parameters of all PROCs and FUNCTIONs.
+    pub(crate) parameters: Vec<Parameter<'a>>,
+    /// The bytes of each table that is written out.
+    pub(crate) tables: Vec<Vec<u8>>,
+    /// How many expressions and processes there may still be.
+    left: u32,
+}
+
+impl<'a> Checker<'a> {
+    pub fn new(alloc: Global) -> Checker<'a> {
+        Checker {
+            alloc,
+            findings: Findings::new(alloc),
+            cells: Cells::new(alloc),
+            per_call: PerCall::new(alloc),
+            environment: Environment::new(alloc),
+            parameters: Vec::new(alloc),
+            tables: Vec::new(alloc),
+            left: MAX_IN_LINE,
+        }
+    }
+
+    /// Reports what is wrong, and fails.
+    pub fn fault<T>(&mut self, span: Span, kind: FaultKind<'a>) -> Result<T, Stop> {
+        self.findings.fault(span, kind)
+    }
+
+    /// Counts an expression or a process.
+    pub fn count(&mut self, span: Span) -> Result<(), Stop> {
+        if self.left == 0 {
+            self.findings.report(span, FaultKind::Limit(Limit::InLine))?;
+            return Err(Stop::Ended);
+        }
+        self.left -= 1;
+        Ok(())
+    }
+
+    /// Declares a name in front of a scope.
+    pub fn declare(
+        &mut self,
+        before: Scope,
+        name: Name<'a>,
+        meaning: Meaning<'a>,
+    ) -> Result<Scope, AllocError> {
+        self.environment.declare(before, name, meaning)
+    }
+
+    /// The parameter of a PROC or a FUNCTION at a place.
+    pub fn parameter(&self, signature: Signature, index: usize) -> Option<Parameter<'a>> {
+        let at = signature.first.checked_add(index)?;
+        self.parameters.get(at).copied()
+    }
+
+    /// Whether a table that is kept has these bytes.
+    fn has_bytes(&self, table: usize, bytes: &[u8]) -> bool {
+        match self.tables.get(table) {
+            Some(table) => table.as_slice() == bytes,
+            None => false,
+        }
+    }
+
+    /// The table of these bytes: one that is there, or a new one.
+    pub(crate) fn table_of(&mut self, bytes: Vec<u8>) -> Result<usize, AllocError> {
+        let count = self.tables.len();
+        for table in 0..count {
+            if self.has_bytes(table, &bytes) {
+                return Ok(table);
+            }
+        }
+        self.tables.push(bytes)?;
+        Ok(count)
+    }
+
+    /// Notes each variable and array that is never read.
+    pub fn note_unread(&mut self) -> Result<(), AllocError> {
+        for at in 0..self.cells.count() {
+            if let Some(name) = self.cells.unread(at) {
+                self.findings
+                    .note(name.span, NoteKind::NeverRead { name: name.text })?;
+            }
+        }
+        Ok(())
+    }
+}
+
+/// What was made, or what stands for it where the fault is reported.
+pub fn or_else<T: Drop>(made: Result<T, Stop>, other: T) -> Result<T, Stop> {
+    match made {
+        Err(Stop::Reported) => Ok(other),
+        made => made,
+    }
+}
+
+/// What was made; nothing where the fault is reported.
+pub fn recovered<T: Drop>(made: Result<T, Stop>) -> Result<Option<T>, Stop> {
+    match made {
+        Ok(made) => Ok(Some(made)),
+        Err(Stop::Reported) => Ok(None),
+        Err(stop) => Err(stop),
+    }
+}

@@ -1,0 +1,286 @@
+//! Expressions.
+//!
+//! `depth` counts down with each expression that lies within another, calls in line among them.
+
+use crate::checker::{Checker, Frame};
+use crate::environment::{Meaning, Scope, Storage, View};
+use crate::limits::levels_within;
+use crate::operators::{is_order, low_byte, of_one, of_two, operand_of, operands_of};
+use crate::subscripts::Subscript;
+use crate::trees::{bare, count_of, is_number, name_of, span_of};
+use crate::value::{Root, Value, Worth, answered, computed, constant};
+use crate::words::{MOST_NEGATIVE, MOST_POSITIVE};
+use tpw_occam_faults::{FaultKind, Limit, Role, Stop};
+use tpw_occam_meaning::{Dyadic, Expression as Tree, Expressions, Monadic};
+use tpw_occam_names::{character, element_at, element_type, number};
+use tpw_occam_tree::{FaultKind as Misread, Name, Primitive, Span};
+
+impl<'a> Checker<'a> {
+    /// A number, which is a BYTE where one is wanted.
+    fn number(
+        &mut self,
+        spelled: &str,
+        wanted: Option<Primitive>,
+        span: Span,
+    ) -> Result<Value, Stop> {
+        let Some(value) = number(spelled) else {
+            return self.fault(span, FaultKind::Syntax(Misread::BigNumber));
+        };
+        match wanted {
+            Some(Primitive::Byte) if value < 256 => Ok(constant(Primitive::Byte, value)),
+            Some(Primitive::Byte) => self.fault(span, FaultKind::NoByte { value }),
+            _ => Ok(constant(Primitive::Int, value)),
+        }
+    }
+
+    /// A character.
+    fn character(&mut self, spelled: &str, span: Span) -> Result<Value, Stop> {
+        match character(spelled) {
+            Some(value) => Ok(constant(Primitive::Byte, value)),
+            None => self.fault(span, FaultKind::Syntax(Misread::BadCharacter)),
+        }
+    }
+
+    /// An expression within which no other lies.
+    fn leaf(
+        &mut self,
+        scope: Scope,
+        e: &'a Tree<'a>,
+        wanted: Option<Primitive>,
+    ) -> Result<Value, Stop> {
+        match e {
+            Tree::Number { spelled, span } => self.number(spelled, wanted, *span),
+            Tree::Character { spelled, span } => self.character(spelled, *span),
+            Tree::Truth { value, .. } => Ok(constant(Primitive::Bool, u32::from(*value))),
+            Tree::Most {
+                is_negative: true,
+                ..
+            } => Ok(constant(Primitive::Int, MOST_NEGATIVE)),
+            Tree::Most { .. } => Ok(constant(Primitive::Int, MOST_POSITIVE)),
+            Tree::Text { span, .. } => self.fault(*span, FaultKind::TableHere),
+            Tree::Table { span, .. } => self.fault(*span, FaultKind::TableHere),
+            Tree::Name(name) => self.value_of(scope, *name),
+            Tree::Channel { name, .. } => self.no_channel(scope, *name, Role::Value),
+            _ => Err(Stop::Reported),
+        }
+    }
+
+    /// An expression, of the type that is wanted where one is.
+    #[cycle(expressions)]
+    pub fn expression(
+        &mut self,
+        frame: Frame,
+        e: &'a Tree<'a>,
+        wanted: Option<Primitive>,
+        depth: u32,
+    ) -> Result<Value, Stop> {
+        let e = bare(e);
+        self.count(span_of(e))?;
+        if depth == 0 {
+            return self.fault(span_of(e), FaultKind::Limit(Limit::Depth));
+        }
+        let value = self.made(frame, e, wanted, depth - 1)?;
+        if let Some(wanted) = wanted {
+            self.check_type(name_of(e), value.of, wanted, span_of(e))?;
+        }
+        Ok(value)
+    }
+
+    /// What is made of an expression, whichever type is wanted: a number alone takes it.
+    #[cycle(expressions)]
+    fn made(
+        &mut self,
+        frame: Frame,
+        e: &'a Tree<'a>,
+        wanted: Option<Primitive>,
+        depth: u32,
+    ) -> Result<Value, Stop> {
+        match e {
+            Tree::Element { array, subscript, .. } => {
+                let array = self.array_name(array)?;
+                self.element(frame, array, subscript, depth)
+            }
+            Tree::Call { name, arguments } => self.call(frame, *name, arguments, depth),
+            Tree::Monadic {
+                operator: Monadic::Size,
+                operand,
+                ..
+            } => self.size_of(frame.scope, operand),
+            Tree::Monadic {
+                operator,
+                span,
+                operand,
+            } => {
+                let e = self.expression(frame, operand, operand_of(*operator), depth)?;
+                self.applied(*operator, e, *span)
+            }
+            Tree::Dyadic {
+                operator,
+                span,
+                left,
+                right,
+            } => self.dyadic(frame, *operator, (left, right), *span, depth),
+            other => self.leaf(frame.scope, other, wanted),
+        }
+    }
+
+    /// What an operator makes of its one operand.
+    fn applied(&mut self, operator: Monadic, e: Value, span: Span) -> Result<Value, Stop> {
+        match operator {
+            Monadic::Convert(to) => self.converted(to, e, span),
+            other => Ok(of_one(other, e, span)),
+        }
+    }
+
+    /// A value of one type made of one of another.
+    fn converted(&mut self, to: Primitive, e: Value, span: Span) -> Result<Value, Stop> {
+        match (e.of, to) {
+            (Primitive::Bool, Primitive::Int | Primitive::Byte) => Ok(Value { of: to, ..e }),
+            (Primitive::Byte, Primitive::Int) => Ok(Value { of: to, ..e }),
+            (Primitive::Int, Primitive::Byte) => Ok(low_byte(e, span)),
+            (from, to) => self.fault(span, FaultKind::Conversion { from, to }),
+        }
+    }
+
+    /// An operator with its two operands. A number takes the type of the other operand.
+    #[cycle(expressions)]
+    fn dyadic(
+        &mut self,
+        frame: Frame,
+        operator: Dyadic,
+        operands: (&'a Tree<'a>, &'a Tree<'a>),
+        span: Span,
+        depth: u32,
+    ) -> Result<Value, Stop> {
+        let (left, right) = operands;
+        if is_number(left) {
+            let turned = self.operands(frame, operator, right, left, depth)?;
+            self.combined(operator, turned.1, turned.0, span)
+        } else {
+            let pair = self.operands(frame, operator, left, right, depth)?;
+            self.combined(operator, pair.0, pair.1, span)
+        }
+    }
+
+    /// The operands of an operator, the one made first. The other is of the operator's type, or else of the one's.
+    #[cycle(expressions)]
+    fn operands(
+        &mut self,
+        frame: Frame,
+        operator: Dyadic,
+        one: &'a Tree<'a>,
+        other: &'a Tree<'a>,
+        depth: u32,
+    ) -> Result<(Value, Value), Stop> {
+        let wanted = operands_of(operator);
+        match self.expression(frame, one, wanted, depth) {
+            Ok(first) => {
+                let second = self.expression(frame, other, wanted.or(Some(first.of)), depth)?;
+                Ok((first, second))
+            }
+            Err(Stop::Reported) => {
+                self.expression(frame, other, wanted, depth)?;
+                Err(Stop::Reported)
+            }
+            Err(stop) => Err(stop),
+        }
+    }
+
+    /// What an operator makes of its two operands. BOOLs have no order.
+    fn combined(
+        &mut self,
+        operator: Dyadic,
+        left: Value,
+        right: Value,
+        span: Span,
+    ) -> Result<Value, Stop> {
+        if is_order(operator) && left.of == Primitive::Bool {
+            return self.fault(span, FaultKind::NoOrder);
+        }
+        Ok(of_two(operator, left, right, span))
+    }
+
+    /// What is known of an element: of a table, with a constant subscript, it is a constant.
+    fn element_worth(&self, view: View, subscript: Worth, span: Span) -> Worth {
+        match (view.storage, subscript) {
+            (Storage::Table(table), Worth::Constant(at)) => match self.tables.get(table) {
+                Some(bytes) => answered(element_at(view.kind, bytes, at), span),
+                None => Worth::Computed,
+            },
+            (Storage::Table(_), worth) => worth,
+            (Storage::Array(_), _) => Worth::Computed,
+        }
+    }
+
+    /// An element of an array, read.
+    fn element_of(
+        &mut self,
+        name: Name<'a>,
+        view: View,
+        subscript: Worth,
+        place: Subscript,
+    ) -> Result<Value, Stop> {
+        self.check_subscript(name, view, subscript, place)?;
+        self.cells.read_array(view.storage);
+        Ok(Value {
+            of: element_type(view.kind),
+            worth: self.element_worth(view, subscript, name.span),
+            root: Root::Made,
+        })
+    }
+
+    /// `a[e]`.
+    #[cycle(expressions)]
+    fn element(
+        &mut self,
+        frame: Frame,
+        name: Name<'a>,
+        subscript: &'a Tree<'a>,
+        depth: u32,
+    ) -> Result<Value, Stop> {
+        let place = self.subscript_at(subscript);
+        let view = self.view_of(frame.scope, name);
+        let subscript = self.expression(frame, subscript, Some(Primitive::Int), depth);
+        let (view, subscript) = (view?, subscript?);
+        self.element_of(name, view, subscript.worth, place)
+    }
+
+    /// `f (e, ..)`: the FUNCTION's expression, with its parameters bound.
+    #[cycle(expressions)]
+    fn call(
+        &mut self,
+        frame: Frame,
+        name: Name<'a>,
+        arguments: &'a Expressions<'a>,
+        depth: u32,
+    ) -> Result<Value, Stop> {
+        let entry = self.find(frame.scope, name)?;
+        let Meaning::Function {
+            of,
+            signature,
+            value,
+            scope,
+        } = entry.meaning
+        else {
+            return self.not_a(name, entry, Role::Function);
+        };
+        if frame.calls == 0 {
+            return self.fault(name.span, FaultKind::Limit(Limit::Calls));
+        }
+        self.check_count(name, entry, signature, count_of(arguments))?;
+        let bound = self.bound(frame, signature, arguments, scope, depth)?;
+        let within = Frame {
+            scope: bound.scope,
+            calls: frame.calls - 1,
+        };
+        let depth = levels_within(depth, bound.names);
+        let value = self.expression(within, value, Some(of), depth)?;
+        if !bound.is_whole {
+            return Err(Stop::Reported);
+        }
+        if bound.names > 0 {
+            return Ok(computed(value.of, Root::Made));
+        }
+        Ok(value)
+    }
+}

@@ -1,0 +1,33 @@
+//! Names, types and constants of workers in occam: what expressions and arguments are, and what is wrong with them.
+#![tactic(auto)]
+
+mod arguments;
+mod cells;
+mod checker;
+mod constants;
+mod environment;
+mod expressions;
+mod limits;
+mod lookup;
+mod operators;
+mod parameters;
+mod per_call;
+mod shapes;
+mod signatures;
+mod subscripts;
+mod tables;
+mod trees;
+mod value;
+mod words;
+
+pub use arguments::Bound;
+pub use cells::Cells;
+pub use checker::{Checker, Frame, or_else, recovered};
+pub use environment::{Access, Channel, Entry, Meaning, Protocol, Scope, Storage, View};
+pub use limits::{MAX_DEPTH, levels_within};
+pub use per_call::{PerCall, Point};
+pub use signatures::{Callee, Form, Parameter, Shape, Signature};
+pub use subscripts::Subscript;
+pub use trees::{Size, bare, bytes_of, count_of, is_table, name_alone, name_of, size_of, span_of};
+pub use value::{Root, Value, Worth};
+pub use words::MOST_POSITIVE;

@@ -1,0 +1,141 @@
+//! Names, looked up for what they are used as.
+
+use crate::checker::Checker;
+use crate::environment::{Access, Channel, Entry, Meaning, Protocol, Scope, View};
+use crate::trees::{name_alone, span_of};
+use crate::value::{Root, Value, computed, constant};
+use tpw_occam_faults::{FaultKind, Role, Stop};
+use tpw_occam_meaning::Expression;
+use tpw_occam_tree::{Keyword, Name, Primitive};
+
+impl<'a> Checker<'a> {
+    /// What a name in scope stands for.
+    pub fn find(&mut self, scope: Scope, name: Name<'a>) -> Result<Entry<'a>, Stop> {
+        if let Some(entry) = self.environment.find(scope, name.text) {
+            self.per_call.look_up(entry.name.span);
+            return Ok(entry);
+        }
+        if let Some(declared) = self.environment.anywhere(name.text) {
+            let kind = FaultKind::OutOfScope {
+                name: name.text,
+                declared,
+            };
+            return self.fault(name.span, kind);
+        }
+        let near = match Keyword::in_capitals(name.text) {
+            Some(keyword) => Some(keyword),
+            None => self.environment.nearest(self.alloc, scope, name.text)?,
+        };
+        let kind = FaultKind::Unknown {
+            name: name.text,
+            near,
+        };
+        self.fault(name.span, kind)
+    }
+
+    /// Reports that a name is used as what it is not, unless its declaration is wrong.
+    pub fn not_a<T>(
+        &mut self,
+        name: Name<'a>,
+        entry: Entry<'a>,
+        wanted: Role,
+    ) -> Result<T, Stop> {
+        let Some(found) = entry.meaning.sort() else {
+            return Err(Stop::Reported);
+        };
+        let kind = FaultKind::NotA {
+            name: name.text,
+            declared: entry.name.span,
+            found,
+            wanted,
+        };
+        self.fault(name.span, kind)
+    }
+
+    /// The value of a name.
+    pub(crate) fn value_of(&mut self, scope: Scope, name: Name<'a>) -> Result<Value, Stop> {
+        let entry = self.find(scope, name)?;
+        match entry.meaning {
+            Meaning::Constant { of, word } => Ok(constant(of, word)),
+            Meaning::Value { of, root } => Ok(computed(of, root)),
+            Meaning::Variable { of, variable } => {
+                self.cells.read(variable);
+                Ok(computed(of, Root::Variable(variable)))
+            }
+            Meaning::Element { storage, of } => {
+                self.cells.read_array(storage);
+                Ok(computed(of, Root::Made))
+            }
+            _ => self.not_a(name, entry, Role::Value),
+        }
+    }
+
+    /// The array that a name stands for.
+    pub fn view_of(&mut self, scope: Scope, name: Name<'a>) -> Result<View, Stop> {
+        let entry = self.find(scope, name)?;
+        match entry.meaning {
+            Meaning::Array(view) => Ok(view),
+            _ => self.not_a(name, entry, Role::Array),
+        }
+    }
+
+    /// The array that a name stands for, which is to be written to.
+    pub fn written_view(&mut self, scope: Scope, name: Name<'a>) -> Result<View, Stop> {
+        let entry = self.find(scope, name)?;
+        match entry.meaning {
+            Meaning::Array(view) if view.access == Access::ReadAndWrite => Ok(view),
+            _ => self.not_a(name, entry, Role::WrittenArray),
+        }
+    }
+
+    /// The channel that a name stands for, and what it carries.
+    pub fn channel_of(
+        &mut self,
+        scope: Scope,
+        name: Name<'a>,
+    ) -> Result<(Channel, Protocol), Stop> {
+        let entry = self.find(scope, name)?;
+        match entry.meaning {
+            Meaning::Channel { channel, protocol } => Ok((channel, protocol)),
+            _ => self.not_a(name, entry, Role::Channel),
+        }
+    }
+
+    /// Reports a channel, with its direction, where something else is wanted.
+    pub(crate) fn no_channel<T>(
+        &mut self,
+        scope: Scope,
+        name: Name<'a>,
+        wanted: Role,
+    ) -> Result<T, Stop> {
+        let entry = self.find(scope, name)?;
+        match entry.meaning {
+            Meaning::Channel { .. } => self.not_a(name, entry, wanted),
+            _ => self.not_a(name, entry, Role::Channel),
+        }
+    }
+
+    /// The view of an array that an expression names, where it is a name alone that stands for one.
+    pub fn named_array(&self, scope: Scope, e: &Expression<'a>) -> Option<View> {
+        let name = name_alone(e)?;
+        match self.environment.find(scope, name.text)?.meaning {
+            Meaning::Array(view) => Some(view),
+            _ => None,
+        }
+    }
+
+    /// `SIZE` of an operand: how many elements an array has.
+    pub(crate) fn size_of(
+        &mut self,
+        scope: Scope,
+        operand: &Expression<'a>,
+    ) -> Result<Value, Stop> {
+        match name_alone(operand) {
+            Some(name) => {
+                let view = self.view_of(scope, name)?;
+                Ok(constant(Primitive::Int, view.elements))
+            }
+            None => self.fault(span_of(operand), FaultKind::ArrayWanted),
+        }
+    }
+}

@@ -1,0 +1,152 @@
+//! Operators: the types that they take and make, and the constants.
+
+use crate::value::{Root, Value, Worth, answered};
+use tpw_occam_core::Answer;
+use tpw_occam_meaning::{Dyadic, Monadic};
+use tpw_occam_names as names;
+use tpw_occam_tree::{Primitive, Span};
+
+/// The type of the operands of an operator; none where they are of one type, whichever that is.
+pub(crate) fn operands_of(operator: Dyadic) -> Option<Primitive> {
+    match operator {
+        Dyadic::Equal | Dyadic::NotEqual => None,
+        Dyadic::Less | Dyadic::Greater | Dyadic::AtMost | Dyadic::AtLeast => None,
+        Dyadic::And | Dyadic::Or => Some(Primitive::Bool),
+        _ => Some(Primitive::Int),
+    }
+}
+
+/// The type of the operand of an operator; none where there are several.
+pub(crate) fn operand_of(operator: Monadic) -> Option<Primitive> {
+    match operator {
+        Monadic::Negate | Monadic::Minus => Some(Primitive::Int),
+        Monadic::Complement | Monadic::BitNot => Some(Primitive::Int),
+        Monadic::Not => Some(Primitive::Bool),
+        Monadic::Size | Monadic::Convert(_) => None,
+    }
+}
+
+/// Whether an operator compares by order.
+pub(crate) fn is_order(operator: Dyadic) -> bool {
+    matches!(
+        operator,
+        Dyadic::Less | Dyadic::Greater | Dyadic::AtMost | Dyadic::AtLeast
+    )
+}
+
+/// A word that sets no flag.
+fn plain(word: u32) -> Answer {
+    Answer { word, flag: false }
+}
+
+/// What an operator that converts nothing makes of its operand.
+pub(crate) fn of_one(operator: Monadic, e: Value, span: Span) -> Value {
+    let worth = match e.worth {
+        Worth::Constant(word) => answered(names::monadic(operator, word), span),
+        worth => worth,
+    };
+    Value {
+        of: names::type_of_one(operator),
+        worth,
+        root: Root::Made,
+    }
+}
+
+/// `BYTE` of an INT.
+pub(crate) fn low_byte(e: Value, span: Span) -> Value {
+    let worth = match e.worth {
+        Worth::Constant(word) => answered(names::low_byte(word), span),
+        worth => worth,
+    };
+    Value {
+        of: Primitive::Byte,
+        worth,
+        root: Root::Made,
+    }
+}
+
+/// What is known of a subscript, or of how far is shifted, that is to be below a size.
+pub(crate) fn checked(below: u32, worth: Worth, span: Span) -> Worth {
+    match worth {
+        Worth::Constant(word) if word >= below => Worth::Flagged(span),
+        worth => worth,
+    }
+}
+
+/// The left operand, which decides: a constant only where the right one is made of constants too.
+fn decided(left: Worth, right: Worth) -> Worth {
+    match right {
+        Worth::Computed => Worth::Computed,
+        _ => left,
+    }
+}
+
+/// What is known of both of two.
+fn both(left: Worth, right: Worth) -> Worth {
+    match left {
+        Worth::Constant(word) => {
+            if word == 0 {
+                decided(left, right)
+            } else {
+                right
+            }
+        }
+        other => other.with(right),
+    }
+}
+
+/// What is known of one of two.
+fn either(left: Worth, right: Worth) -> Worth {
+    match left {
+        Worth::Constant(word) => {
+            if word == 0 {
+                right
+            } else {
+                decided(left, right)
+            }
+        }
+        other => other.with(right),
+    }
+}
+
+/// What is known of what an operator makes of two that both count. Where both set the flag, `<` and `>=` tell of the right
+/// one, which the worker works out first.
+fn of_words(operator: Dyadic, left: Worth, right: Worth, span: Span) -> Worth {
+    match (left, right) {
+        (Worth::Constant(b), Worth::Constant(a)) => {
+            answered(names::combined(operator, plain(b), plain(a)), span)
+        }
+        (left, right) => match operator {
+            Dyadic::Less | Dyadic::AtLeast => right.with(left),
+            _ => left.with(right),
+        },
+    }
+}
+
+/// What is known of what an operator makes of two.
+fn worth_of(operator: Dyadic, left: Worth, right: Worth, span: Span) -> Worth {
+    match operator {
+        Dyadic::And => both(left, right),
+        Dyadic::Or => either(left, right),
+        other => of_words(other, left, right, span),
+    }
+}
+
+/// Where the value of an operator comes from: that of AND and OR is the right one where a constant on the left lets it
+/// decide.
+fn root_of(operator: Dyadic, left: Worth, right: Root) -> Root {
+    match (operator, left) {
+        (Dyadic::And, Worth::Constant(word)) if word != 0 => right,
+        (Dyadic::Or, Worth::Constant(word)) if word == 0 => right,
+        (_, _) => Root::Made,
+    }
+}
+
+/// What an operator makes of two, whose types are right.
+pub(crate) fn of_two(operator: Dyadic, left: Value, right: Value, span: Span) -> Value {
+    Value {
+        of: names::type_of_two(operator),
+        worth: worth_of(operator, left.worth, right.worth, span),
+        root: root_of(operator, left.worth, right.root),
+    }
+}

@@ -1,0 +1,122 @@
+//! What is read off trees.
+
+use tpw_occam_core::Kind;
+use tpw_occam_meaning::{Expression, Expressions, Sizes, Type};
+use tpw_occam_tree::{Name, Primitive, Span};
+
+/// An expression without the brackets around it.
+pub fn bare<'a>(e: &'a Expression<'a>) -> &'a Expression<'a> {
+    match e {
+        Expression::Bracketed { within, .. } => bare(within),
+        other => other,
+    }
+}
+
+/// The place of an expression: of its operator where it has one.
+pub fn span_of(e: &Expression<'_>) -> Span {
+    match e {
+        Expression::Number { span, .. } => *span,
+        Expression::Character { span, .. } => *span,
+        Expression::Text { span, .. } => *span,
+        Expression::Truth { span, .. } => *span,
+        Expression::Most { span, .. } => *span,
+        Expression::Table { span, .. } => *span,
+        Expression::Name(name) => name.span,
+        Expression::Channel { name, .. } => name.span,
+        Expression::Element { span, .. } => *span,
+        Expression::Call { name, .. } => name.span,
+        Expression::Bracketed { within, .. } => span_of(within),
+        Expression::Monadic { span, .. } => *span,
+        Expression::Dyadic { span, .. } => *span,
+        Expression::Wrong { span } => *span,
+    }
+}
+
+/// The name that an expression is, if it is one alone.
+pub fn name_alone<'a>(e: &Expression<'a>) -> Option<Name<'a>> {
+    match e {
+        Expression::Name(name) => Some(*name),
+        Expression::Bracketed { within, .. } => name_alone(within),
+        _ => None,
+    }
+}
+
+/// The name that an expression is, or begins with.
+pub fn name_of<'a>(e: &Expression<'a>) -> Option<&'a str> {
+    match e {
+        Expression::Name(name) => Some(name.text),
+        Expression::Element { array, .. } => name_of(array),
+        Expression::Call { name, .. } => Some(name.text),
+        Expression::Bracketed { within, .. } => name_of(within),
+        _ => None,
+    }
+}
+
+/// Whether an expression is a number as it is written, which is a BYTE where one is wanted.
+pub(crate) fn is_number(e: &Expression<'_>) -> bool {
+    match e {
+        Expression::Number { .. } => true,
+        Expression::Bracketed { within, .. } => is_number(within),
+        _ => false,
+    }
+}
+
+/// Whether an expression is a table that is written out.
+pub fn is_table(e: &Expression<'_>) -> bool {
+    match e {
+        Expression::Text { .. } | Expression::Table { .. } => true,
+        Expression::Bracketed { within, .. } => is_table(within),
+        _ => false,
+    }
+}
+
+/// How many expressions there are.
+pub fn count_of(list: &Expressions<'_>) -> usize {
+    let mut count: usize = 0;
+    let mut rest = list;
+    while let Expressions::More(_, more) = rest {
+        count = count.saturating_add(1);
+        rest = more;
+    }
+    count
+}
+
+/// How many elements there are.
+#[derive(Clone, Copy)]
+pub enum Size<'a> {
+    /// One value, no array.
+    One,
+    /// `[]`: as many as there are.
+    Open,
+    /// `[k]`
+    Of(&'a Expression<'a>),
+    /// Arrays of arrays, which are none.
+    Several,
+}
+
+/// How many elements a type has.
+pub fn size_of<'a>(of: &'a Type<'a>) -> Size<'a> {
+    match &of.sizes {
+        Sizes::End => Size::One,
+        Sizes::Open(more) if matches!(**more, Sizes::End) => Size::Open,
+        Sizes::Of(e, more) if matches!(**more, Sizes::End) => Size::Of(e),
+        Sizes::Open(_) | Sizes::Of(_, _) => Size::Several,
+    }
+}
+
+/// What elements of a type are in the core; a BOOL has none.
+pub(crate) fn element_kind(of: Primitive) -> Option<Kind> {
+    match of {
+        Primitive::Int => Some(Kind::Word),
+        Primitive::Byte => Some(Kind::Byte),
+        Primitive::Bool => None,
+    }
+}
+
+/// The bytes of so many elements.
+pub fn bytes_of(kind: Kind, elements: u32) -> u64 {
+    match kind {
+        Kind::Word => u64::from(elements) * 4,
+        Kind::Byte => u64::from(elements),
+    }
+}
