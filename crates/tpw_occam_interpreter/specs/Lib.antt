@@ -1,2 +1,3 @@
 -- What a reader must believe: which state a memory holds.
 pub mod Memories
+pub mod Workers

@@ -6,7 +6,9 @@ mod expressions;
 mod memory;
 mod messages;
 mod running;
+mod workers;
 mod writing;
 
 pub use memory::Memory;
 pub use running::Halt;
+pub use workers::run_worker;

@@ -33,7 +33,11 @@ use tpw_occam_scoped::Process;
 use tpw_occam_tree::{Name, Primitive};
 
 /// The scoped core that is made of a text: it receives the packet, and sends the result.
-pub fn resolve(alloc: Global, source: &Source<'_>, room: u32) -> Result<Process, Fault>
+pub fn resolve<'a>(
+    alloc: Global,
+    source: &'a Source<'a>,
+    room: u32,
+) -> Result<Process, Fault>
     ensures { IfOk result (λ made. MeansText source.now (λ packet. meant (run made (first packet)))) }
 {
     declarations(alloc, &Scope::Empty, 0, &source.declarations, room)

@@ -1,4 +1,4 @@
-use Rattle.tpw_occam_workers.proofs.texts.+behind.Given as goal
+use Rattle.tpw_occam_workers.proofs.texts.+rest.Given as goal
 
 abbrev pub decreases-array_declared : goal.decreases-array_declared
 decreases-array_declared l = l.room
