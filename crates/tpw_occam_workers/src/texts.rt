@@ -118,12 +118,12 @@ fn worker<'a>(
         return Err(Fault::Wrong);
     };
     let receiving = Scope::Within(
-        packet,
+        packet.text,
         Meaning::Carrier(Channel::Packet, carry.packet),
         &*scope,
     );
     let sending = Scope::Within(
-        output,
+        output.text,
         Meaning::Carrier(Channel::Output, carry.output),
         &receiving,
     );
@@ -151,7 +151,7 @@ fn traced<'a>(
         (Some(protocol), _) => match first_parameter(takes) {
             Some((name, Parameters::End)) => {
                 let within = Scope::Within(
-                    name,
+                    name.text,
                     Meaning::Carrier(Channel::Traces, protocol),
                     &*scope,
                 );
@@ -231,7 +231,7 @@ fn declared<'a>(
             let word = word_passed(d, &value);
             let within = Scope::Within(name.text, Meaning::Fixed(of, word), &*scope);
             let body = behind(alloc, &within, depth_behind(d, &value)?, rest, room - 1)?;
-            Ok(Process::passed_to(alloc, d, value, body)?)
+            Ok(Process::passed_to(alloc, Some(name.span), d, value, body)?)
         }
         Declaration::Variables { of, names } => {
             if is_single(&of.sizes) {
@@ -384,7 +384,7 @@ fn variables<'a>(
         Names::More(name, more) => {
             let within = Scope::Within(name.text, Meaning::Variable(of, d), &*scope);
             let body = variables(alloc, &within, next(d)?, of, more, rest, room - 1)?;
-            Ok(Process::variable(alloc, d, cell_kind(of), body)?)
+            Ok(Process::variable(alloc, name.span, d, cell_kind(of), body)?)
         }
     }
 }
@@ -418,7 +418,7 @@ fn arrays<'a>(
             };
             let within = Scope::Within(name.text, Meaning::Whole(view), &*scope);
             let body = arrays(alloc, &within, next(d)?, kind, size, more, rest, room - 1)?;
-            Ok(Process::array(alloc, d, bytes_of(kind, size)?, body)?)
+            Ok(Process::array(alloc, name.span, d, bytes_of(kind, size)?, body)?)
         }
     }
 }
