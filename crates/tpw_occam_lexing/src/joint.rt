@@ -85,7 +85,8 @@ impl<'a> Joint<'a> {
             (option_map (λ lines. written line.entry ∷ lines) more)) }
     {
         let goes_on = above.is_open() && (self.is_clean || !above.ends_wrong);
-        match joining_of(goes_on, above.indent, line.indent, line.begins_between()) {
+        let begins_between = line.begins_between() && (self.is_clean || line.begins_at_once());
+        match joining_of(goes_on, above.indent, line.indent, begins_between) {
             Joining::Behind => {
                 self.pending = Some(above.with(line)?);
                 Ok(())

@@ -217,6 +217,14 @@ impl<'a> Line<'a> {
         is_between(first)
     }
 
+    /// Whether its first token stands behind nothing but spaces.
+    pub(crate) fn begins_at_once(&self) -> bool {
+        match self.items.first() {
+            Some(item) => item.span.column == self.indent.saturating_add(1),
+            None => false,
+        }
+    }
+
     /// The line that goes on with another.
     pub(crate) fn with(self, line: Line<'a>) -> Result<Line<'a>, AllocError>
         ensures { IfOk result (λ whole. written whole ≡ with_rest (written self.entry) (written line.entry)) }

@@ -23,7 +23,7 @@ use Rattle.tpw_occam_meaning.specs.declared.types.Names.{Names}
 use Rattle.tpw_occam_meaning.specs.declared.types.Names.TheVariants as names
 use Rattle.tpw_occam_meaning.specs.declared.types.Sizes.{Sizes}
 use Rattle.tpw_occam_meaning.specs.declared.types.Sizes.TheVariants as sizes
-use Rattle.tpw_occam_meaning.specs.declared.types.Type.{Type}
+use Rattle.tpw_occam_meaning.specs.declared.types.Type as written
 use Rattle.tpw_occam_meaning.specs.declared.types.Parameters.{Parameters}
 use Rattle.tpw_occam_meaning.specs.declared.types.Parameters.TheVariants as parameters
 
@@ -129,10 +129,10 @@ sizes_spelled (sizes.Open' p others) more =
 sizes_spelled (sizes.Of' size p others) more =
     Sign symbol.OpenSquare ∷ spelled size (Sign symbol.CloseSquare ∷ sizes_spelled others more)
 
-abbrev pub type_spelled : Type → List Lexeme → List Lexeme
+abbrev pub type_spelled : written.Type → List Lexeme → List Lexeme
 type_spelled of more = sizes_spelled of.sizes (of_primitive of.of ∷ more)
 
-abbrev pub type_if : Option Type → List Lexeme → List Lexeme
+abbrev pub type_if : Option written.Type → List Lexeme → List Lexeme
 type_if None more = more
 type_if (Some of) more = type_spelled of more
 

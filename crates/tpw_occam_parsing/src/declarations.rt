@@ -1,0 +1,207 @@
+//! Declarations of one line, and the line that a PROC begins with.
+
+use crate::draft::{DeclarationNode, Draft, ExpressionId, SizeNode, Stretch, TypeNode};
+use crate::expressions::{MAX_DEPTH, expression, primitive, wanted};
+use crate::parts::{
+    Part, around, behind, behind_first, front, keyword_of, name_of, place, position_of,
+    position_of_keyword, symbol_of, within,
+};
+use crate::phrases::{front_type, name, names, parameters};
+use crate::stop::Stop;
+use std::alloc::AllocError;
+use tpw_occam_lexing::{Keyword, Symbol};
+use tpw_occam_tree::{Fault, FaultKind, Name, Primitive, Span, Unsupported, Wanted};
+
+/// The expression that parts spell.
+pub(crate) fn value<'a>(
+    draft: &mut Draft<'a>,
+    parts: &[Part<'a>],
+    end: Span,
+) -> Result<ExpressionId, Stop> {
+    expression(draft, parts, end, MAX_DEPTH)
+}
+
+/// The parts in front of the colon that ends a declaration, and the colon's place.
+fn up_to_colon<'t, 'a>(parts: &'t [Part<'a>], end: Span) -> Result<(&'t [Part<'a>], Span), Stop> {
+    let Some(at) = position_of(parts, Symbol::Colon) else {
+        return wanted(Wanted::Colon, end);
+    };
+    let (front, rest) = around(parts, at);
+    if let Some(more) = rest.first() {
+        return wanted(Wanted::Nothing, more.span);
+    }
+    Ok((front, place(behind(parts, at), end)))
+}
+
+/// `VAL n IS e:`, behind `VAL`.
+fn value_declaration<'a>(
+    draft: &mut Draft<'a>,
+    parts: &[Part<'a>],
+    end: Span,
+) -> Result<DeclarationNode<'a>, Stop> {
+    let (parts, end) = up_to_colon(parts, end)?;
+    let (of, count) = match front_type(draft, parts, end)? {
+        Some((of, count)) => (Some(of), count),
+        None => (None, 0),
+    };
+    let rest = behind(parts, count);
+    let Some(at) = position_of_keyword(rest, Keyword::Is) else {
+        return wanted(Wanted::Is, place(behind_first(rest), end));
+    };
+    let (front, spelled) = around(rest, at);
+    let name = name(front, place(behind(rest, at), end))?;
+    let value = value(draft, spelled, end)?;
+    Ok(DeclarationNode::Value { of, name, value })
+}
+
+/// The parameters in brackets, which are the first part.
+fn bracketed<'a>(
+    draft: &mut Draft<'a>,
+    parts: &[Part<'a>],
+    end: Span,
+) -> Result<Stretch, Stop> {
+    if symbol_of(parts) != Some(Symbol::OpenRound) {
+        return wanted(Wanted::Parameters, place(parts, end));
+    }
+    let (inner, close) = within(parts, end);
+    parameters(draft, inner, close)
+}
+
+/// The name and the parameters that a PROC or a FUNCTION begins with; and the parts behind them.
+fn head<'t, 'a>(
+    draft: &mut Draft<'a>,
+    parts: &'t [Part<'a>],
+    end: Span,
+) -> Result<(Name<'a>, Stretch, &'t [Part<'a>]), Stop> {
+    let name = name(front(parts, 1), end)?;
+    let rest = behind(parts, 1);
+    let parameters = bracketed(draft, rest, end)?;
+    Ok((name, parameters, behind_first(rest)))
+}
+
+/// `INT FUNCTION f (..) IS e :`, behind `FUNCTION`.
+fn function<'a>(
+    draft: &mut Draft<'a>,
+    of: Primitive,
+    parts: &[Part<'a>],
+    end: Span,
+) -> Result<DeclarationNode<'a>, Stop> {
+    let (name, parameters, rest) = head(draft, parts, end)?;
+    if rest.is_empty() {
+        return Err(Stop::Fault(Fault {
+            span: name.span,
+            kind: FaultKind::Unsupported(Unsupported::ValueProcess),
+        }));
+    }
+    if keyword_of(rest) != Some(Keyword::Is) {
+        return wanted(Wanted::Is, place(rest, end));
+    }
+    let (spelled, end) = up_to_colon(behind(rest, 1), end)?;
+    let value = value(draft, spelled, end)?;
+    Ok(DeclarationNode::Function {
+        of,
+        name,
+        parameters,
+        value,
+    })
+}
+
+/// A declaration that begins with a type: variables, another name of an array, or a function. `start` is the type's
+/// place.
+fn typed<'a>(
+    draft: &mut Draft<'a>,
+    of: TypeNode,
+    parts: &[Part<'a>],
+    start: Span,
+    end: Span,
+) -> Result<DeclarationNode<'a>, Stop> {
+    if keyword_of(parts) == Some(Keyword::Function) {
+        return match of.size {
+            SizeNode::One => function(draft, of.of, behind(parts, 1), end),
+            SizeNode::Open | SizeNode::Of(_) => wanted(Wanted::Primitive, start),
+        };
+    }
+    let (parts, end) = up_to_colon(parts, end)?;
+    let Some(at) = position_of_keyword(parts, Keyword::Retypes) else {
+        let names = names(draft, parts, end)?;
+        return Ok(DeclarationNode::Variables { of, names });
+    };
+    let (front, rest) = around(parts, at);
+    let name_end = place(behind(parts, at), end);
+    Ok(DeclarationNode::Retypes {
+        of,
+        name: name(front, name_end)?,
+        array: name(rest, end)?,
+    })
+}
+
+/// A declaration of one line; none where the line is a process.
+pub(crate) fn declaration<'a>(
+    draft: &mut Draft<'a>,
+    parts: &[Part<'a>],
+    end: Span,
+) -> Result<Option<DeclarationNode<'a>>, Stop> {
+    if keyword_of(parts) == Some(Keyword::Val) {
+        return Ok(Some(value_declaration(draft, behind(parts, 1), end)?));
+    }
+    match front_type(draft, parts, end)? {
+        Some((of, count)) => {
+            let start = place(parts, end);
+            Ok(Some(typed(draft, of, behind(parts, count), start, end)?))
+        }
+        None => Ok(None),
+    }
+}
+
+/// The head of a PROC, behind `PROC`.
+pub(crate) fn procedure_head<'a>(
+    draft: &mut Draft<'a>,
+    parts: &[Part<'a>],
+    end: Span,
+) -> Result<(Name<'a>, Stretch), Stop> {
+    let (name, parameters, rest) = head(draft, parts, end)?;
+    match rest.first() {
+        Some(more) => wanted(Wanted::Nothing, more.span),
+        None => Ok((name, parameters)),
+    }
+}
+
+/// Whether the last part is a colon.
+fn ends_by_colon(parts: &[Part<'_>]) -> bool {
+    symbol_of(behind(parts, parts.len().saturating_sub(1))) == Some(Symbol::Colon)
+}
+
+/// Whether parts of a line with a fault are a declaration, as it seems.
+pub(crate) fn seems_declaration(parts: &[Part<'_>]) -> bool {
+    if ends_by_colon(parts) {
+        return true;
+    }
+    let has_function = position_of_keyword(parts, Keyword::Function).is_some();
+    if has_function || position_of_keyword(parts, Keyword::Proc).is_some() {
+        return true;
+    }
+    match keyword_of(parts) {
+        Some(Keyword::Val) => true,
+        Some(keyword) => primitive(keyword).is_some(),
+        None => keyword_of(behind_first(parts)).and_then(primitive).is_some(),
+    }
+}
+
+/// The names that a declaration with a fault would declare: those in front of `IS` and `RETYPES`.
+pub(crate) fn declared_names<'a>(
+    draft: &mut Draft<'a>,
+    parts: &[Part<'a>],
+) -> Result<Stretch, AllocError> {
+    let mut names = Vec::new(draft.alloc);
+    let mut rest = parts;
+    for _ in 0..parts.len() {
+        if matches!(keyword_of(rest), Some(Keyword::Is | Keyword::Retypes)) {
+            break;
+        }
+        if let Some(name) = name_of(rest) {
+            names.push(name)?;
+        }
+        rest = behind_first(rest);
+    }
+    draft.name_list(&names)
+}
