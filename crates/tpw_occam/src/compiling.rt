@@ -11,12 +11,18 @@ use crate::names::{Located, located_in};
 use std::alloc::{AllocError, Global};
 use tpw_asm::{Assembled, Program};
 use tpw_debug::Diagnostic;
+use tpw_occam_checking::{CheckError, check};
 use tpw_occam_code::compile;
-use tpw_occam_core::Worker;
-use tpw_occam_elaboration::{Elaborated, ElaborationError, Fault, FaultKind, elaborate};
+use tpw_occam_core::{Worker, is_sound};
+use tpw_occam_faults::{Fault, Note};
+use tpw_occam_meaning::Source;
+use tpw_occam_placing::{Declared, names_of, place};
+use tpw_occam_reading::{Parsed, Standing, parse};
 use tpw_occam_symbolic::{CodeFault, Compiled};
-use tpw_occam_syntax::parse;
-use tpw_occam_tree::Source;
+use tpw_occam_workers::resolve;
+
+/// The most that lies within one another in a text that the check lets pass, in calls of a pass over its tree.
+const ROOM: u32 = 10_000;
 
 /// A text, compiled.
 #[derive(Drop)]
@@ -39,9 +45,6 @@ pub struct CompiledText<'t> {
 fn refused(alloc: Global, text: &str, faults: &[Fault<'_>]) -> OccamFault
     ensures { IsRefusal text.now result }
 {
-    if faults.iter().any(|fault| fault.kind == FaultKind::Compiler) {
-        return OccamFault::Compiler(Defect::Unsound);
-    }
     let Ok(diagnostics) = faults_of(alloc, text, faults) else {
         return OccamFault::Memory;
     };
@@ -80,21 +83,37 @@ fn without_code(alloc: Global, text: &str, fault: CodeFault) -> OccamFault
     }
 }
 
+/// What a text means, and what is declared in it.
+#[derive(Drop)]
+struct Made {
+    worker: Worker,
+    declared: Vec<Declared>,
+}
+
+/// The worker that does what a tree means.
+fn worker_of<'t>(alloc: Global, source: &'t Source<'t>) -> Result<Made, OccamFault>
+    ensures sound { IfOk result (λ made. is_sound made.worker ≡ true) }
+{
+    let scoped = resolve(alloc, source, ROOM)?;
+    let worker = place(alloc, &scoped, ROOM)?;
+    if !is_sound(alloc, &worker)? {
+        return Err(OccamFault::Compiler(Defect::Unsound));
+    }
+    let declared = names_of(alloc, &scoped)?;
+    Ok(Made { worker, declared })
+}
+
 /// The program of a worker that a text says.
 fn compiled<'t>(
     alloc: Global,
     text: &'t str,
-    elaborated: Elaborated<'_>,
+    made: Made,
+    notes: &[Note<'_>],
 ) -> Result<CompiledText<'t>, OccamFault>
-    requires { is_sound elaborated.worker ≡ true }
+    requires { is_sound made.worker ≡ true }
     ensures { IsCompilation text.now result }
 {
-    let Elaborated {
-        worker,
-        variables,
-        arrays,
-        notes,
-    } = elaborated;
+    let Made { worker, declared } = made;
     match compile(alloc, &worker) {
         Ok(
             Compiled {
@@ -105,8 +124,8 @@ fn compiled<'t>(
                 placed,
             },
         ) => {
-            let located = located_in(alloc, text, &placed, &variables, &arrays)?;
-            let warnings = warnings_of(alloc, text, &notes)?;
+            let located = located_in(alloc, text, &placed, &declared)?;
+            let warnings = warnings_of(alloc, text, notes)?;
             Ok(CompiledText {
                 worker,
                 program,
@@ -123,7 +142,7 @@ fn compiled<'t>(
 
 /// The tree of a text. It stays allocated until the program ends: the kit's borrow checker shortens no lifetime within
 /// a tree, so one that is dropped earlier could not be borrowed.
-fn tree_of<'t>(alloc: Global, text: &'t str) -> Result<&'t Source<'t>, AllocError> {
+fn tree_of<'t>(alloc: Global, text: &'t str) -> Result<&'t Parsed<'t>, AllocError> {
     let tree = Box::new(alloc, parse(alloc, text)?)?;
     Ok(Box::leak(tree))
 }
@@ -132,9 +151,17 @@ fn tree_of<'t>(alloc: Global, text: &'t str) -> Result<&'t Source<'t>, AllocErro
 pub fn compile_text<'t>(alloc: Global, text: &'t str) -> Result<CompiledText<'t>, OccamFault>
     ensures { IsCompilation text.now result }
 {
-    match elaborate(alloc, text, tree_of(alloc, text)?) {
-        Ok(elaborated) => compiled(alloc, text, elaborated),
-        Err(ElaborationError::Faults(faults)) => Err(refused(alloc, text, &faults)),
-        Err(ElaborationError::Memory) => Err(OccamFault::Memory),
+    let parsed = tree_of(alloc, text)?;
+    let source = if parsed.is_laid_out { Some(&parsed.source) } else { None };
+    match check(alloc, text, source, &parsed.faults) {
+        Ok(notes) => {
+            if parsed.standing != Standing::Read {
+                return Err(OccamFault::Compiler(Defect::Misread));
+            }
+            let made = worker_of(alloc, &parsed.source)?;
+            compiled(alloc, text, made, &notes)
+        }
+        Err(CheckError::Faults(faults)) => Err(refused(alloc, text, &faults)),
+        Err(CheckError::Memory) => Err(OccamFault::Memory),
     }
 }

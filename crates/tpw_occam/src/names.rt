@@ -1,11 +1,13 @@
 //! Names of a text, and the workspace words that they have.
 
 use std::alloc::{AllocError, Global};
-use tpw_occam_elaboration::Named;
+use tpw_occam_core::Place;
+use tpw_occam_placing::Declared;
 use tpw_occam_symbolic::{Item, Placed, START};
 use tpw_occam_tree::Span;
 
-/// A name of a variable or of an array, and its words of the workspace.
+/// A name of a variable or of an array, and its words of the workspace. What is never in scope together may have the
+/// same words.
 #[derive(Clone, Copy, Debug, PartialEq, Eq)]
 pub struct Located<'t> {
     pub name: &'t str,
@@ -21,27 +23,38 @@ fn said_at<'t>(lines: &[&'t str], span: Span) -> Option<&'t str> {
     line.get(first..first.saturating_add(span.width))
 }
 
-/// An item under its name, where it has one in the text. The word behind a loop's index has none.
-fn named_item<'t>(
+/// Where an item lies in a worker, and how many words have its name. The word behind a loop's index has none.
+fn named_item(placed: Placed) -> Option<(Place, u32)> {
+    match placed.item {
+        Item::Variable(x) => Some((Place::Variable(x), 1)),
+        Item::Array(a) => Some((Place::Array(a), placed.words)),
+        Item::Temporary(_) | Item::Constant(_) | Item::Zeros => None,
+    }
+}
+
+/// Adds the names of an item, each once.
+fn add_names<'t>(
+    names: &mut Vec<Located<'t>>,
     lines: &[&'t str],
     placed: Placed,
-    variables: &[Named<'_>],
-    arrays: &[Named<'_>],
-) -> Option<Located<'t>> {
-    let (named, words) = match placed.item {
-        Item::Variable(x) => (variables.get(x)?, 1),
-        Item::Array(a) => (arrays.get(a)?, placed.words),
-        Item::Temporary(_) | Item::Constant(_) | Item::Zeros => return None,
+    declared: &[Declared],
+) -> Result<(), AllocError> {
+    let Some((place, words)) = named_item(placed) else {
+        return Ok(());
     };
-    let name = said_at(lines, named.span)?;
-    if name != named.text {
-        return None;
+    for one in declared {
+        if let (true, Some(name)) = (one.place == place, said_at(lines, one.name)) {
+            let located = Located {
+                name,
+                first: START.saturating_add(placed.local),
+                words,
+            };
+            if !names.contains(&located) {
+                names.push(located)?;
+            }
+        }
     }
-    Some(Located {
-        name,
-        first: START.saturating_add(placed.local),
-        words,
-    })
+    Ok(())
 }
 
 /// The names of items that have one in the text.
@@ -49,15 +62,12 @@ pub(crate) fn located_in<'t>(
     alloc: Global,
     text: &'t str,
     all: &[Placed],
-    variables: &[Named<'_>],
-    arrays: &[Named<'_>],
+    declared: &[Declared],
 ) -> Result<Vec<Located<'t>>, AllocError> {
     let lines: Vec<&'t str> = text.lines().collect(alloc)?;
     let mut names = Vec::new(alloc);
     for placed in all {
-        if let Some(name) = named_item(&lines, *placed, variables, arrays) {
-            names.push(name)?;
-        }
+        add_names(&mut names, &lines, *placed, declared)?;
     }
     Ok(names)
 }
