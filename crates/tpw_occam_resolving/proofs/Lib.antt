@@ -5,3 +5,4 @@ pub mod Operating
 pub mod Selecting
 pub mod Sending
 pub mod Sequencing
+pub mod Spelling

@@ -12,6 +12,7 @@ use crate::depths::{depth_behind, word_passed};
 use crate::operands::{compared, operands_of};
 use crate::operators::{converted, of_one, of_two};
 use crate::parameters::first;
+use crate::texts::text_bytes;
 use crate::values::{
     element, is_type, named_value, size_value, spelled_character, spelled_number, typed,
 };
@@ -279,6 +280,10 @@ pub fn array<'s, 'a>(
             _ => Err(Fault::Wrong),
         },
         Expression::Bracketed { within, .. } => array(alloc, scope, within, shape, room - 1),
+        Expression::Text { spelled, .. } => {
+            let bytes = text_bytes(alloc, spelled, room)?;
+            table(Kind::Byte, bytes, shape)
+        }
         Expression::Table { items, .. } => {
             let bytes = elements_of(alloc, scope, items, shape.kind, room - 1)?;
             table(shape.kind, bytes, shape)

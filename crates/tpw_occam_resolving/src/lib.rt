@@ -14,6 +14,7 @@ mod operators;
 mod parameters;
 mod processes;
 mod targets;
+mod texts;
 mod types;
 mod values;
 
@@ -23,6 +24,7 @@ pub use declarations::{
 };
 pub use depths::{depth_behind, next, word_passed};
 pub use expressions::{array, value};
+pub use lines::line_of;
 pub use messages::message;
 pub use parameters::first;
 pub use processes::process;

@@ -9,7 +9,7 @@ use tpw_occam_scoped::Process;
 use tpw_occam_tree::Span;
 
 /// The line of a place, as a core keeps it.
-fn line_of(span: Span) -> u32 {
+pub fn line_of(span: Span) -> u32 {
     u32::try_from(span.line).unwrap_or(u32::MAX)
 }
 

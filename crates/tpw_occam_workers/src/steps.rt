@@ -14,14 +14,9 @@ use crate::ends::{array_received, sent, word_received};
 use std::alloc::Global;
 use tpw_occam_meaning::{Expression, Process as Tree, Processes};
 use tpw_occam_names::{Fault, Protocol, Scope, Shape};
-use tpw_occam_resolving::{array, is_type, message, process, target_of, view, written_array};
+use tpw_occam_resolving::{array, is_type, line_of, message, process, target_of, view, written_array};
 use tpw_occam_scoped::Process;
 use tpw_occam_tree::{Name, Primitive, Span};
-
-/// The line of a step.
-fn line(span: Span) -> u32 {
-    u32::try_from(span.line).unwrap_or(u32::MAX)
-}
 
 /// The packet goes to a variable or an element, or to an array.
 fn received<'a>(
@@ -72,7 +67,7 @@ pub(crate) fn first<'a>(
 {
     let protocol = packet(scope, channel)?;
     let received = received(alloc, scope, d, protocol, e, room)?;
-    Ok(Process::at(alloc, line(span), received)?)
+    Ok(Process::at(alloc, line_of(span), received)?)
 }
 
 /// The result, to its channel.
@@ -91,7 +86,7 @@ fn last<'a>(
 {
     let protocol = output(scope, channel)?;
     let message = message(alloc, scope, d, protocol, e, room)?;
-    Ok(Process::at(alloc, line(span), sent(message))?)
+    Ok(Process::at(alloc, line_of(span), sent(message))?)
 }
 
 /// The steps behind the packet, of which the last sends the result.
@@ -112,11 +107,9 @@ pub(crate) fn finished<'a>(
     };
     match &**more {
         Processes::End => match &**step {
-            Tree::Send {
-                channel,
-                value,
-                span,
-            } => { last(alloc, scope, d, *channel, value, *span, room) }
+            Tree::Send { channel, value, span } => {
+                last(alloc, scope, d, *channel, value, *span, room)
+            }
             _ => Err(Fault::Wrong),
         },
         Processes::More(_, _) => {

@@ -32,6 +32,9 @@ use tpw_occam_resolving::{
 use tpw_occam_scoped::Process;
 use tpw_occam_tree::{Name, Primitive};
 
+
+
+
 /// The scoped core that is made of a text: it receives the packet, and sends the result.
 pub fn resolve<'a>(
     alloc: Global,
@@ -82,11 +85,9 @@ fn declarations<'a>(
     };
     match &**more {
         Declarations::End => match declaration {
-            Declaration::Procedure {
-                parameters,
-                body,
-                ..
-            } if d == 0 => { worker(alloc, scope, parameters, body, room - 1) }
+            Declaration::Procedure { parameters, body, .. } if d == 0 => {
+                worker(alloc, scope, parameters, body, room - 1)
+            }
             _ => Err(Fault::Wrong),
         },
         Declarations::More(_, _) => {
@@ -117,11 +118,7 @@ fn worker<'a>(
     let Some((output, others)) = first_parameter(others) else {
         return Err(Fault::Wrong);
     };
-    let receiving = Scope::Within(
-        packet.text,
-        Meaning::Carrier(Channel::Packet, carry.packet),
-        &*scope,
-    );
+    let receiving = Scope::Within(packet.text, Meaning::Carrier(Channel::Packet, carry.packet), &*scope);
     let sending = Scope::Within(
         output.text,
         Meaning::Carrier(Channel::Output, carry.output),
@@ -150,11 +147,8 @@ fn traced<'a>(
         (None, Parameters::End) => body(alloc, scope, 0, p, room - 1),
         (Some(protocol), _) => match first_parameter(takes) {
             Some((name, Parameters::End)) => {
-                let within = Scope::Within(
-                    name.text,
-                    Meaning::Carrier(Channel::Traces, protocol),
-                    &*scope,
-                );
+                let within =
+                    Scope::Within(name.text, Meaning::Carrier(Channel::Traces, protocol), &*scope);
                 body(alloc, &within, 0, p, room - 1)
             }
             _ => Err(Fault::Wrong),
@@ -184,11 +178,7 @@ fn body<'a>(
         } => declared(alloc, scope, d, declaration, Rest::Body(process), room - 1),
         Tree::Sequence { steps, .. } => match &**steps {
             Processes::More(step, more) => match &**step {
-                Tree::Receive {
-                    channel,
-                    target,
-                    span,
-                } => {
+                Tree::Receive { channel, target, span } => {
                     let received = first(alloc, scope, d, *channel, target, *span, room)?;
                     let rest = finished(alloc, scope, d, more, room)?;
                     Ok(Process::sequence(alloc, received, rest)?)

@@ -1,0 +1,24 @@
+use Rattle.std.proofs.lemmas.Result.{IfOk-weaker}
+use Rattle.tpw_occam_names.specs.Scopes.{names_of}
+use Rattle.tpw_occam_resolving.proofs.Declaring.{procedure_done}
+use Rattle.tpw_occam_scoped.specs.Made.{effect_of}
+use Rattle.tpw_occam_workers.specs.Behind.{after_of}
+use Rattle.tpw_occam_workers.proofs.Behind.{text_behind}
+use Rattle.tpw_occam_workers.proofs.texts.+rest.Goals as goal
+
+pub declarations-returns-in-More-deref : goal.declarations-returns-in-More-deref
+declarations-returns-in-More-deref t c =
+    IfOk-weaker c.declared.result _ _
+    (λ made h. text_behind c.args.list.now c.in-More.declaration c.in-More.more c.deref.result.now
+    c.deref-in-More-deref.result.now c.in-More-deref.field-0 c.in-More-deref.field-1 (names_of c.args.scope.now) c.args.d
+    (effect_of made) c.in-More.is c.deref.ensures c.in-More-deref.is c.deref-in-More-deref.ensures h)
+    c.declared.ensures
+
+pub declared-returns-in_ok-forms-in-Procedure : goal.declared-returns-in_ok-forms-in-Procedure
+declared-returns-in_ok-forms-in-Procedure t c =
+    IfOk-weaker c.procedure_declared.result _ _
+    (λ made h. procedure_done c.args.declaration.now (after_of c.args.rest) (names_of c.args.scope.now) c.args.d
+    c.in-Procedure.name c.in-Procedure.parameters c.in-Procedure.body c.deref-in-Procedure.result.now c.deref.result.now
+    c.in_ok-forms-in-Procedure.forms.items (effect_of made) c.in-Procedure.is c.deref-in-Procedure.ensures
+    c.in_ok-forms-in-Procedure.ensures c.deref.ensures.value h)
+    c.procedure_declared.ensures
