@@ -11,4 +11,4 @@ mod writing;
 
 pub use memory::Memory;
 pub use running::Halt;
-pub use workers::run_worker;
+pub use workers::{begin, run_worker, value_in};

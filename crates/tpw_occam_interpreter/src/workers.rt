@@ -7,14 +7,15 @@ ghost use Rattle.tpw_occam_scoped.specs.Meaning as scoped;
 ghost use Rattle.tpw_occam_interpreter.specs.Memories.{state_of};
 ghost use Rattle.tpw_occam_interpreter.specs.Workers.{IsGiven};
 
-use crate::memory::Memory;
+use crate::expressions::value;
+use crate::memory::{Cells, Memory};
 use crate::running::{Halt, run};
 use std::alloc::{AllocError, Global};
-use tpw_occam_core::{Given, MAX_TRACED};
-use tpw_occam_scoped::Process;
+use tpw_occam_core::{Answer, Given, MAX_TRACED};
+use tpw_occam_scoped::{Expression, Process};
 
 /// The memory in which a worker begins.
-fn first(alloc: Global, packet: &[u8]) -> Result<Memory, AllocError>
+pub fn begin(alloc: Global, packet: &[u8]) -> Result<Memory, AllocError>
     ensures { IfOk result (λ memory. state_of memory ≡ first packet.now) }
 {
     Ok(Memory {
@@ -25,6 +26,13 @@ fn first(alloc: Global, packet: &[u8]) -> Result<Memory, AllocError>
         traced: Vec::new(alloc),
         result: Vec::new(alloc),
     })
+}
+
+/// The value of an expression.
+pub fn value_in(memory: &Memory, e: &Expression) -> Answer
+    ensures { result ≡ scoped.value_of e.now (state_of memory.now) }
+{
+    value(&Cells::Of(memory), e)
 }
 
 /// What is given in the end: nothing where more is traced than may be.
@@ -45,7 +53,7 @@ fn given(memory: Memory) -> Option<Given>
 pub fn run_worker(alloc: Global, p: &Process, packet: &[u8]) -> Result<Option<Given>, AllocError>
     ensures { IfOk result (IsGiven (meant (scoped.run p.now (first packet.now)))) }
 {
-    let mut memory = first(alloc, packet)?;
+    let mut memory = begin(alloc, packet)?;
     match run(alloc, &mut memory, p) {
         Ok(()) => Ok(given(memory)),
         Err(Halt::Lost) => Ok(None),

@@ -67,7 +67,7 @@ fn put_in_array(arrays: &mut Vec<Vec<u8>>, a: usize, kind: Kind, i: u32, word: u
 
 impl Memory {
     /// A cell has a word.
-    pub(crate) fn write(&mut self, x: usize, word: u32) -> Result<(), AllocError>
+    pub fn write(&mut self, x: usize, word: u32) -> Result<(), AllocError>
         ensures { OnOk result (state_of self.new ≡ state.with_cell x word (state_of self.old)) }
     {
         put_word(&mut self.cells, x, word)
@@ -101,12 +101,7 @@ impl Memory {
     }
 
     /// An array has so many bytes, which are 0.
-    pub(crate) fn clear_array(
-        &mut self,
-        alloc: Global,
-        a: usize,
-        count: usize,
-    ) -> Result<(), AllocError>
+    pub fn clear_array(&mut self, alloc: Global, a: usize, count: usize) -> Result<(), AllocError>
         ensures { OnOk result (state_of self.new ≡ state.with_array a (replicate count 0) (state_of self.old)) }
     {
         let bytes = vec![in alloc; 0u8; count]?;

@@ -248,8 +248,7 @@ impl Keyword {
     /// What occam has, and this language has not, where it is a word of that.
     pub fn unsupported(self) -> Option<Unsupported> {
         match self {
-            Keyword::Alt
-            | Keyword::Pri => Some(Unsupported::Alternative),
+            Keyword::Alt | Keyword::Pri => Some(Unsupported::Alternative),
             Keyword::At
             | Keyword::Place
             | Keyword::Placed
@@ -266,17 +265,13 @@ impl Keyword {
             | Keyword::Type => Some(Unsupported::Type),
             Keyword::From => Some(Unsupported::Slice),
             Keyword::Inline => Some(Unsupported::Inline),
-            Keyword::Int16
-            | Keyword::Int32
-            | Keyword::Int64 => Some(Unsupported::Width),
+            Keyword::Int16 | Keyword::Int32 | Keyword::Int64 => Some(Unsupported::Width),
             Keyword::Par => Some(Unsupported::Par),
-            Keyword::Real32
-            | Keyword::Real64
-            | Keyword::Round
-            | Keyword::Trunc => Some(Unsupported::Real),
+            Keyword::Real32 | Keyword::Real64 | Keyword::Round | Keyword::Trunc => Some(
+                Unsupported::Real,
+            ),
             Keyword::Reshapes => Some(Unsupported::Reshape),
-            Keyword::Result
-            | Keyword::ValOf => Some(Unsupported::ValueProcess),
+            Keyword::Result | Keyword::ValOf => Some(Unsupported::ValueProcess),
             Keyword::Step => Some(Unsupported::Step),
             Keyword::Timer => Some(Unsupported::Timer),
             Keyword::While => Some(Unsupported::While),

@@ -178,7 +178,12 @@ fn is_between(token: Option<Token<'_>>) -> bool
 }
 
 /// How a line belongs to the one above, which goes on or does not.
-pub(crate) fn joining_of(goes_on: bool, above: usize, indent: usize, begins_between: bool) -> Joining
+pub(crate) fn joining_of(
+    goes_on: bool,
+    above: usize,
+    indent: usize,
+    begins_between: bool,
+) -> Joining
     ensures { result ≡ joining goes_on above indent begins_between }
 {
     if goes_on {

@@ -55,11 +55,7 @@ fn value_declaration<'a>(
 }
 
 /// The parameters in brackets, which are the first part.
-fn bracketed<'a>(
-    draft: &mut Draft<'a>,
-    parts: &[Part<'a>],
-    end: Span,
-) -> Result<Stretch, Stop> {
+fn bracketed<'a>(draft: &mut Draft<'a>, parts: &[Part<'a>], end: Span) -> Result<Stretch, Stop> {
     if symbol_of(parts) != Some(Symbol::OpenRound) {
         return wanted(Wanted::Parameters, place(parts, end));
     }
@@ -183,7 +179,9 @@ pub(crate) fn seems_declaration(parts: &[Part<'_>]) -> bool {
     match keyword_of(parts) {
         Some(Keyword::Val) => true,
         Some(keyword) => primitive(keyword).is_some(),
-        None => keyword_of(behind_first(parts)).and_then(primitive).is_some(),
+        None => keyword_of(behind_first(parts))
+            .and_then(primitive)
+            .is_some(),
     }
 }
 

@@ -2,8 +2,8 @@
 
 use crate::draft::{Draft, ExpressionId, ExpressionNode, Stretch};
 use crate::parts::{
-    Part, behind, behind_first, front, keyword_of, name_of, place, symbol_of, up_to_comma, width_of,
-    within,
+    Part, behind, behind_first, front, keyword_of, name_of, place, symbol_of, up_to_comma,
+    width_of, within,
 };
 use crate::stop::Stop;
 use tpw_occam_lexing::{Keyword, Symbol, Token};

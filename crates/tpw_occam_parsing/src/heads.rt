@@ -1,11 +1,7 @@
 //! What a line says by itself, whatever stands below it.
 
-use crate::declarations::{
-    declaration, declared_names, procedure_head, seems_declaration, value,
-};
-use crate::draft::{
-    DeclarationNode, Draft, ExpressionId, ExpressionNode, ProcessNode, Stretch,
-};
+use crate::declarations::{declaration, declared_names, procedure_head, seems_declaration, value};
+use crate::draft::{DeclarationNode, Draft, ExpressionId, ExpressionNode, ProcessNode, Stretch};
 use crate::expressions::{ListKind, MAX_DEPTH, listed, wanted};
 use crate::parts::{
     Part, around, behind, behind_first, keyword_of, name_of, place, position_of,
@@ -240,7 +236,11 @@ fn small_keyword(parts: &[Part<'_>]) -> Option<Span> {
 }
 
 /// A process of one line that begins with no keyword: an assignment, a message or a call.
-fn simple<'a>(draft: &mut Draft<'a>, parts: &[Part<'a>], row: Row) -> Result<ProcessNode<'a>, Stop> {
+fn simple<'a>(
+    draft: &mut Draft<'a>,
+    parts: &[Part<'a>],
+    row: Row,
+) -> Result<ProcessNode<'a>, Stop> {
     if let Some(at) = position_of(parts, Symbol::Becomes) {
         return assignment(draft, parts, at, row);
     }
@@ -356,13 +356,8 @@ pub(crate) fn wrong_head<'a>(
 /// What stands below a line that begins with a keyword.
 fn below_of(keyword: Option<Keyword>) -> Below {
     match keyword {
-        Some(
-            Keyword::Seq
-            | Keyword::Proc
-            | Keyword::While
-            | Keyword::Par
-            | Keyword::Inline,
-        ) => Below::Processes,
+        Some(Keyword::Seq | Keyword::Proc | Keyword::While | Keyword::Par | Keyword::Inline) =>
+            Below::Processes,
         Some(Keyword::If) => Below::Choices,
         Some(Keyword::Case) => Below::Cases,
         _ => Below::Unknown,

@@ -114,10 +114,7 @@ pub(crate) fn flat_parts<'a>(
         let is_bracket = matches!(
             item.token,
             Token::Symbol(
-                Symbol::OpenRound
-                | Symbol::CloseRound
-                | Symbol::OpenSquare
-                | Symbol::CloseSquare,
+                Symbol::OpenRound | Symbol::CloseRound | Symbol::OpenSquare | Symbol::CloseSquare,
             )
         );
         if !is_bracket {
@@ -164,10 +161,7 @@ pub(crate) fn within<'t, 'a>(parts: &'t [Part<'a>], end: Span) -> (&'t [Part<'a>
 }
 
 /// So many parts behind the first, and those behind them.
-fn around_first<'t, 'a>(
-    parts: &'t [Part<'a>],
-    count: usize,
-) -> (&'t [Part<'a>], &'t [Part<'a>]) {
+fn around_first<'t, 'a>(parts: &'t [Part<'a>], count: usize) -> (&'t [Part<'a>], &'t [Part<'a>]) {
     let rest = behind(parts, 1);
     rest.split_at(count.min(rest.len()))
 }

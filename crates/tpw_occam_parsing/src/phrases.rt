@@ -3,8 +3,8 @@
 use crate::draft::{Draft, ParameterNode, SizeNode, Stretch, TypeNode};
 use crate::expressions::{MAX_DEPTH, expression, primitive, wanted};
 use crate::parts::{
-    Part, behind, behind_first, front, keyword_of, name_of, place, symbol_of, up_to_comma, width_of,
-    within,
+    Part, behind, behind_first, front, keyword_of, name_of, place, symbol_of, up_to_comma,
+    width_of, within,
 };
 use crate::stop::Stop;
 use tpw_occam_lexing::{Keyword, Symbol};
@@ -46,11 +46,7 @@ pub(crate) fn names<'a>(
 }
 
 /// The size of an array, in square brackets.
-fn size<'a>(
-    draft: &mut Draft<'a>,
-    inner: &[Part<'a>],
-    close: Span,
-) -> Result<SizeNode, Stop> {
+fn size<'a>(draft: &mut Draft<'a>, inner: &[Part<'a>], close: Span) -> Result<SizeNode, Stop> {
     if inner.is_empty() {
         return Ok(SizeNode::Open);
     }

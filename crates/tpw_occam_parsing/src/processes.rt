@@ -34,7 +34,7 @@ struct Level {
     declared: Vec<DeclarationId>,
     /// The line of the second process.
     second: Option<Span>,
-    /// Whether a process has a fault.
+    /// Whether a process that no declaration stands in front of has a fault.
     is_wrong: bool,
 }
 
@@ -181,7 +181,8 @@ impl<'a> Parser<'_, 'a> {
                 if level.steps.len() == 1 {
                     level.second = Some(line);
                 }
-                level.is_wrong = level.is_wrong || matches!(node, ProcessNode::Wrong);
+                let is_bare = level.declared.is_empty();
+                level.is_wrong = level.is_wrong || (is_bare && matches!(node, ProcessNode::Wrong));
                 let process = self.draft.put_process(node)?;
                 let process = self.with(&level.declared, process)?;
                 level.declared.clear();

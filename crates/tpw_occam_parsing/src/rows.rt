@@ -1,7 +1,7 @@
 //! The lines of a text, nested by their indentation: behind each stand those below it.
 
 use crate::faults::Faults;
-use crate::parts::{Part, flat_parts, front as front_parts, parts_of};
+use crate::parts::{Part, behind as behind_parts, flat_parts, front as front_parts, parts_of};
 use crate::stop::Stop;
 use std::alloc::{AllocError, Global};
 use tpw_occam_lexing::{Line, Symbol, Token};
@@ -291,10 +291,10 @@ pub(crate) fn last_of(rows: &[Row]) -> Option<Row> {
 
 /// The tokens of a line.
 pub(crate) fn parts_of_row<'t, 'a>(parts: &'t [Part<'a>], row: Row) -> &'t [Part<'a>] {
-    match parts.get(row.from..row.to) {
-        Some(own) => own,
-        None => front_parts(parts, 0),
-    }
+    front_parts(
+        behind_parts(parts, row.from),
+        row.to.saturating_sub(row.from),
+    )
 }
 
 /// Whether a line is the colon that ends a PROC.

@@ -1,8 +1,10 @@
 -- Whole workers: the first state, the packet, the steps, the result.
-use Rattle.std.proofs.Common.{◌≡◌, ◌≢◌, ◌∙◌, ℕ, zero, suc, ◌<◌, ◌||◌, nat_lt, Bool, true, false, if◌then◌else◌, Some, None}
+use Rattle.std.proofs.Common.{◌≡◌, ◌≢◌, ◌∙◌, ℕ, zero, suc, ◌<◌, ◌||◌, ◌==◌, nat_lt, Bool, true, false, if◌then◌else◌, Some, None}
 use Rattle.std.proofs.Common.{List, [], ◌∷◌, length, map, replicate, slice_index, slice_index_or, slice_set, refl, sym, ap, subst}
 use Rattle.std.proofs.Common.{length-set, get_or-set_same, get_or-set_other}
 use Rattle.std.proofs.lemmas.List.{length-map, length-replicate, set-get_or}
+use Rattle.std.specs.Prelude.{Result, Ok, Err, IfOk}
+use Rattle.std.specs.Prelude.{Option}
 use Rattle.std.specs.Borrow.{Bor}
 use Rattle.std.specs.declared.boxed.Box.{Box}
 use Rattle.std.specs.declared.alloc.Global.{Global}
@@ -17,14 +19,19 @@ use Rattle.tpw_occam_core.specs.declared.worker.Place.{Place}
 use Rattle.tpw_occam_core.specs.declared.worker.Place.TheVariants as place
 use Rattle.tpw_occam_core.specs.declared.worker.Storage.{Storage}
 use Rattle.tpw_occam_core.specs.declared.worker.Storage.TheVariants.{Zeros, Table}
+use Rattle.tp_decode.specs.Words.{complement}
+use Rattle.tp_step.specs.Numbers.{truth}
+use Rattle.tpw_occam_core.specs.Arithmetic.{plain, subscript, low_byte, applied}
 use Rattle.tpw_occam_core.specs.Arrays.{element}
-use Rattle.tpw_occam_core.specs.Meaning.{Store, with_value, with_array, first_bytes, most_traced, received}
+use Rattle.tpw_occam_core.specs.Meaning.{Store, with_value, with_array, first_bytes, most_traced, received, followed, both, either, element_at}
 use Rattle.tpw_occam_core.specs.Meaning as core
 use Rattle.tpw_occam_core.specs.Sound.{bytes_of, is_table}
 use Rattle.tpw_occam_tree.specs.declared.span.Span.{Span}
 use Rattle.tpw_occam_meaning.specs.States.{State, first}
 use Rattle.tpw_occam_meaning.specs.States as state
 use Rattle.tpw_occam_meaning.specs.Texts.{meant}
+use Rattle.tpw_occam_scoped.specs.declared.expression.Expression.{Expression}
+use Rattle.tpw_occam_scoped.specs.declared.expression.Expression.TheVariants as expression
 use Rattle.tpw_occam_scoped.specs.declared.process.Process.{Process as Scoped}
 use Rattle.tpw_occam_scoped.specs.declared.process.Process.TheVariants as process
 use Rattle.tpw_occam_scoped.specs.declared.process.Message.{Message as ScopedMessage}
@@ -35,7 +42,7 @@ use Rattle.tpw_occam_placing.specs.declared.tables.Tables.{Tables}
 use Rattle.tpw_occam_placing.specs.declared.scope.Scope.{Scope}
 use Rattle.tpw_occam_placing.specs.declared.scope.Scope.TheVariants.{Empty, Variable', Array'}
 use Rattle.tpw_occam_placing.specs.Placing.{is_this, cell_in, storage_at, array_in, variable_of, array_of, Holds, IsTarget, IsMessage, IsDone}
-use Rattle.tpw_occam_placing.specs.Working.{first_of, given, IsFinished, IsReceived, IsBegun}
+use Rattle.tpw_occam_placing.specs.Working.{Apart, first_of, given, IsFinished, IsReceived, IsFresh, IsBegun}
 use Rattle.tpw_occam_placing.proofs.Holding.{one_place, within, found_there, holds_stored, holds_within}
 use Rattle.tpw_occam_placing.proofs.Arrays.{no_table, holds_array_stored, holds_array_within}
 use Rattle.tpw_occam_placing.proofs.Doing.{holds_flagged}
@@ -60,6 +67,49 @@ or_false : (b : Bool) → b ≡ b || false
 or_false true = refl
 or_false false = refl
 
+pub or_true : (b : Bool) → (b || true) || false ≡ b || true
+or_true true = refl
+or_true false = refl
+
+-- ---- values
+
+-- a value depends on cells and arrays
+value_by : (e : Expression) (s t : State) → s.cells ≡ t.cells → s.arrays ≡ t.arrays → scoped.value_of e s ≡ scoped.value_of e t
+value_by (expression.Constant c) s t cells arrays = refl
+value_by (expression.Cell x) s t cells arrays = λ i. plain (cells i x)
+value_by (expression.Element' a kind p e) s t cells arrays =
+    λ i. followed (value_by e s t cells arrays i) (element_at kind (arrays i a))
+value_by (expression.Listed' table kind p e) s t cells arrays = λ i. followed (value_by e s t cells arrays i) (element_at kind table.items)
+value_by (expression.Checked' below p e) s t cells arrays = λ i. followed (value_by e s t cells arrays i) (subscript below)
+value_by (expression.Binary' operator p e q f) s t cells arrays =
+    λ i. followed (value_by e s t cells arrays i) (λ b. followed (value_by f s t cells arrays i) (applied operator b))
+value_by (expression.Complement' p e) s t cells arrays = λ i. followed (value_by e s t cells arrays i) (λ a. plain (complement a))
+value_by (expression.Not' p e) s t cells arrays = λ i. followed (value_by e s t cells arrays i) (λ a. plain (truth (a == 0)))
+value_by (expression.LowByte' p e) s t cells arrays = λ i. followed (value_by e s t cells arrays i) low_byte
+value_by (expression.And' p e q f) s t cells arrays =
+    λ i. followed (value_by e s t cells arrays i) (λ a. both a (value_by f s t cells arrays i))
+value_by (expression.Or' p e q f) s t cells arrays =
+    λ i. followed (value_by e s t cells arrays i) (λ a. either a (value_by f s t cells arrays i))
+value_by (expression.Within' x p e q f) s t cells arrays =
+    λ i. followed (value_by e s t cells arrays i) (λ a.
+    value_by f (state.with_cell x a s) (state.with_cell x a t) (ap (λ (c : ℕ → ℕ). λ y. if y == x then a else c y) cells) arrays i)
+
+-- ---- two places
+
+set_apart : (l : List ℕ) (i j a b : ℕ) → i ≢ j → slice_set (slice_set l i a) j b ≡ slice_set (slice_set l j b) i a
+set_apart [] i j a b h = refl
+set_apart (y ∷ l) zero zero a b h = absurd (h refl)
+set_apart (y ∷ l) zero (suc j) a b h = refl
+set_apart (y ∷ l) (suc i) zero a b h = refl
+set_apart (y ∷ l) (suc i) (suc j) a b h = ap (λ (m : List ℕ). y ∷ m) (set_apart l i j a b (λ e. h (ap suc e)))
+
+-- a variable takes a word before the packet comes, or after
+set_first : (receive : Place) (packet : List ℕ) (t : Store) (n word : ℕ) (flag : Bool) → Apart receive n
+    → received receive packet (with_value n word (core.flagged flag t)) ≡ with_value n word (core.flagged flag (received receive packet t))
+set_first (place.Variable m) packet t n word flag away =
+    ap (λ (values : List ℕ). record (core.flagged flag t) { values = values }) (set_apart t.values n m word (element Word packet 0) away)
+set_first (place.Array a) packet t n word flag away = refl
+
 module _ (tables : Tables) where
   -- nothing is in scope at first
   pub holds_first : length tables.kinds.items ≡ length tables.cells.items → length tables.storages.items ≡ length tables.arrays.items
@@ -75,21 +125,62 @@ module _ (tables : Tables) where
     traced = refl;
   }
 
-  -- a variable is 0 already, and an array too
-  zero_first : (n : ℕ) → with_value n 0 (first_of tables) ≡ first_of tables
-  zero_first n =
-      let values = replicate {A = ℕ} (length tables.kinds.items) 0 in
-      ap (λ (values : List ℕ). record (first_of tables) { values = values })
-      (ap (λ (word : ℕ). slice_set values n word) (sym (zero_at (length tables.kinds.items) n)) ∙ set-get_or values n 0)
+  -- nothing but zeros and tables
+  pub fresh_first : IsFresh tables Empty (first_of tables)
+  fresh_first = record { values = λ n out. zero_at (length tables.kinds.items) n; arrays = refl }
 
-  zeros_first : (a n bytes : ℕ) → is_this a (array_in tables n) ≡ true → bytes_of (storage_at tables n) ≡ bytes
-      → with_array n (replicate bytes 0) (first_of tables) ≡ first_of tables
-  zeros_first a n bytes lies long =
+  -- where a cell lies that is not in scope, nothing does that is
+  apart : (scope : Scope) (x n : ℕ) → is_this x (cell_in tables n) ≡ true → variable_of tables scope x ≡ None
+      → (y : ℕ) → variable_of tables scope y ≢ Some n
+  apart scope x n lies new y found =
+      let one : y ≡ x = one_place y x (cell_in tables n) (found_there tables scope y n found) lies in
+      let none : variable_of tables scope y ≡ None = ap (variable_of tables scope) one ∙ new in
+      cc
+
+  -- a variable is 0 already, and an array too
+  zero_kept : (scope : Scope) (t : Store) (x n : ℕ) → is_this x (cell_in tables n) ≡ true → variable_of tables scope x ≡ None
+      → IsFresh tables scope t → with_value n 0 t ≡ t
+  zero_kept scope t x n lies new fresh =
+      ap (λ (values : List ℕ). record t { values = values })
+      (ap (λ (word : ℕ). slice_set t.values n word) (sym (fresh.values n (apart scope x n lies new))) ∙ set-get_or t.values n 0)
+
+  zeros_kept : (scope : Scope) (t : Store) (a n bytes : ℕ) → is_this a (array_in tables n) ≡ true → bytes_of (storage_at tables n) ≡ bytes
+      → IsFresh tables scope t → with_array n (replicate bytes 0) t ≡ t
+  zeros_kept scope t a n bytes lies long fresh =
       let arrays = map first_bytes tables.storages.items in
-      ap (λ (arrays : List (List ℕ)). record (first_of tables) { arrays = arrays })
-      (ap (λ (b : List ℕ). slice_set arrays n b)
+      ap (λ (arrays : List (List ℕ)). record t { arrays = arrays })
+      (ap (λ (l : List (List ℕ)). slice_set l n (replicate bytes 0)) fresh.arrays
+      ∙ ap (λ (b : List ℕ). slice_set arrays n b)
       (zeros_of (storage_at tables n) bytes (no_table tables a n lies) long ∙ sym (first_bytes_at tables.storages.items n))
-      ∙ set-get_or arrays n [])
+      ∙ set-get_or arrays n [] ∙ sym fresh.arrays)
+
+  module _ (scope : Scope) (q : Bor (Unit {0})) (x n : ℕ) (lies : is_this x (cell_in tables n) ≡ true) (new : variable_of tables scope x ≡ None) where
+    within_scope : variable_of tables (Variable' n q scope) x ≡ Some n
+    within_scope = rw lies refl
+
+    outer : (y m : ℕ) → variable_of tables scope y ≡ Some m → variable_of tables (Variable' n q scope) y ≡ Some m
+    outer y m found = by_test (is_this y (cell_in tables n)) refl
+      where
+        by_test : (b : Bool) → is_this y (cell_in tables n) ≡ b → (if b then Some n else variable_of tables scope y) ≡ Some m
+        by_test true e =
+            let one : y ≡ x = one_place y x (cell_in tables n) e lies in
+            let none : variable_of tables scope y ≡ None = ap (variable_of tables scope) one ∙ new in
+            cc
+        by_test false e = found
+
+    -- what is in scope has another word
+    fresh_within : (t : Store) (word : ℕ) (flag : Bool) → IsFresh tables scope t
+        → IsFresh tables (Variable' n q scope) (with_value n word (core.flagged flag t))
+    fresh_within t word flag fresh = record {
+      values = λ m out. get_or-set_other t.values n m word 0 (other m out) ∙ fresh.values m (λ y found. out y (outer y m found));
+      arrays = fresh.arrays;
+    }
+      where
+        other : (m : ℕ) → ((y : ℕ) → variable_of tables (Variable' n q scope) y ≢ Some m) → m ≢ n
+        other m out same = out x (within_scope ∙ ap Some (sym same))
+
+  fresh_array : (scope : Scope) (q : Bor (Unit {0})) (n : ℕ) (t : Store) → IsFresh tables scope t → IsFresh tables (Array' n q scope) t
+  fresh_array scope q n t fresh = record { values = λ m out. fresh.values m out; arrays = fresh.arrays }
 
   -- ---- packets
 
@@ -97,7 +188,7 @@ module _ (tables : Tables) where
   holds_aside : (scope : Scope) (s : State) (t : Store) (x n word : ℕ) → is_this x (cell_in tables n) ≡ true → variable_of tables scope x ≡ None
       → Holds tables scope s t → Holds tables scope s (with_value n word t)
   holds_aside scope s t x n word lies new holds = record {
-    cells = λ y m found. get_or-set_other t.values n m word 0 (apart y m found) ∙ holds.cells y m found;
+    cells = λ y m found. get_or-set_other t.values n m word 0 (aside y m found) ∙ holds.cells y m found;
     arrays = holds.arrays;
     constants = holds.constants;
     sizes = holds.sizes;
@@ -107,12 +198,8 @@ module _ (tables : Tables) where
     traced = holds.traced;
   }
     where
-      apart : (y m : ℕ) → variable_of tables scope y ≡ Some m → m ≢ n
-      apart y m found same =
-          let one : y ≡ x = one_place y x (cell_in tables n)
-          (subst (λ k. is_this y (cell_in tables k) ≡ true) same (found_there tables scope y m found)) lies in
-          let none : variable_of tables scope y ≡ None = ap (variable_of tables scope) one ∙ new in
-          cc
+      aside : (y m : ℕ) → variable_of tables scope y ≡ Some m → m ≢ n
+      aside y m found same = apart scope x n lies new y (found ∙ ap Some same)
 
   module _ (scope : Scope) where
     pub cell_received : (to : ScopedTarget) (x n : ℕ) (kind : Kind) → to ≡ Cell x kind → kind ≡ Word → variable_of tables scope x ≡ Some n
@@ -196,44 +283,85 @@ module _ (tables : Tables) where
           ∙ rest (scoped.run first' s) (core.run tables.kinds.items one t) (done s t holds)
           ∙ (λ i. given (sym send-is i) (sym (run-is tables.kinds.items t) i))
 
-      pub begun_with : (receive receive' : Place) → receive' ≡ receive → IsReceived tables scope first' receive one
-          → IsBegun tables scope p receive' made send'
-      begun_with receive receive' same done =
-          subst (λ (k : Place). IsBegun tables scope p k made send') (sym same) (λ s holds takes.
-          let t = received receive s.packet (first_of tables) in
+      pub begun_with : (known : State) (receive receive' : Place) → receive' ≡ receive → IsReceived tables scope first' receive one
+          → IsBegun tables scope known p receive' made send'
+      begun_with known receive receive' same done =
+          subst (λ (k : Place). IsBegun tables scope known p k made send') (sym same) (λ s t holds fresh cells arrays takes.
+          let u = received receive s.packet t in
           ap (λ (k : Scoped). meant (scoped.run k s)) is ∙ (λ i. meant (scoped.run (sym second-is i) (scoped.run (sym first-is i) s)))
-          ∙ rest (scoped.run first' s) (core.run tables.kinds.items one t) (done s (first_of tables) holds takes)
-          ∙ (λ i. given (sym send-is i) (sym (run-is tables.kinds.items t) i)))
+          ∙ rest (scoped.run first' s) (core.run tables.kinds.items one u) (done s t holds takes)
+          ∙ (λ i. given (sym send-is i) (sym (run-is tables.kinds.items u) i)))
 
     -- ---- declarations
 
-    module _ (inner : Box Scoped Global) (inner' : Scoped) (receive : Place) (body : Process) (send : Message) (inner-is : inner' ≡ inner.value) where
-      pub begun_within : (line : ℕ) → p ≡ process.At line inner → IsBegun tables scope inner' receive body send → IsBegun tables scope p receive body send
-      begun_within line is begun s holds takes =
-          ap (λ (k : Scoped). meant (scoped.run k s)) is ∙ (λ i. meant (scoped.run (sym inner-is i) s)) ∙ begun s holds takes
+    module _ (inner : Box Scoped Global) (inner' : Scoped) (receive : Place) (body : Process) (send : Message) (known after : State)
+        (inner-is : inner' ≡ inner.value) where
+      pub begun_within : (line : ℕ) → p ≡ process.At line inner → IsBegun tables scope known inner' receive body send
+          → IsBegun tables scope known p receive body send
+      begun_within line is begun s t holds fresh cells arrays takes =
+          ap (λ (k : Scoped). meant (scoped.run k s)) is ∙ (λ i. meant (scoped.run (sym inner-is i) s))
+          ∙ begun s t holds fresh cells arrays takes
 
       pub begun_variable : {name : Span} (q : Bor (Unit {0})) (x n : ℕ) (kind : Kind) → p ≡ process.Variable name x kind inner → is_this x (cell_in tables n) ≡ true
-          → variable_of tables scope x ≡ None → IsBegun tables (Variable' n q scope) inner' receive body send → IsBegun tables scope p receive body send
-      begun_variable q x n kind is lies new begun s holds takes =
+          → variable_of tables scope x ≡ None → after ≡ state.with_cell x 0 known
+          → IsBegun tables (Variable' n q scope) after inner' receive body send → IsBegun tables scope known p receive body send
+      begun_variable q x n kind is lies new after-is begun s t holds fresh cells arrays takes =
           ap (λ (k : Scoped). meant (scoped.run k s)) is ∙ (λ i. meant (scoped.run (sym inner-is i) (state.with_cell x 0 s)))
-          ∙ begun (state.with_cell x 0 s)
-          (subst (λ (t : Store). Holds tables (Variable' n q scope) (state.with_cell x 0 s) t) (zero_first n)
-          (holds_within tables scope s (first_of tables) x n q 0 lies new holds)) takes
+          ∙ begun (state.with_cell x 0 s) t
+          (subst (λ (u : Store). Holds tables (Variable' n q scope) (state.with_cell x 0 s) u) (zero_kept scope t x n lies new fresh)
+          (holds_within tables scope s t x n q 0 lies new holds))
+          (subst (λ (u : Store). IsFresh tables (Variable' n q scope) u) (unflagged t ∙ zero_kept scope t x n lies new fresh)
+          (fresh_within scope q x n lies new t 0 false fresh))
+          (ap (λ (k : State). k.cells) after-is ∙ ap (λ (c : ℕ → ℕ). λ y. if y == x then 0 else c y) cells)
+          (ap (λ (k : State). k.arrays) after-is ∙ arrays) takes
+        where
+          unflagged : (t : Store) → with_value n 0 (core.flagged false t) ≡ with_value n 0 t
+          unflagged t = ap (λ (b : Bool). record (with_value n 0 t) { flag = b }) (sym (or_false t.flag))
 
       pub begun_array : {name : Span} (q : Bor (Unit {0})) (a n bytes : ℕ) → p ≡ process.Array name a bytes inner → is_this a (array_in tables n) ≡ true
-          → array_of tables scope a ≡ None → bytes_of (storage_at tables n) ≡ bytes → IsBegun tables (Array' n q scope) inner' receive body send
-          → IsBegun tables scope p receive body send
-      begun_array q a n bytes is lies new long begun s holds takes =
+          → array_of tables scope a ≡ None → bytes_of (storage_at tables n) ≡ bytes → after ≡ state.with_array a (replicate bytes 0) known
+          → IsBegun tables (Array' n q scope) after inner' receive body send → IsBegun tables scope known p receive body send
+      begun_array q a n bytes is lies new long after-is begun s t holds fresh cells arrays takes =
           ap (λ (k : Scoped). meant (scoped.run k s)) is ∙ (λ i. meant (scoped.run (sym inner-is i) (state.with_array a (replicate bytes 0) s)))
-          ∙ begun (state.with_array a (replicate bytes 0) s)
-          (subst (λ (t : Store). Holds tables (Array' n q scope) (state.with_array a (replicate bytes 0) s) t) (zeros_first a n bytes lies long)
-          (holds_array_within tables scope s (first_of tables) a n q (replicate bytes 0) lies new
-          (length-replicate {A = ℕ} bytes 0 ∙ sym long) holds)) takes
+          ∙ begun (state.with_array a (replicate bytes 0) s) t
+          (subst (λ (u : Store). Holds tables (Array' n q scope) (state.with_array a (replicate bytes 0) s) u) (zeros_kept scope t a n bytes lies long fresh)
+          (holds_array_within tables scope s t a n q (replicate bytes 0) lies new
+          (length-replicate {A = ℕ} bytes 0 ∙ sym long) holds))
+          (fresh_array scope q n t fresh)
+          (ap (λ (k : State). k.cells) after-is ∙ cells)
+          (ap (λ (k : State). k.arrays) after-is ∙ ap (λ (c : ℕ → List ℕ). λ b. if b == a then replicate bytes 0 else c b) arrays) takes
+
+      pub begun_value : {name : Option Span} (q : Bor (Unit {0})) (x n : ℕ) (e : Expression) (answer : Answer) (made : Process)
+          → p ≡ process.Value name x e inner
+          → is_this x (cell_in tables n) ≡ true → variable_of tables scope x ≡ None → answer ≡ scoped.value_of e known
+          → after ≡ state.with_cell x answer.word known → Apart receive n
+          → ((t : Store) → core.run tables.kinds.items made t
+          ≡ core.run tables.kinds.items body (with_value n answer.word (core.flagged answer.flag t)))
+          → IsBegun tables (Variable' n q scope) after inner' receive body send → IsBegun tables scope known p receive made send
+      begun_value q x n e answer made is lies new valued after-is away run-is begun s t holds fresh cells arrays takes =
+          let same : scoped.value_of e s ≡ answer = sym (valued ∙ value_by e known s cells arrays) in
+          ap (λ (k : Scoped). meant (scoped.run k s)) is
+          ∙ (λ i. meant (scoped.run (sym inner-is i) (state.stored x (same i) s)))
+          ∙ begun (state.stored x answer s) (with_value n answer.word (core.flagged answer.flag t))
+          (holds_within tables scope (state.flagged answer.flag s) (core.flagged answer.flag t) x n q answer.word lies new
+          (holds_flagged tables scope s t answer.flag holds))
+          (fresh_within scope q x n lies new t answer.word answer.flag fresh)
+          (ap (λ (k : State). k.cells) after-is ∙ ap (λ (c : ℕ → ℕ). λ y. if y == x then answer.word else c y) cells)
+          (ap (λ (k : State). k.arrays) after-is ∙ arrays) takes
+          ∙ ap (λ (u : Store). given send (core.run tables.kinds.items body u)) (set_first receive s.packet t n answer.word answer.flag away)
+          ∙ ap (given send) (sym (run-is (received receive s.packet t)))
 
   -- another place, process and message that are the same
-  pub begun_same : (scope : Scope) (p : Scoped) (receive receive' : Place) (body body' : Process) (send send' : Message) → receive' ≡ receive
-      → body' ≡ body → send' ≡ send → IsBegun tables scope p receive body send → IsBegun tables scope p receive' body' send'
-  begun_same scope p receive receive' body body' send send' receive-is body-is send-is begun =
-      subst (λ (k : Place). IsBegun tables scope p k body' send') (sym receive-is)
-      (subst (λ (k : Process). IsBegun tables scope p receive k send') (sym body-is)
-      (subst (λ (k : Message). IsBegun tables scope p receive body k) (sym send-is) begun))
+  pub begun_same : (scope : Scope) (known : State) (p : Scoped) (receive receive' : Place) (body body' : Process) (send send' : Message)
+      → receive' ≡ receive → body' ≡ body → send' ≡ send → IsBegun tables scope known p receive body send
+      → IsBegun tables scope known p receive' body' send'
+  begun_same scope known p receive receive' body body' send send' receive-is body-is send-is begun =
+      subst (λ (k : Place). IsBegun tables scope known p k body' send') (sym receive-is)
+      (subst (λ (k : Process). IsBegun tables scope known p receive k send') (sym body-is)
+      (subst (λ (k : Message). IsBegun tables scope known p receive body k) (sym send-is) begun))
+
+-- four facts of what is returned
+pub all_ok : {A E : Type 0} (r : Result A E) (P Q R S G : A → Type 0) → ((a : A) → P a → Q a → R a → S a → G a)
+    → IfOk r P → IfOk r Q → IfOk r R → IfOk r S → IfOk r G
+all_ok (Ok a) P Q R S G together p q r s = together a p q r s
+all_ok (Err e) P Q R S G together p q r s = tt

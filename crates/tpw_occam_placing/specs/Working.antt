@@ -1,5 +1,5 @@
 -- What a worker does with a packet, and what a scoped core does that receives it and sends the result.
-use Rattle.std.specs.Prelude.{◌≡◌, ℕ, nat_lt, if◌then◌else◌, false, Option, Some, None, List, [], length, map, replicate}
+use Rattle.std.specs.Prelude.{◌≡◌, ◌≢◌, ℕ, slice_index, nat_lt, if◌then◌else◌, false, Option, Some, None, List, [], length, map, replicate}
 use Rattle.tpw_occam_core.specs.declared.process.Message.{Message}
 use Rattle.tpw_occam_core.specs.declared.process.Process.{Process}
 use Rattle.tpw_occam_core.specs.declared.worker.Place.{Place}
@@ -14,7 +14,7 @@ use Rattle.tpw_occam_scoped.specs.declared.process.Process.{Process as Scoped}
 use Rattle.tpw_occam_scoped.specs.Meaning as scoped
 use Rattle.tpw_occam_placing.specs.declared.tables.Tables.{Tables}
 use Rattle.tpw_occam_placing.specs.declared.scope.Scope.{Scope}
-use Rattle.tpw_occam_placing.specs.Placing.{Holds}
+use Rattle.tpw_occam_placing.specs.Placing.{variable_of, Holds}
 
 -- a packet that goes to an array has as many bytes
 abbrev pub Takes : List Storage → Place → List ℕ → Type 0
@@ -45,8 +45,19 @@ IsReceived tables scope p receive body =
     (s : State) (t : Store) → Holds tables scope s t → Takes tables.storages.items receive s.packet
     → Holds tables scope (scoped.run p s) (core.run tables.kinds.items body (received receive s.packet t))
 
--- from the first state, what a scoped core gives that receives the packet
-abbrev pub IsBegun : Tables → Scope → Scoped → Place → Process → Message → Type 0
-IsBegun tables scope p receive body send =
-    (s : State) → Holds tables scope s (first_of tables) → Takes tables.storages.items receive s.packet
-    → meant (scoped.run p s) ≡ given send (core.run tables.kinds.items body (received receive s.packet (first_of tables)))
+-- what is not in scope is as it was at first
+pub record IsFresh (tables : Tables) (scope : Scope) (t : Store) : Type 0 where
+  pub values : (n : ℕ) → ((x : ℕ) → variable_of tables scope x ≢ Some n) → slice_index t.values n ≡ 0
+  pub arrays : t.arrays ≡ map first_bytes tables.storages.items
+
+-- the packet goes to another place
+abbrev pub Apart : Place → ℕ → Type 0
+Apart (place.Variable m) n = n ≢ m
+Apart (place.Array a) n = Unit
+
+-- From a state in front of the packet, what a scoped core gives that receives the packet. Cells and arrays are known.
+abbrev pub IsBegun : Tables → Scope → State → Scoped → Place → Process → Message → Type 0
+IsBegun tables scope known p receive body send =
+    (s : State) (t : Store) → Holds tables scope s t → IsFresh tables scope t → known.cells ≡ s.cells → known.arrays ≡ s.arrays
+    → Takes tables.storages.items receive s.packet
+    → meant (scoped.run p s) ≡ given send (core.run tables.kinds.items body (received receive s.packet t))

@@ -1,14 +1,15 @@
 //! Whole workers.
 
-ghost use Rattle.std.specs.Prelude.{◌≡◌, List, ℕ, IfOk, slice_index};
+ghost use Rattle.std.specs.Prelude.{◌≡◌, List, ℕ, false, IfOk, IsTrue, slice_index};
 ghost use Rattle.tpw_occam_core.specs.declared.kind.Kind.{Kind};
 ghost use Rattle.tpw_occam_core.specs.Meaning as core;
-ghost use Rattle.tpw_occam_core.specs.Meaning.{Store, meaning, flagged, stored, subscript_of};
+ghost use Rattle.tpw_occam_core.specs.Meaning.{Store, meaning, flagged, stored, subscript_of, with_value};
+ghost use Rattle.tpw_occam_interpreter.specs.Memories.{state_of};
 ghost use Rattle.tpw_occam_meaning.specs.States.{first};
 ghost use Rattle.tpw_occam_meaning.specs.Texts.{meant};
 ghost use Rattle.tpw_occam_scoped.specs.declared.process.Process.TheVariants.{ReceiveWord};
 ghost use Rattle.tpw_occam_scoped.specs.Meaning.{run};
-ghost use Rattle.tpw_occam_placing.specs.Working.{IsFinished, IsReceived, IsBegun, Takes};
+ghost use Rattle.tpw_occam_placing.specs.Working.{IsFinished, IsReceived, IsBegun, Takes, Apart};
 
 use crate::assignments::{message, target};
 use crate::needs::{SPARE, needed};
@@ -18,8 +19,9 @@ use crate::scope::Scope;
 use crate::tables::{Fault, Tables};
 use std::alloc::Global;
 use tpw_occam_core::{
-    Assignment, Expression, Kind, Message, Place, Process, Storage, Target, Worker,
+    Answer, Assignment, Expression, Kind, Message, Place, Process, Storage, Target, Worker,
 };
+use tpw_occam_interpreter::{Memory, begin, value_in};
 use tpw_occam_scoped::{Process as Scoped, Target as ScopedTarget};
 
 /// Where the packet goes, and what is done first with it.
@@ -220,15 +222,86 @@ fn with_array(n: usize, begun: Parts) -> Result<Parts, Fault>
     Ok(Parts { arrays, ..begun })
 }
 
+/// Whether the packet goes to another place.
+fn is_apart(place: Place, n: usize) -> bool
+    ensures { IsTrue result → Apart place n }
+{
+    match place {
+        Place::Variable(m) => n != m,
+        Place::Array(_) => true,
+    }
+}
+
+/// A variable takes a word.
+fn set(alloc: Global, tables: &Tables, n: usize, word: u32) -> Result<Process, Fault>
+    ensures { IfOk result (λ p. (t : Store) →
+        core.run tables.now.kinds.items p t ≡ flagged false (with_value n word t)) }
+{
+    if !tables.keeps(n, Kind::Word) {
+        return Err(Fault::Misplaced);
+    }
+    let mut list = Vec::new(alloc);
+    list.push(Assignment {
+        target: Target::Variable(n),
+        value: Expression::Constant(word),
+    })?;
+    Ok(Process::Assign(list))
+}
+
+/// A variable takes a word, and where the word sets the flag that is set first.
+fn set_answer(alloc: Global, tables: &Tables, n: usize, answer: Answer) -> Result<Process, Fault>
+    ensures { IfOk result (λ p. (t : Store) →
+        core.run tables.now.kinds.items p t ≡ with_value n answer.word (flagged answer.flag t)) }
+{
+    let set = set(alloc, tables, n, answer.word)?;
+    if answer.flag {
+        Ok(parts::sequence(alloc, Process::Stop, set)?)
+    } else {
+        Ok(set)
+    }
+}
+
+/// A value is computed, which lies in a variable of the whole worker.
+fn computed(
+    alloc: Global,
+    tables: &Tables,
+    n: usize,
+    answer: Answer,
+    begun: Parts,
+) -> Result<Parts, Fault>
+    ensures receive { IfOk result (λ b. b.receive ≡ begun.receive) }
+    ensures apart { IfOk result (λ b. Apart begun.receive n) }
+    ensures body { IfOk result (λ b. (t : Store) → core.run tables.now.kinds.items b.body t
+        ≡ core.run tables.now.kinds.items begun.body (with_value n answer.word (flagged answer.flag t))) }
+    ensures send { IfOk result (λ b. b.send ≡ begun.send) }
+{
+    if !is_apart(begun.receive, n) {
+        return Err(Fault::Misplaced);
+    }
+    let set = set_answer(alloc, tables, n, answer)?;
+    let begun = with_variable(n, begun)?;
+    Ok(Parts {
+        receive: begun.receive,
+        body: parts::sequence(alloc, set, begun.body)?,
+        send: begun.send,
+        variables: begun.variables,
+        arrays: begun.arrays,
+        receive_line: begun.receive_line,
+        send_line: begun.send_line,
+    })
+}
+
 /// What is declared for the whole worker, the packet, and what is behind it.
 fn begun(
     alloc: Global,
     tables: &Tables,
     scope: &Scope<'_>,
+    known: &mut Memory,
     p: &Scoped,
     room: u32,
 ) -> Result<Parts, Fault>
-    ensures { IfOk result (λ b. IsBegun tables.now scope.now p.now b.receive b.body b.send) }
+    ensures { IfOk result (λ b.
+        IsBegun tables.now scope.now (state_of known.old) p.now b.receive b.body b.send) }
 {
     if room == 0 {
         return Err(Fault::Deep);
@@ -243,8 +316,24 @@ fn begun(
             let Some(n) = tables.free_variable(scope, *cell, *kind) else {
                 return Err(Fault::Misplaced);
             };
+            known.write(*cell, 0)?;
             let inner = Scope::Variable(n, scope);
-            with_variable(n, begun(alloc, tables, &inner, body, room - 1)?)
+            with_variable(n, begun(alloc, tables, &inner, known, body, room - 1)?)
+        }
+        Scoped::Value {
+            cell,
+            value,
+            body,
+            ..
+        } => {
+            let Some(n) = tables.free_variable(scope, *cell, Kind::Word) else {
+                return Err(Fault::Misplaced);
+            };
+            let answer = value_in(known, value);
+            known.write(*cell, answer.word)?;
+            let inner = Scope::Variable(n, scope);
+            let rest = begun(alloc, tables, &inner, known, body, room - 1)?;
+            computed(alloc, tables, n, answer, rest)
         }
         Scoped::Array {
             array,
@@ -255,15 +344,16 @@ fn begun(
             let Some(n) = tables.free_array(scope, *array, *bytes) else {
                 return Err(Fault::Misplaced);
             };
+            known.clear_array(alloc, *array, *bytes as usize)?;
             let inner = Scope::Array(n, scope);
-            with_array(n, begun(alloc, tables, &inner, body, room - 1)?)
+            with_array(n, begun(alloc, tables, &inner, known, body, room - 1)?)
         }
         Scoped::Sequence(first, second) => {
             let received = received(alloc, tables, scope, first, 0, room)?;
             let finished = finished(alloc, tables, scope, second, 0, room)?;
             joined(alloc, received, finished)
         }
-        Scoped::At { body, .. } => begun(alloc, tables, scope, body, room - 1),
+        Scoped::At { body, .. } => begun(alloc, tables, scope, known, body, room - 1),
         _ => Err(Fault::Misplaced),
     }
 }
@@ -288,7 +378,8 @@ pub fn place(alloc: Global, p: &Scoped, room: u32) -> Result<Worker, Fault>
     if tables.kinds.len() != tables.cells.len() || tables.storages.len() != tables.arrays.len() {
         return Err(Fault::Misplaced);
     }
-    let begun = begun(alloc, &tables, &Scope::Empty, p, room)?;
+    let mut known = begin(alloc, &[])?;
+    let begun = begun(alloc, &tables, &Scope::Empty, &mut known, p, room)?;
     let global_arrays = with_tables(&tables.storages, begun.arrays)?;
     Ok(Worker {
         variables: tables.kinds,

@@ -100,10 +100,12 @@ fn unwrapped(
     let mut at = id;
     for _ in 0..draft.processes.len() {
         match draft.process(at) {
-            Some(ProcessNode::Declared {
-                declaration,
-                process,
-            }) => {
+            Some(
+                ProcessNode::Declared {
+                    declaration,
+                    process,
+                },
+            ) => {
                 all.push(declaration)?;
                 at = process;
             }

@@ -9,6 +9,13 @@ use tpw_occam_lexing::{Item, Keyword, Symbol, Token};
 use tpw_occam_meaning::{Direction, Dyadic, Monadic};
 use tpw_occam_tree::Primitive;
 
+/// Whether keywords are the same.
+fn is_same_keyword(one: Keyword, other: Keyword) -> bool
+    ensures { IsTrue result → one ≡ other }
+{
+    one == other
+}
+
 /// Whether tokens say the same.
 fn is_same(one: Token<'_>, other: Token<'_>) -> bool
     ensures { IsTrue result → lexeme_of one.entry ≡ lexeme_of other.entry }
@@ -18,7 +25,7 @@ fn is_same(one: Token<'_>, other: Token<'_>) -> bool
         | (Token::Number(a), Token::Number(b))
         | (Token::Character(a), Token::Character(b))
         | (Token::Text(a), Token::Text(b)) => a == b,
-        (Token::Keyword(a), Token::Keyword(b)) => a == b,
+        (Token::Keyword(a), Token::Keyword(b)) => is_same_keyword(a, b),
         (Token::Symbol(a), Token::Symbol(b)) => a == b,
         _ => false,
     }

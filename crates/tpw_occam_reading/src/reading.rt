@@ -37,11 +37,15 @@ pub struct Parsed<'a> {
 }
 
 /// What is known of a text that has such lines.
-fn standing(lexed: &Lexed<'_>, source: &Source<'_>, has_faults: bool) -> Standing
+fn standing_of(lexed: &Lexed<'_>, source: &Source<'_>, has_faults: bool) -> Standing
     ensures { result ≡ Standing.Read → (lexed.now.is_clean ≡ true) × (seen_lines lexed.now.lines.items ≡ unparse source.now) }
 {
     if lexed.is_clean && is_unparsed(source, &lexed.lines) {
-        return if has_faults { Standing::Faulty } else { Standing::Read };
+        return if has_faults {
+            Standing::Faulty
+        } else {
+            Standing::Read
+        };
     }
     if has_faults {
         Standing::Faulty
@@ -62,7 +66,7 @@ pub fn parse<'a>(alloc: Global, text: &'a str) -> Result<Parsed<'a>, AllocError>
     let lexed = lex(alloc, text)?;
     let drafted = draft_of(alloc, &lexed.lines)?;
     let source = source(alloc, &drafted.draft)?;
-    let standing = standing(&lexed, &source, !drafted.faults.is_empty());
+    let standing = standing_of(&lexed, &source, !drafted.faults.is_empty());
     let faults = placed_faults(alloc, text, &drafted.faults)?;
     Ok(Parsed {
         source,

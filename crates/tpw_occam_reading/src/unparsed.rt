@@ -161,11 +161,7 @@ fn simple(process: &Process<'_>, items: &[Item<'_>]) -> Option<()>
             let items = taken(Token::Symbol(Symbol::Receive), items)?;
             end(expression(target, items)?)
         }
-        Process::Send {
-            channel,
-            value,
-            ..
-        } => {
+        Process::Send { channel, value, .. } => {
             let items = name(*channel, items)?;
             let items = taken(Token::Symbol(Symbol::Send), items)?;
             end(expression(value, items)?)

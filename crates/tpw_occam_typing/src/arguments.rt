@@ -228,7 +228,11 @@ impl<'a> Checker<'a> {
     ) -> Result<Passed<'a>, Stop> {
         match bare(e) {
             Tree::Name(name) => self.passed_variable(frame.scope, *name, of),
-            Tree::Element { array, subscript, .. } => {
+            Tree::Element {
+                array,
+                subscript,
+                ..
+            } => {
                 let array = self.array_name(array)?;
                 self.element_reference(frame, of, array, subscript, depth)
             }

@@ -96,7 +96,11 @@ impl<'a> Checker<'a> {
         depth: u32,
     ) -> Result<Value, Stop> {
         match e {
-            Tree::Element { array, subscript, .. } => {
+            Tree::Element {
+                array,
+                subscript,
+                ..
+            } => {
                 let array = self.array_name(array)?;
                 self.element(frame, array, subscript, depth)
             }

@@ -34,12 +34,7 @@ impl<'a> Checker<'a> {
     }
 
     /// Reports that a name is used as what it is not, unless its declaration is wrong.
-    pub fn not_a<T>(
-        &mut self,
-        name: Name<'a>,
-        entry: Entry<'a>,
-        wanted: Role,
-    ) -> Result<T, Stop> {
+    pub fn not_a<T>(&mut self, name: Name<'a>, entry: Entry<'a>, wanted: Role) -> Result<T, Stop> {
         let Some(found) = entry.meaning.sort() else {
             return Err(Stop::Reported);
         };

@@ -62,12 +62,7 @@ impl<'a> Checker<'a> {
     }
 
     /// Adds a parameter, which may stand for something else in each call.
-    fn add_parameter(
-        &mut self,
-        name: Name<'a>,
-        form: Form,
-        is_per_call: bool,
-    ) -> Result<(), Stop> {
+    fn add_parameter(&mut self, name: Name<'a>, form: Form, is_per_call: bool) -> Result<(), Stop> {
         self.count(name.span)?;
         if is_per_call {
             self.per_call.add(name.span)?;

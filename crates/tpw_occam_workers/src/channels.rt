@@ -28,7 +28,11 @@ pub(crate) fn channels_of(forms: &[Form]) -> Result<Channels, Fault>
             output: *output,
             traces: None,
         }),
-        [Form::OfChannel(packet), Form::OfChannel(output), Form::OfChannel(traces)] => {
+        [
+            Form::OfChannel(packet),
+            Form::OfChannel(output),
+            Form::OfChannel(traces),
+        ] => {
             Ok(Channels {
                 packet: *packet,
                 output: *output,

@@ -14,7 +14,9 @@ use crate::ends::{array_received, sent, word_received};
 use std::alloc::Global;
 use tpw_occam_meaning::{Expression, Process as Tree, Processes};
 use tpw_occam_names::{Fault, Protocol, Scope, Shape};
-use tpw_occam_resolving::{array, is_type, line_of, message, process, target_of, view, written_array};
+use tpw_occam_resolving::{
+    array, is_type, line_of, message, process, target_of, view, written_array,
+};
 use tpw_occam_scoped::Process;
 use tpw_occam_tree::{Name, Primitive, Span};
 
@@ -107,9 +109,11 @@ pub(crate) fn finished<'a>(
     };
     match &**more {
         Processes::End => match &**step {
-            Tree::Send { channel, value, span } => {
-                last(alloc, scope, d, *channel, value, *span, room)
-            }
+            Tree::Send {
+                channel,
+                value,
+                span,
+            } => { last(alloc, scope, d, *channel, value, *span, room) }
             _ => Err(Fault::Wrong),
         },
         Processes::More(_, _) => {

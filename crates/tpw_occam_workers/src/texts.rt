@@ -32,15 +32,8 @@ use tpw_occam_resolving::{
 use tpw_occam_scoped::Process;
 use tpw_occam_tree::{Name, Primitive};
 
-
-
-
 /// The scoped core that is made of a text: it receives the packet, and sends the result.
-pub fn resolve<'a>(
-    alloc: Global,
-    source: &'a Source<'a>,
-    room: u32,
-) -> Result<Process, Fault>
+pub fn resolve<'a>(alloc: Global, source: &'a Source<'a>, room: u32) -> Result<Process, Fault>
     ensures { IfOk result (λ made. MeansText source.now (λ packet. meant (run made (first packet)))) }
 {
     declarations(alloc, &Scope::Empty, 0, &source.declarations, room)
@@ -85,9 +78,11 @@ fn declarations<'a>(
     };
     match &**more {
         Declarations::End => match declaration {
-            Declaration::Procedure { parameters, body, .. } if d == 0 => {
-                worker(alloc, scope, parameters, body, room - 1)
-            }
+            Declaration::Procedure {
+                parameters,
+                body,
+                ..
+            } if d == 0 => { worker(alloc, scope, parameters, body, room - 1) }
             _ => Err(Fault::Wrong),
         },
         Declarations::More(_, _) => {
@@ -118,7 +113,11 @@ fn worker<'a>(
     let Some((output, others)) = first_parameter(others) else {
         return Err(Fault::Wrong);
     };
-    let receiving = Scope::Within(packet.text, Meaning::Carrier(Channel::Packet, carry.packet), &*scope);
+    let receiving = Scope::Within(
+        packet.text,
+        Meaning::Carrier(Channel::Packet, carry.packet),
+        &*scope,
+    );
     let sending = Scope::Within(
         output.text,
         Meaning::Carrier(Channel::Output, carry.output),
@@ -147,8 +146,11 @@ fn traced<'a>(
         (None, Parameters::End) => body(alloc, scope, 0, p, room - 1),
         (Some(protocol), _) => match first_parameter(takes) {
             Some((name, Parameters::End)) => {
-                let within =
-                    Scope::Within(name.text, Meaning::Carrier(Channel::Traces, protocol), &*scope);
+                let within = Scope::Within(
+                    name.text,
+                    Meaning::Carrier(Channel::Traces, protocol),
+                    &*scope,
+                );
                 body(alloc, &within, 0, p, room - 1)
             }
             _ => Err(Fault::Wrong),
@@ -178,7 +180,11 @@ fn body<'a>(
         } => declared(alloc, scope, d, declaration, Rest::Body(process), room - 1),
         Tree::Sequence { steps, .. } => match &**steps {
             Processes::More(step, more) => match &**step {
-                Tree::Receive { channel, target, span } => {
+                Tree::Receive {
+                    channel,
+                    target,
+                    span,
+                } => {
                     let received = first(alloc, scope, d, *channel, target, *span, room)?;
                     let rest = finished(alloc, scope, d, more, room)?;
                     Ok(Process::sequence(alloc, received, rest)?)

@@ -9,7 +9,6 @@ use Rattle.tpw_occam_lexing.specs.Lines.{text_lines}
 use Rattle.tpw_occam_lexing.proofs.Lines.{one_line, first_part, feed_cut}
 use Rattle.tpw_occam_lexing.proofs.lexing.first_line.Goals as goal
 
-
 pub returns-then-width-rest-clause-lines : goal.returns-then-width-rest-clause-lines
 returns-then-width-rest-clause-lines c =
     let is : run class.Line c.args.rest.now ≡ length c.args.rest.now = first_of (search rules, grind (arith, common_steps)) in
@@ -35,7 +34,7 @@ returns-clause-lines c =
     let parts = first_part c.args.rest.now c.run-width.result is inside in
     let width : suc c.run-width.result ≡ c.run-width.result + 1 = omega arith in
     let behind : drop (suc c.run-width.result) c.args.rest.now ≡ c.split_at-2.result.1.now =
-        ap (λ (n : ℕ). drop n c.args.rest.now) width ∙ sym (drop-drop 1 c.run-width.result c.args.rest.now)
-        ∙ ap (λ (l : List ℕ). drop 1 l) (sym c.split_at.ensures.back) ∙ sym c.split_at-2.ensures.back in
+    ap (λ (n : ℕ). drop n c.args.rest.now) width ∙ sym (drop-drop 1 c.run-width.result c.args.rest.now)
+    ∙ ap (λ (l : List ℕ). drop 1 l) (sym c.split_at.ensures.back) ∙ sym c.split_at-2.ensures.back in
     parts.0 ∙ ap (λ (l : List ℕ). l ∷ text_lines (drop (suc c.run-width.result) c.args.rest.now)) (sym c.split_at.ensures.front)
     ∙ ap (λ (l : List ℕ). c.split_at.result.0.now ∷ text_lines l) behind

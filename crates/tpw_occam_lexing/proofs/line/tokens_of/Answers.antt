@@ -56,5 +56,5 @@ items-smaller c =
           let some = w.in-Lexeme.ensures.cut.0 in let fits = w.in-Lexeme.ensures.cut.1.0 in omega (arith, some, fits)
     ] in
     let behind : length c.split_at.result.1.now ≡ length c.items.rest.now - c.match-front_of.width =
-        ap length c.split_at.ensures.back ∙ length-drop c.match-front_of.width c.items.rest.now in
+    ap length c.split_at.ensures.back ∙ length-drop c.match-front_of.width c.items.rest.now in
     omega (arith, some, there, behind)
