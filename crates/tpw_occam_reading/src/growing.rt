@@ -1,17 +1,125 @@
-//! The tree of a draft: declarations and processes.
+//! The tree of a draft: declarations and processes. Each function holds little of a tree at a time, as those of
+//! expressions.
 
-use crate::building::{MAX_ROOM, expression, listed, names, of_type, of_type_if, parameters};
+use crate::building::{
+    Listed, MAX_ROOM, Made, expression, listed, names, of_type, of_type_if, parameters,
+};
 use std::alloc::{AllocError, Global};
 use std::mem;
 use tpw_occam_meaning::{
-    Cases, Choices, Declaration, Declarations, Names, Process, Processes, Source,
+    Cases, Choices, Declaration, Declarations, Names, Parameters, Process, Processes, Source, Type,
 };
 use tpw_occam_parsing::{
     CaseNode, ChoiceNode, DeclarationId, DeclarationNode, Draft, ProcessId, ProcessNode, Stretch,
 };
+use tpw_occam_tree::{Name, Primitive, Span};
+
+/// A process, or memory is refused.
+type Grown<'a> = Result<Process<'a>, AllocError>;
+
+/// A declaration, or memory is refused.
+type Declared<'a> = Result<Declaration<'a>, AllocError>;
 
 /// More than the processes within one another.
 const MAX_LEVELS: u32 = 400;
+
+fn value<'a>(
+    of: Result<Option<Type<'a>>, AllocError>,
+    name: Name<'a>,
+    value: Made<'a>,
+) -> Declared<'a> {
+    let value = value?;
+    Ok(Declaration::Value {
+        of: of?,
+        name,
+        value,
+    })
+}
+
+fn variables<'a>(
+    of: Result<Type<'a>, AllocError>,
+    names: Result<Names<'a>, AllocError>,
+) -> Declared<'a> {
+    let names = names?;
+    Ok(Declaration::Variables { of: of?, names })
+}
+
+fn retypes<'a>(
+    of: Result<Type<'a>, AllocError>,
+    name: Name<'a>,
+    array: Name<'a>,
+) -> Declared<'a> {
+    Ok(Declaration::Retypes {
+        of: of?,
+        name,
+        array,
+    })
+}
+
+fn procedure<'a>(
+    alloc: Global,
+    name: Name<'a>,
+    parameters: Result<Parameters<'a>, AllocError>,
+    body: Grown<'a>,
+) -> Declared<'a> {
+    let body = Box::new(alloc, body?)?;
+    Ok(Declaration::Procedure {
+        name,
+        parameters: parameters?,
+        body,
+    })
+}
+
+fn function<'a>(
+    of: Primitive,
+    name: Name<'a>,
+    parameters: Result<Parameters<'a>, AllocError>,
+    value: Made<'a>,
+) -> Declared<'a> {
+    let value = value?;
+    Ok(Declaration::Function {
+        of,
+        name,
+        parameters: parameters?,
+        value,
+    })
+}
+
+fn wrong<'a>(names: Result<Names<'a>, AllocError>) -> Declared<'a> {
+    Ok(Declaration::Wrong { names: names? })
+}
+
+/// A declaration of one line.
+fn plain<'a>(alloc: Global, draft: &Draft<'a>, node: DeclarationNode<'a>) -> Declared<'a> {
+    match node {
+        DeclarationNode::Value {
+            of,
+            name,
+            value: e,
+        } => {
+            let of = of_type_if(alloc, draft, of);
+            value(of, name, expression(alloc, draft, e, MAX_ROOM))
+        }
+        DeclarationNode::Variables { of, names: list } => {
+            let of = of_type(alloc, draft, of);
+            variables(of, names(alloc, draft, list))
+        }
+        DeclarationNode::Retypes { of, name, array } => {
+            retypes(of_type(alloc, draft, of), name, array)
+        }
+        DeclarationNode::Function {
+            of,
+            name,
+            parameters: list,
+            value: e,
+        } => {
+            let takes = parameters(alloc, draft, list);
+            function(of, name, takes, expression(alloc, draft, e, MAX_ROOM))
+        }
+        DeclarationNode::Wrong { names: list } => wrong(names(alloc, draft, list)),
+        DeclarationNode::Procedure { .. } => Ok(Declaration::Wrong { names: Names::End }),
+    }
+}
 
 /// A declaration.
 #[cycle(process)]
@@ -20,72 +128,31 @@ fn declaration<'a>(
     draft: &Draft<'a>,
     id: DeclarationId,
     room: u32,
-) -> Result<Declaration<'a>, AllocError> {
-    let node = match draft.declaration(id) {
-        Some(node) if room > 0 => node,
-        _ => return Ok(Declaration::Wrong { names: Names::End }),
-    };
-    match node {
-        DeclarationNode::Value { of, name, value } => {
-            let of = of_type_if(alloc, draft, of)?;
-            let value = expression(alloc, draft, value, MAX_ROOM)?;
-            Ok(Declaration::Value { of, name, value })
-        }
-        DeclarationNode::Variables { of, names: list } => {
-            let of = of_type(alloc, draft, of)?;
-            let names = names(alloc, draft, list)?;
-            Ok(Declaration::Variables { of, names })
-        }
-        DeclarationNode::Retypes { of, name, array } => Ok(Declaration::Retypes {
-            of: of_type(alloc, draft, of)?,
-            name,
-            array,
-        }),
-        DeclarationNode::Procedure {
-            name,
-            parameters: list,
-            body,
-        } => {
-            let body = process(alloc, draft, body, room - 1)?;
-            let body = Box::new(alloc, body)?;
-            let parameters = parameters(alloc, draft, list)?;
-            Ok(Declaration::Procedure {
+) -> Declared<'a> {
+    if room == 0 {
+        return Ok(Declaration::Wrong { names: Names::End });
+    }
+    match draft.declaration(id) {
+        Some(
+            DeclarationNode::Procedure {
                 name,
-                parameters,
+                parameters: list,
                 body,
-            })
+            },
+        ) => {
+            let takes = parameters(alloc, draft, list);
+            procedure(alloc, name, takes, process(alloc, draft, body, room - 1))
         }
-        DeclarationNode::Function {
-            of,
-            name,
-            parameters: list,
-            value,
-        } => {
-            let value = expression(alloc, draft, value, MAX_ROOM)?;
-            let parameters = parameters(alloc, draft, list)?;
-            Ok(Declaration::Function {
-                of,
-                name,
-                parameters,
-                value,
-            })
-        }
-        DeclarationNode::Wrong { names: list } => Ok(Declaration::Wrong {
-            names: names(alloc, draft, list)?,
-        }),
+        Some(node) => plain(alloc, draft, node),
+        None => Ok(Declaration::Wrong { names: Names::End }),
     }
 }
 
 /// A declaration in front of a process.
-fn declared<'a>(
-    alloc: Global,
-    declaration: Declaration<'a>,
-    process: Process<'a>,
-) -> Result<Process<'a>, AllocError> {
-    let declaration = Box::new(alloc, declaration)?;
+fn declared<'a>(alloc: Global, declaration: Declared<'a>, process: Process<'a>) -> Grown<'a> {
     let process = Box::new(alloc, process)?;
     Ok(Process::Declared {
-        declaration,
+        declaration: Box::new(alloc, declaration?)?,
         process,
     })
 }
@@ -117,31 +184,54 @@ fn unwrapped(
 
 /// A process with the declarations in front of it.
 #[cycle(process)]
-fn process<'a>(
-    alloc: Global,
-    draft: &Draft<'a>,
-    id: ProcessId,
-    room: u32,
-) -> Result<Process<'a>, AllocError> {
+fn process<'a>(alloc: Global, draft: &Draft<'a>, id: ProcessId, room: u32) -> Grown<'a> {
     if room == 0 {
         return Ok(Process::Wrong);
     }
     let (all, at) = unwrapped(alloc, draft, id)?;
     let mut process = bare(alloc, draft, at, room - 1)?;
     for at in all.iter().rev() {
-        let declaration = declaration(alloc, draft, *at, room - 1)?;
         let behind = mem::replace(&mut process, Process::Wrong);
-        process = declared(alloc, declaration, behind)?;
+        process = declared(alloc, declaration(alloc, draft, *at, room - 1), behind)?;
     }
     Ok(process)
 }
 
+fn assign<'a>(targets: Listed<'a>, values: Listed<'a>, span: Span) -> Grown<'a> {
+    let targets = targets?;
+    Ok(Process::Assign {
+        targets,
+        values: values?,
+        span,
+    })
+}
+
+fn call<'a>(name: Name<'a>, arguments: Listed<'a>, span: Span) -> Grown<'a> {
+    Ok(Process::Call {
+        name,
+        arguments: arguments?,
+        span,
+    })
+}
+
+fn receive<'a>(channel: Name<'a>, target: Made<'a>, span: Span) -> Grown<'a> {
+    Ok(Process::Receive {
+        channel,
+        target: target?,
+        span,
+    })
+}
+
+fn send<'a>(channel: Name<'a>, value: Made<'a>, span: Span) -> Grown<'a> {
+    Ok(Process::Send {
+        channel,
+        value: value?,
+        span,
+    })
+}
+
 /// A process of one line.
-fn simple<'a>(
-    alloc: Global,
-    draft: &Draft<'a>,
-    node: ProcessNode<'a>,
-) -> Result<Process<'a>, AllocError> {
+fn simple<'a>(alloc: Global, draft: &Draft<'a>, node: ProcessNode<'a>) -> Grown<'a> {
     match node {
         ProcessNode::Skip { span } => Ok(Process::Skip { span }),
         ProcessNode::Stop { span } => Ok(Process::Stop { span }),
@@ -150,117 +240,130 @@ fn simple<'a>(
             values,
             span,
         } => {
-            let targets = listed(alloc, draft, targets, MAX_ROOM)?;
-            let values = listed(alloc, draft, values, MAX_ROOM)?;
-            Ok(Process::Assign {
-                targets,
-                values,
-                span,
-            })
+            let targets = listed(alloc, draft, targets, MAX_ROOM);
+            assign(targets, listed(alloc, draft, values, MAX_ROOM), span)
         }
         ProcessNode::Call {
             name,
             arguments,
             span,
-        } => Ok(Process::Call {
-            name,
-            arguments: listed(alloc, draft, arguments, MAX_ROOM)?,
-            span,
-        }),
+        } => call(name, listed(alloc, draft, arguments, MAX_ROOM), span),
         ProcessNode::Receive {
             channel,
             target,
             span,
-        } => Ok(Process::Receive {
-            channel,
-            target: expression(alloc, draft, target, MAX_ROOM)?,
-            span,
-        }),
+        } => receive(channel, expression(alloc, draft, target, MAX_ROOM), span),
         ProcessNode::Send {
             channel,
             value,
             span,
-        } => Ok(Process::Send {
-            channel,
-            value: expression(alloc, draft, value, MAX_ROOM)?,
-            span,
-        }),
+        } => send(channel, expression(alloc, draft, value, MAX_ROOM), span),
         _ => Ok(Process::Wrong),
     }
 }
 
+fn sequence<'a>(alloc: Global, steps: Result<Processes<'a>, AllocError>, span: Span) -> Grown<'a> {
+    Ok(Process::Sequence {
+        steps: Box::new(alloc, steps?)?,
+        span,
+    })
+}
+
+/// A replicated SEQ, whose start and count are at hand.
+fn replicated<'a>(
+    alloc: Global,
+    index: Name<'a>,
+    bounds: (Made<'a>, Made<'a>),
+    steps: Result<Processes<'a>, AllocError>,
+    span: Span,
+) -> Grown<'a> {
+    let steps = Box::new(alloc, steps?)?;
+    let (start, count) = bounds;
+    let start = start?;
+    Ok(Process::Replicated {
+        index,
+        start,
+        count: count?,
+        steps,
+        span,
+    })
+}
+
+fn conditional<'a>(
+    alloc: Global,
+    choices: Result<Choices<'a>, AllocError>,
+    span: Span,
+) -> Grown<'a> {
+    Ok(Process::If {
+        choices: Box::new(alloc, choices?)?,
+        span,
+    })
+}
+
+fn selection<'a>(
+    alloc: Global,
+    selector: Made<'a>,
+    cases: Result<Cases<'a>, AllocError>,
+    span: Span,
+) -> Grown<'a> {
+    let cases = Box::new(alloc, cases?)?;
+    Ok(Process::Case {
+        selector: selector?,
+        cases,
+        span,
+    })
+}
+
 /// A process that no declaration stands in front of.
 #[cycle(process)]
-fn bare<'a>(
-    alloc: Global,
-    draft: &Draft<'a>,
-    id: ProcessId,
-    room: u32,
-) -> Result<Process<'a>, AllocError> {
-    let node = match draft.process(id) {
-        Some(node) if room > 0 => node,
-        _ => return Ok(Process::Wrong),
-    };
-    match node {
-        ProcessNode::Sequence { steps: list, span } => {
-            let steps = steps(alloc, draft, list, room - 1)?;
-            let steps = Box::new(alloc, steps)?;
-            Ok(Process::Sequence { steps, span })
+fn bare<'a>(alloc: Global, draft: &Draft<'a>, id: ProcessId, room: u32) -> Grown<'a> {
+    if room == 0 {
+        return Ok(Process::Wrong);
+    }
+    match draft.process(id) {
+        Some(ProcessNode::Sequence { steps: list, span }) => {
+            sequence(alloc, steps(alloc, draft, list, room - 1), span)
         }
-        ProcessNode::Replicated {
-            index,
-            start,
-            count,
-            steps: list,
-            span,
-        } => {
-            let steps = steps(alloc, draft, list, room - 1)?;
-            let steps = Box::new(alloc, steps)?;
-            let start = expression(alloc, draft, start, MAX_ROOM)?;
-            let count = expression(alloc, draft, count, MAX_ROOM)?;
-            Ok(Process::Replicated {
+        Some(
+            ProcessNode::Replicated {
                 index,
                 start,
                 count,
-                steps,
+                steps: list,
                 span,
-            })
+            },
+        ) => {
+            let start = expression(alloc, draft, start, MAX_ROOM);
+            let count = expression(alloc, draft, count, MAX_ROOM);
+            let steps = steps(alloc, draft, list, room - 1);
+            replicated(alloc, index, (start, count), steps, span)
         }
-        ProcessNode::If {
-            choices: list,
-            span,
-        } => {
-            let choices = choices(alloc, draft, list, room - 1)?;
-            let choices = Box::new(alloc, choices)?;
-            Ok(Process::If { choices, span })
+        Some(ProcessNode::If { choices: list, span }) => {
+            conditional(alloc, choices(alloc, draft, list, room - 1), span)
         }
-        ProcessNode::Case {
-            selector,
-            cases: list,
-            span,
-        } => {
-            let cases = cases(alloc, draft, list, room - 1)?;
-            let cases = Box::new(alloc, cases)?;
-            let selector = expression(alloc, draft, selector, MAX_ROOM)?;
-            Ok(Process::Case {
+        Some(
+            ProcessNode::Case {
                 selector,
-                cases,
+                cases: list,
                 span,
-            })
+            },
+        ) => {
+            let selector = expression(alloc, draft, selector, MAX_ROOM);
+            selection(alloc, selector, cases(alloc, draft, list, room - 1), span)
         }
-        _ => simple(alloc, draft, node),
+        Some(node) => simple(alloc, draft, node),
+        None => Ok(Process::Wrong),
     }
 }
 
 /// A process in front of others.
 fn step<'a>(
     alloc: Global,
-    first: Process<'a>,
+    first: Grown<'a>,
     others: Processes<'a>,
 ) -> Result<Processes<'a>, AllocError> {
-    let first = Box::new(alloc, first)?;
     let others = Box::new(alloc, others)?;
-    Ok(Processes::More(first, others))
+    Ok(Processes::More(Box::new(alloc, first?)?, others))
 }
 
 #[cycle(process)]
@@ -273,9 +376,8 @@ fn steps<'a>(
     let mut all = Processes::End;
     for at in (list.from..list.to).rev() {
         if let Some(id) = draft.steps.get(at) {
-            let first = process(alloc, draft, *id, room)?;
             let others = mem::replace(&mut all, Processes::End);
-            all = step(alloc, first, others)?;
+            all = step(alloc, process(alloc, draft, *id, room), others)?;
         }
     }
     Ok(all)
@@ -284,15 +386,13 @@ fn steps<'a>(
 /// A guard and its process in front of others.
 fn choice<'a>(
     alloc: Global,
-    draft: &Draft<'a>,
-    node: ChoiceNode,
-    process: Process<'a>,
+    guard: Made<'a>,
+    process: Grown<'a>,
     others: Choices<'a>,
 ) -> Result<Choices<'a>, AllocError> {
-    let process = Box::new(alloc, process)?;
     let others = Box::new(alloc, others)?;
-    let guard = expression(alloc, draft, node.guard, MAX_ROOM)?;
-    Ok(Choices::More(guard, process, others))
+    let process = Box::new(alloc, process?)?;
+    Ok(Choices::More(guard?, process, others))
 }
 
 #[cycle(process)]
@@ -304,31 +404,48 @@ fn choices<'a>(
 ) -> Result<Choices<'a>, AllocError> {
     let mut all = Choices::End;
     for at in (list.from..list.to).rev() {
-        if let Some(node) = draft.choices.get(at) {
-            let process = process(alloc, draft, node.process, room)?;
+        if let Some(ChoiceNode { guard, process: id }) = draft.choices.get(at).copied() {
             let others = mem::replace(&mut all, Choices::End);
-            all = choice(alloc, draft, *node, process, others)?;
+            let guard = expression(alloc, draft, guard, MAX_ROOM);
+            all = choice(alloc, guard, process(alloc, draft, id, room), others)?;
         }
     }
     Ok(all)
 }
 
 /// Constants and their process in front of others.
+fn constants<'a>(
+    alloc: Global,
+    constants: Listed<'a>,
+    process: Grown<'a>,
+    others: Cases<'a>,
+) -> Result<Cases<'a>, AllocError> {
+    let others = Box::new(alloc, others)?;
+    let process = Box::new(alloc, process?)?;
+    Ok(Cases::Constants(constants?, process, others))
+}
+
+/// `ELSE` and its process in front of others.
+fn otherwise<'a>(
+    alloc: Global,
+    process: Grown<'a>,
+    others: Cases<'a>,
+) -> Result<Cases<'a>, AllocError> {
+    let others = Box::new(alloc, others)?;
+    Ok(Cases::Else(Box::new(alloc, process?)?, others))
+}
+
+/// A choice in front of others.
 fn case<'a>(
     alloc: Global,
     draft: &Draft<'a>,
-    node: CaseNode,
-    process: Process<'a>,
+    list: Option<Stretch>,
+    process: Grown<'a>,
     others: Cases<'a>,
 ) -> Result<Cases<'a>, AllocError> {
-    let process = Box::new(alloc, process)?;
-    let others = Box::new(alloc, others)?;
-    match node.constants {
-        Some(list) => {
-            let constants = listed(alloc, draft, list, MAX_ROOM)?;
-            Ok(Cases::Constants(constants, process, others))
-        }
-        None => Ok(Cases::Else(process, others)),
+    match list {
+        Some(list) => constants(alloc, listed(alloc, draft, list, MAX_ROOM), process, others),
+        None => otherwise(alloc, process, others),
     }
 }
 
@@ -341,10 +458,9 @@ fn cases<'a>(
 ) -> Result<Cases<'a>, AllocError> {
     let mut all = Cases::End;
     for at in (list.from..list.to).rev() {
-        if let Some(node) = draft.cases.get(at) {
-            let process = process(alloc, draft, node.process, room)?;
+        if let Some(CaseNode { constants, process: id }) = draft.cases.get(at).copied() {
             let others = mem::replace(&mut all, Cases::End);
-            all = case(alloc, draft, *node, process, others)?;
+            all = case(alloc, draft, constants, process(alloc, draft, id, room), others)?;
         }
     }
     Ok(all)
@@ -353,20 +469,19 @@ fn cases<'a>(
 /// A declaration in front of others.
 fn outer<'a>(
     alloc: Global,
-    first: Declaration<'a>,
+    first: Declared<'a>,
     others: Declarations<'a>,
 ) -> Result<Declarations<'a>, AllocError> {
     let others = Box::new(alloc, others)?;
-    Ok(Declarations::More(first, others))
+    Ok(Declarations::More(first?, others))
 }
 
 /// The tree of a draft.
 pub(crate) fn source<'a>(alloc: Global, draft: &Draft<'a>) -> Result<Source<'a>, AllocError> {
     let mut all = Declarations::End;
     for id in draft.outermost.iter().rev() {
-        let first = declaration(alloc, draft, *id, MAX_LEVELS)?;
         let others = mem::replace(&mut all, Declarations::End);
-        all = outer(alloc, first, others)?;
+        all = outer(alloc, declaration(alloc, draft, *id, MAX_LEVELS), others)?;
     }
     Ok(Source { declarations: all })
 }

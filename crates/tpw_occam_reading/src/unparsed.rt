@@ -189,10 +189,24 @@ fn declaration_in<'l, 'a>(
             let rest = process_in(body, rest, d.checked_add(2)?)?;
             one_token(Token::Symbol(Symbol::Colon), rest, d)
         }
-        _ => {
+        // An arm for each variant, since a contract sees in each what it writes.
+        Declaration::Value { .. } => {
             declared(declaration, items)?;
             Some(rest)
         }
+        Declaration::Variables { .. } => {
+            declared(declaration, items)?;
+            Some(rest)
+        }
+        Declaration::Retypes { .. } => {
+            declared(declaration, items)?;
+            Some(rest)
+        }
+        Declaration::Function { .. } => {
+            declared(declaration, items)?;
+            Some(rest)
+        }
+        Declaration::Wrong { .. } => None,
     }
 }
 
@@ -219,7 +233,13 @@ fn process_in<'l, 'a>(
         Process::Replicated { steps, .. } => steps_in(steps, rest, d.checked_add(2)?),
         Process::If { choices, .. } => choices_in(choices, rest, d.checked_add(2)?),
         Process::Case { cases, .. } => cases_in(cases, rest, d.checked_add(2)?),
-        _ => Some(rest),
+        Process::Skip { .. } => Some(rest),
+        Process::Stop { .. } => Some(rest),
+        Process::Assign { .. } => Some(rest),
+        Process::Call { .. } => Some(rest),
+        Process::Receive { .. } => Some(rest),
+        Process::Send { .. } => Some(rest),
+        Process::Declared { .. } | Process::Wrong => None,
     }
 }
 
