@@ -2,7 +2,7 @@
 
 use anyhow::Result;
 use std::alloc::{AllocError, Global};
-use tpw_occam_core::Given;
+use tpw_occam_interpreter::Given;
 
 /// What stands for no bytes.
 const NOTHING: &str = "-";

@@ -9,7 +9,7 @@ use std::thread::Threads;
 use std::time::Clock;
 use tp_accept::{Accepted, accept};
 use tpw_inputs::read_occam;
-use tpw_occam_core::Worker;
+use tpw_occam_scoped::Process;
 use tpw_running::Checking;
 use tpw_runs::{Notation, Progress, Style, packets_of, run_on_members};
 
@@ -74,9 +74,9 @@ fn accepted(rt: &impl Abort, alloc: Global, text: &str) -> Accepted {
 }
 
 /// The core of a text, which has its meaning.
-fn meaning_of(rt: &impl Abort, alloc: Global, text: &str) -> Worker {
+fn meaning_of(rt: &impl Abort, alloc: Global, text: &str) -> Process {
     let read = unwrap(rt, read_occam(alloc, text.as_bytes()));
-    read.compiled.worker
+    read.compiled.core
 }
 
 /// What a check of the runs of a text's worker by another text's meaning writes, and the packets that it finds.
@@ -85,7 +85,7 @@ where
     T: Threads + Wait + Clock + Eprint + Sync + Abort,
 {
     let image = accepted(rt, alloc, text);
-    let worker = meaning_of(rt, alloc, other);
+    let core = meaning_of(rt, alloc, other);
     let bytes = image.packet_bytes();
     let packets = packets_of(alloc, "0\n2\n3\n65\n", bytes, Notation::Words);
     let packets = unwrap(rt, packets);
@@ -93,7 +93,7 @@ where
         hexadecimal: false,
         trace: true,
     };
-    let mut checking = Checking::new(alloc, &worker, style, image.budget());
+    let mut checking = Checking::new(alloc, &core, style, image.budget());
     let progress = Progress::new(rt, packets.len(), false);
     let mut output = Vec::new(alloc);
     unwrap(

@@ -61,6 +61,8 @@ fn words_of<'a>(alloc: Global, source: &Source<'a>) -> Result<Vec<Named<'a>>, Fa
             first: start.saturating_add(*first),
             words: *size,
             name: *name,
+            from: 0,
+            to: usize::MAX,
         })?;
     }
     Ok(words)

@@ -98,7 +98,7 @@ where
             alloc,
             &prepared,
             running,
-            &occam.compiled.worker,
+            &occam.compiled.core,
             writer,
             terminal,
         )?),
@@ -232,6 +232,6 @@ pub fn evaluate_text<T: Files, R: Read, W: Write, E: Write>(
     let packets = output.source.packets(alloc, inputs, occam.packet_bytes())?;
     let expected = output.expected(alloc, inputs, occam.result_bytes())?;
     let form = output.form(&expected);
-    let worker = &occam.compiled.worker;
-    Ok(evaluate_packets(alloc, worker, &packets, form, writer, terminal.errors)?)
+    let core = &occam.compiled.core;
+    Ok(evaluate_packets(alloc, core, &packets, form, writer, terminal.errors)?)
 }

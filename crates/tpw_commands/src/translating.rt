@@ -8,15 +8,26 @@ use tpw_inputs::Occam;
 use tpw_occam::Located;
 use tpw_text::{Position, read_source, source_text};
 
-/// Appends the names of local words, each a comment. The local word 0 is this word of the workspace.
+/// Appends a name of local words, as a comment. The local word 0 is this word of the workspace.
+fn put_name(text: &mut String, located: &Located<'_>, start: u32) -> Result<(), AllocError> {
+    let name = located.name;
+    let local = located.first.saturating_sub(start);
+    if located.words == 1 {
+        write!(text, "-- local {local}: {name}\n")
+    } else {
+        let last = local.saturating_add(located.words.saturating_sub(1));
+        write!(text, "-- locals {local} to {last}: {name}\n")
+    }
+}
+
+/// Appends the names of local words, each once.
 fn put_names(text: &mut String, located: &[Located<'_>], start: u32) -> Result<(), AllocError> {
-    for Located { name, first, words } in located {
-        let local = first.saturating_sub(start);
-        if *words == 1 {
-            write!(text, "-- local {local}: {name}\n")?;
-        } else {
-            let last = local.saturating_add(words.saturating_sub(1));
-            write!(text, "-- locals {local} to {last}: {name}\n")?;
+    for (i, one) in located.iter().enumerate() {
+        let is_said = located.iter().take(i).any(|other| other.name == one.name
+            && other.first == one.first
+            && other.words == one.words);
+        if !is_said {
+            put_name(text, one, start)?;
         }
     }
     Ok(())

@@ -1,5 +1,6 @@
 -- What a text says of an address of its code, and of a word of its workspace.
-use Rattle.std.specs.Prelude.{ℕ, ◌-◌, ◌==◌, ◌&&◌, nat_le, nat_lt, Bool, List, Option, find, reverse, option_map}
+use Rattle.std.specs.Prelude.{ℕ, ◌-◌, ◌==◌, ◌&&◌, nat_le, nat_lt, Bool, true, List, Option, Some, None, find, reverse}
+use Rattle.std.specs.Prelude.{option_map}
 use Rattle.tpw_debug.specs.declared.source.Statement.{Statement}
 use Rattle.tpw_debug.specs.declared.source.Named.{Named}
 
@@ -15,9 +16,14 @@ line_before statements at = option_map (λ (s : Statement). s.line) (find (λ s.
 abbrev pub is_word_of : Named → ℕ → Bool
 is_word_of named word = nat_le named.first word && nat_lt (word - named.first) named.words
 
--- the first name that has a word, and the first whose words begin at it
-abbrev pub named : List Named → ℕ → Option Named
-named names word = find (λ n. is_word_of n word) names
+-- a name is in scope at an address; where none is at hand, it counts too
+abbrev pub is_in_scope : Option ℕ → Named → Bool
+is_in_scope None named = true
+is_in_scope (Some at) named = nat_le named.from at && nat_lt at named.to
 
-abbrev pub named_from : List Named → ℕ → Option Named
-named_from names word = find (λ n. n.first == word) names
+-- the first name in scope that has a word, and the first whose words begin at it
+abbrev pub named : List Named → Option ℕ → ℕ → Option Named
+named names at word = find (λ n. is_word_of n word && is_in_scope at n) names
+
+abbrev pub named_from : List Named → Option ℕ → ℕ → Option Named
+named_from names at word = find (λ n. (n.first == word) && is_in_scope at n) names

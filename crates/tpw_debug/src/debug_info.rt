@@ -21,6 +21,7 @@ impl DebugInfo<'_> {
             statements: &self.statements,
             labels: &self.labels,
             words: &self.words,
+            at: None,
         }
     }
 }

@@ -1,7 +1,7 @@
 //! Debug information, borrowed.
 
-ghost use Rattle.std.specs.Prelude.{◌≡◌, option_map};
-ghost use Rattle.tpw_debug.specs.Said.{statement_at, line_before, is_word_of, named, named_from};
+ghost use Rattle.std.specs.Prelude.{◌≡◌, Some, option_map};
+ghost use Rattle.tpw_debug.specs.Said.{statement_at, line_before, is_word_of, is_in_scope, named, named_from};
 
 use crate::printable::Printable;
 use std::fmt;
@@ -24,12 +24,15 @@ pub struct Label<'a> {
     pub name: &'a str,
 }
 
-/// A name of workspace words: of the first, and of those behind it.
+/// A name of workspace words: of the first, and of those behind it. It names them at the addresses from one on up to
+/// another; elsewhere the words may have other names.
 #[derive(Clone, Copy, Debug, PartialEq, Eq)]
 pub struct Named<'a> {
     pub first: usize,
     pub words: usize,
     pub name: &'a str,
+    pub from: usize,
+    pub to: usize,
 }
 
 impl<'a> Named<'a> {
@@ -38,6 +41,16 @@ impl<'a> Named<'a> {
         ensures { result ≡ is_word_of self.now word }
     {
         self.first <= word && word.saturating_sub(self.first) < self.words
+    }
+
+    /// Whether it names words at an address; where none is at hand, it does.
+    pub fn is_in_scope(&self, at: Option<usize>) -> bool
+        ensures { result ≡ is_in_scope at self.now }
+    {
+        match at {
+            Some(at) => self.from <= at && at < self.to,
+            None => true,
+        }
     }
 
     /// A word of the name, as a text writes it.
@@ -72,6 +85,8 @@ pub struct SourceText<'a> {
     pub statements: &'a [Statement<'a>],
     pub labels: &'a [Label<'a>],
     pub words: &'a [Named<'a>],
+    /// The address at hand: a word has the names that are in scope there. Where there is none, it has all.
+    pub at: Option<usize>,
 }
 
 impl<'a> SourceText<'a> {
@@ -81,7 +96,18 @@ impl<'a> SourceText<'a> {
         statements: &[],
         labels: &[],
         words: &[],
+        at: None,
     };
+
+    /// The same, with an address at hand.
+    pub fn at(self, at: usize) -> SourceText<'a>
+        ensures { result ≡ record self { at = Some at } }
+    {
+        SourceText {
+            at: Some(at),
+            ..self
+        }
+    }
 
     /// The statement that says the instruction at an address.
     pub fn statement_at(&self, at: usize) -> Option<Statement<'a>>
@@ -95,11 +121,11 @@ impl<'a> SourceText<'a> {
 
     /// The name of a word, if it is the first of one.
     pub fn name_of(&self, word: usize) -> Option<&'a str>
-        ensures { result ≡ option_map (λ n. n.name) (named_from self.now.words.now word) }
+        ensures { result ≡ option_map (λ n. n.name) (named_from self.now.words.now self.now.at word) }
     {
         self.words
             .iter()
-            .find(|named| named.first == word)
+            .find(|named| named.first == word && named.is_in_scope(self.at))
             .map(|named| named.name)
     }
 
@@ -117,7 +143,7 @@ impl<'a> SourceText<'a> {
     /// The loop of a row, by its name.
     pub fn loop_name(&self, number: usize, row: &LoopRow) -> LoopName<'a> {
         LoopName {
-            source: *self,
+            source: self.at(row.head as usize),
             number,
             control: row.control,
             head: row.head,
@@ -126,9 +152,12 @@ impl<'a> SourceText<'a> {
 
     /// The name that a word has, if it has one.
     pub fn named(&self, word: usize) -> Option<Named<'a>>
-        ensures { result ≡ named self.now.words.now word }
+        ensures { result ≡ named self.now.words.now self.now.at word }
     {
-        self.words.iter().copied().find(|named| named.has(word))
+        self.words
+            .iter()
+            .copied()
+            .find(|named| named.has(word) && named.is_in_scope(self.at))
     }
 
     /// A word, with its name if it has one.
@@ -199,7 +228,7 @@ impl fmt::Display for Names<'_> {
         let mut between = " (";
         for named in self.source.words {
             let end = named.first.saturating_add(named.words);
-            if named.first <= self.last && self.first < end {
+            if named.first <= self.last && self.first < end && named.is_in_scope(self.source.at) {
                 f.write_str(between)?;
                 f.write_str(named.name)?;
                 between = ", ";

@@ -2,7 +2,7 @@
 
 ghost use Rattle.std.specs.Prelude.{◌≡◌, ◌≤◌, IfOk, IfSome, None};
 ghost use Rattle.tp_image.specs.Text.{IsTextOf};
-ghost use Rattle.tpw_inputs.specs.Meanings.{AreImageOfWorker};
+ghost use Rattle.tpw_inputs.specs.Meanings.{AreImageOfText};
 ghost use Rattle.tpw_why.specs.Verdicts.{IsVerdictOn};
 
 use crate::occam::{Occam, read_occam};
@@ -74,7 +74,7 @@ fn build_assembly<'a>(alloc: Global, input: &Input, text: &'a str) -> Result<Bui
 /// Builds the worker that a text in occam says.
 fn build_occam<'a>(alloc: Global, input: &Input, text: &'a [u8]) -> Result<Built<'a>, Failure>
     ensures { IfOk result (λ built. IfSome built.occam
-        (λ occam. AreImageOfWorker occam.compiled.worker built.bytes.items)) }
+        (λ occam. AreImageOfText occam.text.now occam.compiled.core built.bytes.items)) }
 {
     let occam = read_occam(alloc, text)?;
     let bytes = occam.image_bytes(alloc)?;
@@ -114,7 +114,7 @@ pub fn build<'a>(
     text: &'a [u8],
 ) -> Result<Built<'a>, Failure>
     ensures { IfOk result (λ built. IfSome built.occam
-        (λ occam. AreImageOfWorker occam.compiled.worker built.bytes.items)) }
+        (λ occam. AreImageOfText occam.text.now occam.compiled.core built.bytes.items)) }
 {
     match language {
         Language::Assembly => build_assembled(alloc, input, text),

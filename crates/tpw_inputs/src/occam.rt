@@ -93,7 +93,7 @@ impl Occam<'_> {
     }
 }
 
-/// Compiles a worker in occam. Nothing is judged. What the text means is `compiled.worker`.
+/// Compiles a worker in occam. Nothing is judged. What the text means is `compiled.core`.
 pub fn read_occam<'a>(alloc: Global, text: &'a [u8]) -> Result<Occam<'a>, Failure>
     ensures text { IfOk result (λ occam. occam.text.now ≡ text.now) }
     ensures compiled { IfOk result (λ occam. IsCompiled occam.text.now occam.compiled) }

@@ -32,15 +32,13 @@ fn statements_of<'a>(
 /// The names of a text in occam, as names of workspace words.
 fn words_of<'a>(alloc: Global, located: &[Located<'a>]) -> Result<Vec<Named<'a>>, Failure> {
     let mut words = Vec::new(alloc);
-    for Located {
-        name,
-        first,
-        words: size,
-    } in located {
+    for name in located {
         words.push(Named {
-            first: *first as usize,
-            words: *size as usize,
-            name: *name,
+            first: name.first as usize,
+            words: name.words as usize,
+            name: name.name,
+            from: name.from as usize,
+            to: name.to as usize,
         })?;
     }
     Ok(words)

@@ -1,28 +1,38 @@
 //! From a text to its program.
 
-ghost use Rattle.std.specs.Prelude.{◌≡◌, ◌≤◌, All, IfErr, IfOk, length, true};
-ghost use Rattle.tpw_occam.specs.Compilation.{IsCompilation, IsRefusal};
-ghost use Rattle.tpw_occam_core.specs.Sound.{is_sound};
-ghost use Rattle.tpw_occam_tree.specs.Places.{LiesIn};
+ghost use Rattle.std.specs.Prelude.{◌≡◌, IfOk, Some};
+ghost use Rattle.tpw_occam.specs.Compilation.{IsCompilation, IsDoneBy, IsRefusal};
+ghost use Rattle.tpw_occam_lexing.specs.Lines.{lines_of};
+ghost use Rattle.tpw_occam_meaning.specs.Texts.{MeansText};
+ghost use Rattle.tpw_occam_reading.specs.declared.reading.Standing.TheVariants.{Read};
+ghost use Rattle.tpw_occam_reading.specs.Unparse.{unparse};
+ghost use Rattle.tpw_occam_scoped.specs.Meaning.{meaning};
 
 use crate::diagnosing::{fault_at, faults_of, warnings_of};
 use crate::fault::{Defect, OccamFault};
-use crate::names::{Located, located_in};
+use crate::names::{Located, Sources, located_in};
 use std::alloc::{AllocError, Global};
 use tpw_asm::{Assembled, Program};
 use tpw_debug::Diagnostic;
+use tpw_occam_checking::{CheckError, check};
 use tpw_occam_code::compile;
-use tpw_occam_core::Worker;
-use tpw_occam_elaboration::{Elaborated, ElaborationError, Fault, FaultKind, elaborate};
+use tpw_occam_core::{Worker, is_sound};
+use tpw_occam_faults::{Fault, Note};
+use tpw_occam_meaning::Source;
+use tpw_occam_placing::{Declared, names_of, place};
+use tpw_occam_reading::{Parsed, Standing, parse};
+use tpw_occam_scoped::Process;
 use tpw_occam_symbolic::{CodeFault, Compiled};
-use tpw_occam_syntax::parse;
-use tpw_occam_tree::Source;
+use tpw_occam_workers::resolve;
+
+/// The most that lies within one another in a text that the check lets pass, in calls of a pass over its tree.
+const ROOM: u32 = 10_000;
 
 /// A text, compiled.
 #[derive(Drop)]
 pub struct CompiledText<'t> {
     /// What the text means.
-    pub worker: Worker,
+    pub core: Process,
     pub program: Program,
     /// The image of the program, accepted or not, and the address of each place of the program.
     pub assembled: Assembled,
@@ -39,9 +49,6 @@ pub struct CompiledText<'t> {
 fn refused(alloc: Global, text: &str, faults: &[Fault<'_>]) -> OccamFault
     ensures { IsRefusal text.now result }
 {
-    if faults.iter().any(|fault| fault.kind == FaultKind::Compiler) {
-        return OccamFault::Compiler(Defect::Unsound);
-    }
     let Ok(diagnostics) = faults_of(alloc, text, faults) else {
         return OccamFault::Memory;
     };
@@ -80,21 +87,53 @@ fn without_code(alloc: Global, text: &str, fault: CodeFault) -> OccamFault
     }
 }
 
+/// A tree, what it means, the worker that does it, and what is declared in it.
+#[derive(Drop)]
+struct Made<'t> {
+    source: &'t Source<'t>,
+    core: Process,
+    worker: Worker,
+    declared: Vec<Declared>,
+}
+
+/// The worker that does what a tree means.
+fn made_of<'t>(alloc: Global, source: &'t Source<'t>) -> Result<Made<'t>, OccamFault>
+    ensures source { IfOk result (λ made. made.source.now ≡ source.now) }
+    ensures means { IfOk result (λ made. MeansText source.now (meaning made.core)) }
+    ensures done { IfOk result (λ made. IsDoneBy made.core made.worker) }
+{
+    let core = resolve(alloc, source, ROOM)?;
+    let worker = place(alloc, &core, ROOM)?;
+    if !is_sound(alloc, &worker)? {
+        return Err(OccamFault::Compiler(Defect::Unsound));
+    }
+    let declared = names_of(alloc, &core)?;
+    Ok(Made {
+        source,
+        core,
+        worker,
+        declared,
+    })
+}
+
 /// The program of a worker that a text says.
 fn compiled<'t>(
     alloc: Global,
     text: &'t str,
-    elaborated: Elaborated<'_>,
+    made: Made<'t>,
+    notes: &[Note<'_>],
 ) -> Result<CompiledText<'t>, OccamFault>
-    requires { is_sound elaborated.worker ≡ true }
+    requires written { lines_of text.now ≡ Some (unparse made.source.now) }
+    requires means { MeansText made.source.now (meaning made.core) }
+    requires done { IsDoneBy made.core made.worker }
     ensures { IsCompilation text.now result }
 {
-    let Elaborated {
+    let Made {
+        core,
         worker,
-        variables,
-        arrays,
-        notes,
-    } = elaborated;
+        declared,
+        ..
+    } = made;
     match compile(alloc, &worker) {
         Ok(
             Compiled {
@@ -105,10 +144,14 @@ fn compiled<'t>(
                 placed,
             },
         ) => {
-            let located = located_in(alloc, text, &placed, &variables, &arrays)?;
-            let warnings = warnings_of(alloc, text, &notes)?;
+            let code = Sources {
+                lines: &sources,
+                addresses: &assembled.addresses,
+            };
+            let located = located_in(alloc, text, &placed, &declared, code)?;
+            let warnings = warnings_of(alloc, text, notes)?;
             Ok(CompiledText {
-                worker,
+                core,
                 program,
                 assembled,
                 sources,
@@ -123,7 +166,9 @@ fn compiled<'t>(
 
 /// The tree of a text. It stays allocated until the program ends: the kit's borrow checker shortens no lifetime within
 /// a tree, so one that is dropped earlier could not be borrowed.
-fn tree_of<'t>(alloc: Global, text: &'t str) -> Result<&'t Source<'t>, AllocError> {
+fn tree_of<'t>(alloc: Global, text: &'t str) -> Result<&'t Parsed<'t>, AllocError>
+    ensures { IfOk result (λ parsed. parsed.now.standing ≡ Read → lines_of text.now ≡ Some (unparse parsed.now.source)) }
+{
     let tree = Box::new(alloc, parse(alloc, text)?)?;
     Ok(Box::leak(tree))
 }
@@ -132,9 +177,21 @@ fn tree_of<'t>(alloc: Global, text: &'t str) -> Result<&'t Source<'t>, AllocErro
 pub fn compile_text<'t>(alloc: Global, text: &'t str) -> Result<CompiledText<'t>, OccamFault>
     ensures { IsCompilation text.now result }
 {
-    match elaborate(alloc, text, tree_of(alloc, text)?) {
-        Ok(elaborated) => compiled(alloc, text, elaborated),
-        Err(ElaborationError::Faults(faults)) => Err(refused(alloc, text, &faults)),
-        Err(ElaborationError::Memory) => Err(OccamFault::Memory),
+    let parsed = tree_of(alloc, text)?;
+    let source = if parsed.is_laid_out {
+        Some(&parsed.source)
+    } else {
+        None
+    };
+    match check(alloc, text, source, &parsed.faults) {
+        Ok(notes) => match parsed.standing {
+            Standing::Read => {
+                let made = made_of(alloc, &parsed.source)?;
+                compiled(alloc, text, made, &notes)
+            }
+            Standing::Faulty | Standing::Defective => { Err(OccamFault::Compiler(Defect::Misread)) }
+        },
+        Err(CheckError::Faults(faults)) => Err(refused(alloc, text, &faults)),
+        Err(CheckError::Memory) => Err(OccamFault::Memory),
     }
 }

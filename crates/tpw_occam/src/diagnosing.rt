@@ -5,8 +5,8 @@ ghost use Rattle.tpw_occam.specs.Compilation.{IsPlaced};
 
 use std::alloc::{AllocError, Global};
 use tpw_debug::{Diagnostic, MAX_DIAGNOSTICS, Severity, Span};
-use tpw_occam_elaboration::{Fault, FaultKind, Note};
-use tpw_occam_tree::{FaultKind as SyntaxFault, Span as TreeSpan, Wanted, placed};
+use tpw_occam_faults::{Fault, FaultKind, Note};
+use tpw_occam_terms::{FaultKind as SyntaxFault, Span as TreeSpan, Wanted, placed};
 
 /// The place of a span in a text.
 fn span_of(text: &str, span: TreeSpan) -> Span

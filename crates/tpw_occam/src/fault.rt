@@ -7,10 +7,15 @@ use thiserror::Error;
 use tp_accept::RefusalCode;
 use tpw_asm::AssemblyFault;
 use tpw_debug::Diagnostic;
+use tpw_occam_names::Fault as ResolvingFault;
+use tpw_occam_placing::Fault as PlacingFault;
 
 /// What the compiler does wrong with a text. None is known.
 #[derive(Clone, Copy, Debug, PartialEq, Eq, Error)]
 pub enum Defect {
+    /// The tree that is made of the text is written otherwise.
+    #[error("the tree that it makes of the text is written otherwise")]
+    Misread,
     /// What the text says breaks a rule of the language's core.
     #[error("what it makes of the text is no sound worker")]
     Unsound,
@@ -34,6 +39,24 @@ pub enum OccamFault {
     Compiler(Defect),
     /// A growth was refused.
     Memory,
+}
+
+impl From<ResolvingFault> for OccamFault {
+    fn from(fault: ResolvingFault) -> Self {
+        match fault {
+            ResolvingFault::Memory => OccamFault::Memory,
+            ResolvingFault::Deep | ResolvingFault::Wrong => OccamFault::Compiler(Defect::Unsound),
+        }
+    }
+}
+
+impl From<PlacingFault> for OccamFault {
+    fn from(fault: PlacingFault) -> Self {
+        match fault {
+            PlacingFault::Memory => OccamFault::Memory,
+            PlacingFault::Deep | PlacingFault::Misplaced => OccamFault::Compiler(Defect::Unsound),
+        }
+    }
 }
 
 impl From<AllocError> for OccamFault {

@@ -1,17 +1,37 @@
 //! Names of a text, and the workspace words that they have.
 
 use std::alloc::{AllocError, Global};
-use tpw_occam_elaboration::Named;
+use std::collections::BTreeSet;
+use tpw_occam_core::Place;
+use tpw_occam_placing::Declared;
 use tpw_occam_symbolic::{Item, Placed, START};
-use tpw_occam_tree::Span;
+use tpw_occam_terms::Span;
 
-/// A name of a variable or of an array, and its words of the workspace.
+/// A name of a variable or of an array, its words of the workspace, and a stretch of the code in which it names them.
+/// What is never in scope together may have the same words.
 #[derive(Clone, Copy, Debug, PartialEq, Eq)]
 pub struct Located<'t> {
     pub name: &'t str,
     /// The first word, by its number in the workspace.
     pub first: u32,
     pub words: u32,
+    /// The address at which the stretch begins, and the one behind it.
+    pub from: u32,
+    pub to: u32,
+}
+
+/// The code of a text: the line that each instruction comes from, and its address.
+#[derive(Clone, Copy)]
+pub(crate) struct Sources<'c> {
+    pub(crate) lines: &'c [u32],
+    pub(crate) addresses: &'c [u32],
+}
+
+/// A stretch of code: from an address on up to another.
+#[derive(Clone, Copy)]
+struct Stretch {
+    from: u32,
+    to: u32,
 }
 
 /// What stands at a place of a text, by its lines.
@@ -21,27 +41,72 @@ fn said_at<'t>(lines: &[&'t str], span: Span) -> Option<&'t str> {
     line.get(first..first.saturating_add(span.width))
 }
 
-/// An item under its name, where it has one in the text. The word behind a loop's index has none.
-fn named_item<'t>(
-    lines: &[&'t str],
-    placed: Placed,
-    variables: &[Named<'_>],
-    arrays: &[Named<'_>],
-) -> Option<Located<'t>> {
-    let (named, words) = match placed.item {
-        Item::Variable(x) => (variables.get(x)?, 1),
-        Item::Array(a) => (arrays.get(a)?, placed.words),
-        Item::Temporary(_) | Item::Constant(_) | Item::Zeros => return None,
-    };
-    let name = said_at(lines, named.span)?;
-    if name != named.text {
-        return None;
+/// Where an item lies in a worker, and how many words have its name. The word behind a loop's index has none.
+fn named_item(placed: Placed) -> Option<(Place, u32)> {
+    match placed.item {
+        Item::Variable(x) => Some((Place::Variable(x), 1)),
+        Item::Array(a) => Some((Place::Array(a), placed.words)),
+        Item::Temporary(_) | Item::Constant(_) | Item::Zeros => None,
     }
-    Some(Located {
-        name,
-        first: START.saturating_add(placed.local),
-        words,
-    })
+}
+
+/// The stretches of code that come from these lines.
+fn stretches(
+    alloc: Global,
+    code: Sources<'_>,
+    lines: &BTreeSet<u32>,
+) -> Result<Vec<Stretch>, AllocError> {
+    let mut all = Vec::new(alloc);
+    let mut begun = None;
+    for (place, at) in code.addresses.iter().enumerate() {
+        let is_in = code
+            .lines
+            .get(place)
+            .is_some_and(|line| lines.contains(line));
+        match begun {
+            None if is_in => begun = Some(*at),
+            Some(from) if !is_in => {
+                all.push(Stretch { from, to: *at })?;
+                begun = None;
+            }
+            _ => {}
+        }
+    }
+    if let Some(from) = begun {
+        all.push(Stretch { from, to: u32::MAX })?;
+    }
+    Ok(all)
+}
+
+/// Adds the names of an item, each once.
+fn add_names<'t>(
+    alloc: Global,
+    names: &mut Vec<Located<'t>>,
+    text: &[&'t str],
+    placed: Placed,
+    declared: &[Declared],
+    code: Sources<'_>,
+) -> Result<(), AllocError> {
+    let Some((place, words)) = named_item(placed) else {
+        return Ok(());
+    };
+    for one in declared.iter().filter(|one| one.place == place) {
+        if let Some(name) = said_at(text, one.name) {
+            for Stretch { from, to } in stretches(alloc, code, &one.lines)? {
+                let located = Located {
+                    name,
+                    first: START.saturating_add(placed.local),
+                    words,
+                    from,
+                    to,
+                };
+                if !names.contains(&located) {
+                    names.push(located)?;
+                }
+            }
+        }
+    }
+    Ok(())
 }
 
 /// The names of items that have one in the text.
@@ -49,15 +114,13 @@ pub(crate) fn located_in<'t>(
     alloc: Global,
     text: &'t str,
     all: &[Placed],
-    variables: &[Named<'_>],
-    arrays: &[Named<'_>],
+    declared: &[Declared],
+    code: Sources<'_>,
 ) -> Result<Vec<Located<'t>>, AllocError> {
     let lines: Vec<&'t str> = text.lines().collect(alloc)?;
     let mut names = Vec::new(alloc);
     for placed in all {
-        if let Some(name) = named_item(&lines, *placed, variables, arrays) {
-            names.push(name)?;
-        }
+        add_names(alloc, &mut names, &lines, *placed, declared, code)?;
     }
     Ok(names)
 }

@@ -1,6 +1,6 @@
 -- What a check gives: notes, or faults.
 use Rattle.std.specs.Prelude.{◌≤◌, ℕ, List, Result, Ok, Err, All, length}
-use Rattle.tpw_occam_tree.specs.Places.{LiesIn}
+use Rattle.tpw_occam_terms.specs.Places.{LiesIn}
 use Rattle.tpw_occam_faults.specs.Order.{AreFaultsInOrder, AreNotesInOrder}
 use Rattle.tpw_occam_faults.specs.declared.fault.Fault.{Fault}
 use Rattle.tpw_occam_faults.specs.declared.note.Note.{Note}

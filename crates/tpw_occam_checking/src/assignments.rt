@@ -4,7 +4,7 @@ use crate::trees::only;
 use tpw_occam_faults::{FaultKind, Role, Stop};
 use tpw_occam_meaning::{Expression as Tree, Expressions};
 use tpw_occam_names::element_type;
-use tpw_occam_tree::{Name, Primitive};
+use tpw_occam_terms::{Name, Primitive};
 use tpw_occam_typing::{
     Access, Checker, Frame, Meaning, Shape, bare, count_of, name_alone, span_of,
 };

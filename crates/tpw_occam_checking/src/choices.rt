@@ -3,7 +3,7 @@
 use crate::limits::MAX_GUARDS;
 use tpw_occam_faults::{FaultKind, Limit, Stop};
 use tpw_occam_meaning::{Expression as Tree, Expressions};
-use tpw_occam_tree::{Primitive, Span};
+use tpw_occam_terms::{Primitive, Span};
 use tpw_occam_typing::{Checker, Frame, Root, Worth, levels_within, span_of};
 
 /// What a CASE chooses by: its type, and whether a name is bound for it.

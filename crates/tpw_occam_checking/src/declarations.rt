@@ -7,7 +7,7 @@ use tpw_occam_faults::{FaultKind, Stop};
 use tpw_occam_meaning::{
     Declaration, Expression as Tree, Expressions, Names, Parameters, Process, Type,
 };
-use tpw_occam_tree::{Name, Primitive};
+use tpw_occam_terms::{Name, Primitive};
 use tpw_occam_typing::{
     Access, Callee, Checker, Frame, MAX_DEPTH, Meaning, Point, Root, Shape, Size, Storage, Value,
     View, Worth, bare, bytes_of, is_table, levels_within, or_else, size_of, span_of,

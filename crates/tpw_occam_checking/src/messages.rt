@@ -2,7 +2,7 @@
 
 use tpw_occam_faults::{FaultKind, Stop};
 use tpw_occam_meaning::Expression as Tree;
-use tpw_occam_tree::{Name, Primitive};
+use tpw_occam_terms::{Name, Primitive};
 use tpw_occam_typing::{Channel, Checker, Frame, Protocol, Root, Shape, Storage};
 
 /// What a message is of.

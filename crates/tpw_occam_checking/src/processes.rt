@@ -12,7 +12,7 @@ use tpw_occam_faults::{FaultKind, Limit, NoteKind, Role, Stop};
 use tpw_occam_meaning::{
     Cases, Choices, Expression as Tree, Expressions, Process as Written, Processes,
 };
-use tpw_occam_tree::{Name, Primitive, Span};
+use tpw_occam_terms::{Name, Primitive, Span};
 use tpw_occam_typing::{
     Checker, Frame, MOST_POSITIVE, Meaning, Root, count_of, levels_within, recovered, span_of,
 };

@@ -3,7 +3,7 @@
 use tpw_occam_meaning::{
     Cases, Choices, Declaration, Declarations, Expression, Expressions, Names, Process, Processes,
 };
-use tpw_occam_tree::{Name, Span};
+use tpw_occam_terms::{Name, Span};
 
 /// The first of several names.
 pub(crate) fn first_of<'a>(names: &Names<'a>) -> Option<Name<'a>> {

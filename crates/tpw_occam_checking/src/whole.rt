@@ -9,7 +9,7 @@ use crate::worker::worker;
 use std::alloc::{AllocError, Global};
 use tpw_occam_faults::{FIRST, Fault, FaultKind, Note, Stop, reported_faults, reported_notes};
 use tpw_occam_meaning::{Declaration, Declarations, Source};
-use tpw_occam_tree::Fault as Misread;
+use tpw_occam_terms::Fault as Misread;
 use tpw_occam_typing::{Checker, Frame, MAX_DEPTH};
 
 /// Why a text has no worker.

@@ -7,7 +7,7 @@ use crate::processes::steps;
 use crate::trees::{behind, last_step, steps_of};
 use tpw_occam_faults::{FaultKind, NoteKind, Stop};
 use tpw_occam_meaning::{Expression as Tree, Parameters, Process as Written, Processes};
-use tpw_occam_tree::{Name, Primitive, Span};
+use tpw_occam_terms::{Name, Primitive, Span};
 use tpw_occam_typing::{
     Callee, Channel, Checker, Form, Frame, MAX_DEPTH, Meaning, Parameter, Protocol, Root, Scope,
     Shape, Storage, name_alone, name_of, recovered, span_of,

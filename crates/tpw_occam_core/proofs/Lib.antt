@@ -1,2 +1,1 @@
-pub mod Stores
 mod Tables

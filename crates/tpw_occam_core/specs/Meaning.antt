@@ -24,7 +24,6 @@ use Rattle.tpw_occam_core.specs.declared.worker.Storage.TheVariants.{Zeros, Tabl
 use Rattle.tpw_occam_core.specs.declared.worker.Place.{Place}
 use Rattle.tpw_occam_core.specs.declared.worker.Place.TheVariants as place
 use Rattle.tpw_occam_core.specs.declared.worker.Worker.{Worker}
-use Rattle.tpw_occam_core.specs.declared.evaluated.Given.{Given}
 use Rattle.tpw_occam_core.specs.Arithmetic.{answer, plain, subscript, low_byte, applied}
 use Rattle.tpw_occam_core.specs.Arrays.{size, element, kept, with_element}
 
@@ -191,9 +190,3 @@ unfoldable pub meaning : Worker → List ℕ → Option Meant
 meaning w packet =
     if nat_lt most_traced (length (after w packet).traced) then None
     else Some (meant w.send (after w packet))
-
--- this is given of a packet
-abbrev pub IsMeaning : Worker → List ℕ → Option Given → Type 0
-IsMeaning w packet None = meaning w packet ≡ None
-IsMeaning w packet (Some g) =
-    meaning w packet ≡ Some (record { result = g.result.items; flag = g.flag; traced = g.traced.items })

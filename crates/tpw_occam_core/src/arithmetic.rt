@@ -4,6 +4,7 @@
 ghost use Rattle.std.specs.Prelude.{◌≡◌};
 ghost use Rattle.tpw_occam_core.specs.Arithmetic.{answer, plain, subscript, quotient_answer, shifted_left};
 ghost use Rattle.tpw_occam_core.specs.Arithmetic.{shifted_right, applied, low_byte};
+ghost use Rattle.tpw_occam_core.specs.Meaning.{followed};
 
 use crate::expression::Operator;
 use tp_outcome::words::{
@@ -18,10 +19,20 @@ pub struct Answer {
 }
 
 /// A word that sets no flag.
-pub(crate) fn plain(word: u32) -> Answer
+pub fn plain(word: u32) -> Answer
     ensures { result ≡ plain word }
 {
     Answer { word, flag: false }
+}
+
+/// The second answer, with the flag of the first kept.
+pub fn followed(first: Answer, second: Answer) -> Answer
+    ensures { result ≡ followed first (λ word. second) }
+{
+    Answer {
+        word: second.word,
+        flag: first.flag || second.flag,
+    }
 }
 
 /// A word, and its flag.

@@ -2,7 +2,7 @@
 
 use crate::sort::{Role, Sort, keyword, with_article};
 use std::fmt;
-use tpw_occam_tree::{Primitive, Span};
+use tpw_occam_terms::{Primitive, Span};
 
 /// What a text goes beyond.
 #[derive(Clone, Copy, Debug, PartialEq, Eq)]
@@ -21,7 +21,7 @@ pub enum Limit {
 #[derive(Clone, Copy, Debug, PartialEq, Eq)]
 pub enum FaultKind<'a> {
     /// The text is not read as a tree.
-    Syntax(tpw_occam_tree::FaultKind),
+    Syntax(tpw_occam_terms::FaultKind),
     /// No such name is in scope: one may be near to it.
     Unknown {
         name: &'a str,

@@ -5,7 +5,7 @@ ghost use Rattle.std.specs.Prelude.{IfOk};
 use crate::fault::{Fault, FaultKind};
 use crate::note::{Note, NoteKind};
 use std::alloc::{AllocError, AllocFailed, Global};
-use tpw_occam_tree::{MAX_FAULTS, Span};
+use tpw_occam_terms::{MAX_FAULTS, Span};
 
 /// Why no more is known.
 #[derive(Clone, Copy, Debug, PartialEq, Eq)]

@@ -1,7 +1,7 @@
 //! What a text may not mean.
 
 use std::fmt;
-use tpw_occam_tree::Span;
+use tpw_occam_terms::Span;
 
 /// What may not be meant.
 #[derive(Clone, Copy, Debug, PartialEq, Eq)]

@@ -1,7 +1,7 @@
 //! What names stand for, as a fault says it.
 
 use std::fmt;
-use tpw_occam_tree::Primitive;
+use tpw_occam_terms::Primitive;
 
 /// What a name stands for.
 #[derive(Clone, Copy, Debug, PartialEq, Eq)]

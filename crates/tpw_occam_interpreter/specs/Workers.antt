@@ -1,6 +1,6 @@
 -- What is given of a packet.
 use Rattle.std.specs.Prelude.{◌≡◌, Option, Some, None}
-use Rattle.tpw_occam_core.specs.declared.evaluated.Given.{Given}
+use Rattle.tpw_occam_interpreter.specs.declared.workers.Given.{Given}
 use Rattle.tpw_occam_core.specs.Meaning.{Meant}
 
 -- this is given: nothing, or a result, the flag and the traces

@@ -1,7 +1,6 @@
 //! Expressions.
 
 ghost use Rattle.std.specs.Prelude.{◌≡◌};
-ghost use Rattle.tpw_occam_core.specs.Arithmetic as arithmetic;
 ghost use Rattle.tpw_occam_core.specs.Meaning as core;
 ghost use Rattle.tpw_occam_scoped.specs.Meaning as scoped;
 ghost use Rattle.tpw_occam_interpreter.specs.Memories.{state_in};
@@ -9,35 +8,8 @@ ghost use Rattle.tpw_occam_interpreter.specs.Memories.{state_in};
 use crate::arrays::element_at;
 use crate::memory::{Cells, bytes, word};
 use tp_outcome::words::complement;
-use tpw_occam_core::{Answer, applied, checked_subscript};
+use tpw_occam_core::{Answer, applied, checked_subscript, followed, low_byte, plain};
 use tpw_occam_scoped::Expression;
-
-/// A word that sets no flag.
-pub(crate) fn plain(word: u32) -> Answer
-    ensures { result ≡ arithmetic.plain word }
-{
-    Answer { word, flag: false }
-}
-
-/// The second answer, with the flag of the first kept.
-pub(crate) fn followed(first: Answer, second: Answer) -> Answer
-    ensures { result ≡ core.followed first (λ word. second) }
-{
-    Answer {
-        word: second.word,
-        flag: first.flag || second.flag,
-    }
-}
-
-/// The low byte of a word. The flag is set where there is more.
-fn low_byte(word: u32) -> Answer
-    ensures { result ≡ arithmetic.low_byte word }
-{
-    Answer {
-        word: word % 256,
-        flag: word >= 256,
-    }
-}
 
 /// The word of an OR, by that of its right operand.
 fn either(right: Answer) -> Answer

@@ -9,6 +9,6 @@ mod running;
 mod workers;
 mod writing;
 
-pub use memory::Memory;
+pub use memory::{MAX_TRACED, Memory};
 pub use running::Halt;
-pub use workers::{begin, run_worker, value_in};
+pub use workers::{Given, begin, run_worker, value_in};

@@ -3,6 +3,9 @@
 ghost use Rattle.std.specs.Prelude.{◌≡◌};
 ghost use Rattle.tpw_occam_interpreter.specs.Memories.{state_in};
 
+/// The most bytes that a worker may trace.
+pub const MAX_TRACED: usize = 256;
+
 /// The words of cells, the bytes of arrays, the error flag, the packet, the traces so far, and the result.
 #[derive(Drop)]
 pub struct Memory {

@@ -7,10 +7,9 @@ ghost use Rattle.tpw_occam_scoped.specs.Meaning as scoped;
 ghost use Rattle.tpw_occam_interpreter.specs.Memories.{state_in, state_of};
 
 use crate::expressions::value;
-use crate::memory::{Cells, Memory, bytes};
+use crate::memory::{Cells, MAX_TRACED, Memory, bytes};
 use crate::running::Halt;
 use std::alloc::{AllocError, Global};
-use tpw_occam_core::MAX_TRACED;
 use tpw_occam_scoped::{Bytes, Message};
 
 /// The bytes of an array, or of a table.

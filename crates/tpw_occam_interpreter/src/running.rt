@@ -8,11 +8,11 @@ ghost use Rattle.tpw_occam_scoped.specs.declared.process.Process.TheVariants as 
 ghost use Rattle.tpw_occam_interpreter.specs.Memories.{state_of};
 
 use crate::arrays::{element, kept, size};
-use crate::expressions::{followed, plain, value};
+use crate::expressions::value;
 use crate::memory::{Cells, Memory, bytes};
 use crate::messages::{bytes_in, send, trace};
 use std::alloc::{AllocError, Global};
-use tpw_occam_core::{Answer, Kind, checked_subscript};
+use tpw_occam_core::{Answer, Kind, checked_subscript, followed, plain};
 use tpw_occam_scoped::{Assignment, Bytes, Process, Target};
 
 /// Why a process is not run to its end.

@@ -8,11 +8,19 @@ ghost use Rattle.tpw_occam_interpreter.specs.Memories.{state_of};
 ghost use Rattle.tpw_occam_interpreter.specs.Workers.{IsGiven};
 
 use crate::expressions::value;
-use crate::memory::{Cells, Memory};
+use crate::memory::{Cells, MAX_TRACED, Memory};
 use crate::running::{Halt, run};
 use std::alloc::{AllocError, Global};
-use tpw_occam_core::{Answer, Given, MAX_TRACED};
+use tpw_occam_core::Answer;
 use tpw_occam_scoped::{Expression, Process};
+
+/// What a worker makes of a packet.
+#[derive(Debug, Drop)]
+pub struct Given {
+    pub result: Vec<u8>,
+    pub flag: bool,
+    pub traced: Vec<u8>,
+}
 
 /// The memory in which a worker begins.
 pub fn begin(alloc: Global, packet: &[u8]) -> Result<Memory, AllocError>
@@ -36,7 +44,7 @@ pub fn value_in(memory: &Memory, e: &Expression) -> Answer
 }
 
 /// What is given in the end: nothing where more is traced than may be.
-fn given(memory: Memory) -> Option<Given>
+fn outcome(memory: Memory) -> Option<Given>
     ensures { IsGiven (meant (state_of memory)) result }
 {
     if memory.traced.len() > MAX_TRACED {
@@ -51,11 +59,11 @@ fn given(memory: Memory) -> Option<Given>
 
 /// What a worker makes of a packet; nothing where the packet is lost, since more is traced than may be.
 pub fn run_worker(alloc: Global, p: &Process, packet: &[u8]) -> Result<Option<Given>, AllocError>
-    ensures { IfOk result (IsGiven (meant (scoped.run p.now (first packet.now)))) }
+    ensures { IfOk result (IsGiven (scoped.meaning p.now packet.now)) }
 {
     let mut memory = begin(alloc, packet)?;
     match run(alloc, &mut memory, p) {
-        Ok(()) => Ok(given(memory)),
+        Ok(()) => Ok(outcome(memory)),
         Err(Halt::Lost) => Ok(None),
         Err(Halt::Memory) => Err(AllocError),
     }

@@ -1,6 +1,6 @@
 -- Runs of bytes
 use Rattle.std.specs.Prelude.{ℕ, ◌+◌, ◌<◌, Bool, ◌==◌, ◌&&◌, ◌||◌, not, nat_le, if◌then◌else◌, is_some, List, [], ◌∷◌, length, slice_index}
-use Rattle.tpw_occam_tree.specs.Spelling.{digit}
+use Rattle.tpw_occam_terms.specs.Spelling.{digit}
 use Rattle.tpw_occam_lexing.specs.declared.bytes.Class.{Class}
 use Rattle.tpw_occam_lexing.specs.declared.bytes.Class.TheVariants as class
 

@@ -1,7 +1,7 @@
 -- What a text is made of: at each place the longest lexeme that its bytes allow
 use Rattle.std.specs.Prelude.{ℕ, ◌+◌, ◌-◌, ◌*◌, ◌^◌, ◌==◌, ◌&&◌, nat_lt, nat_le, Bool, true, false, if◌then◌else◌}
 use Rattle.std.specs.Prelude.{Option, Some, None, option_map, is_some, List, [], ◌∷◌, length, take, drop}
-use Rattle.tpw_occam_tree.specs.Spelling.{digit, letter, front}
+use Rattle.tpw_occam_terms.specs.Spelling.{digit, letter, front}
 use Rattle.tpw_occam_lexing.specs.declared.bytes.Class.TheVariants as class
 use Rattle.tpw_occam_lexing.specs.declared.keywords.Keyword.{Keyword}
 use Rattle.tpw_occam_lexing.specs.declared.symbol.Symbol.{Symbol}

@@ -3,7 +3,7 @@
 ghost use Rattle.std.specs.Prelude.{◌≡◌, ◌≤◌, length};
 ghost use Rattle.tpw_occam_lexing.specs.Bytes.{has, is_letter, run};
 
-use tpw_occam_tree::is_hexadecimal;
+use tpw_occam_terms::is_hexadecimal;
 
 /// What bytes a run of bytes has.
 #[derive(Clone, Copy)]

@@ -6,7 +6,7 @@ ghost use Rattle.tpw_occam_lexing.specs.Reading.{meant, outcome};
 
 use crate::line::{Joining, Line, joining_of};
 use std::alloc::AllocError;
-use tpw_occam_tree::{FaultKind, Span};
+use tpw_occam_terms::{FaultKind, Span};
 
 /// The lines of a text.
 #[derive(Drop)]

@@ -3,7 +3,7 @@
 ghost use Rattle.std.specs.Prelude.{◌≡◌};
 ghost use Rattle.tpw_occam_lexing.specs.Keywords.{spelling, listed, keyword_of, is_open_word, is_between_word};
 
-use tpw_occam_tree::Unsupported;
+use tpw_occam_terms::Unsupported;
 
 /// A keyword of occam.
 #[derive(Clone, Copy, PartialEq)]

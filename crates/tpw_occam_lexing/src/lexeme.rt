@@ -2,7 +2,7 @@
 
 ghost use Rattle.std.specs.Prelude.{◌≡◌, ◌<◌, option_map, IfSome, IsTrue, is_some, length, drop, take, slice_index};
 ghost use Rattle.std.specs.Str.{IsCharBoundary};
-ghost use Rattle.tpw_occam_tree.specs.Spelling.{letter};
+ghost use Rattle.tpw_occam_terms.specs.Spelling.{letter};
 ghost use Rattle.tpw_occam_lexing.specs.Bytes.{run, IsNarrow, IsMarked};
 ghost use Rattle.tpw_occam_lexing.specs.Lexemes.{is_int, further, only_where, is_closed, width, begins, lexeme_of};
 ghost use Rattle.tpw_occam_lexing.specs.Lexemes as lexeme;
@@ -11,7 +11,7 @@ use crate::bytes::{Class, is_letter, run};
 use crate::keywords::Keyword;
 use crate::symbol::at_front;
 use crate::token::Token;
-use tpw_occam_tree::{is_hexadecimal, quoted};
+use tpw_occam_terms::{is_hexadecimal, quoted};
 
 /// A token and how many bytes it has.
 type Read<'a> = Option<(Token<'a>, usize)>;

@@ -12,7 +12,7 @@ use crate::recovery::recovered;
 use crate::symbol::Symbol;
 use crate::token::{Item, Token};
 use std::alloc::{AllocError, Global};
-use tpw_occam_tree::{Fault, FaultKind, MAX_FAULTS, Span};
+use tpw_occam_terms::{Fault, FaultKind, MAX_FAULTS, Span};
 
 /// A line, with those that it goes on over.
 #[derive(Drop)]

@@ -5,7 +5,7 @@ use crate::line::{Line, Next, front_of};
 use crate::symbol::at_front;
 use crate::token::Item;
 use std::alloc::{AllocError, Global};
-use tpw_occam_tree::{FaultKind, Span, quoted};
+use tpw_occam_terms::{FaultKind, Span, quoted};
 
 /// What is wrong at the front of a text: which bytes are shown, and how many are passed over.
 #[derive(Clone, Copy)]

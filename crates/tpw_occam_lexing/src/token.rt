@@ -2,7 +2,7 @@
 
 use crate::keywords::Keyword;
 use crate::symbol::Symbol;
-use tpw_occam_tree::Span;
+use tpw_occam_terms::Span;
 
 /// What a text is made of. What is spelled is a part of the text.
 #[derive(Clone, Copy)]

@@ -3,7 +3,7 @@ use Rattle.std.proofs.Common.{◌≡◌, ◌≢◌, ℕ, nat_eq, Bool, true, fal
 use Rattle.std.specs.Cmp.Lexicographic.{same_text}
 use Rattle.std.proofs.lemmas.Grind.{common_steps}
 use lib.Pointwise.{pointwise}
-use Rattle.tpw_occam_tree.specs.declared.tree.Name.{Name}
+use Rattle.tpw_occam_terms.specs.declared.name.Name.{Name}
 use Rattle.tpw_occam_meaning.specs.Names.{Entry, Names, found, with_name}
 
 same : (xs : List ℕ) → pointwise nat_eq xs xs ≡ true

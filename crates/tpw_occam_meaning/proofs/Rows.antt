@@ -68,12 +68,12 @@ use Rattle.std.specs.declared.boxed.Box.{Box}
 use Rattle.std.specs.declared.alloc.Global.{Global}
 use Rattle.std.specs.Option.{option_map}
 use Rattle.tpw_occam_core.specs.Meaning.{Meant}
-use Rattle.tpw_occam_tree.specs.declared.expression.Primitive.{Primitive}
-use Rattle.tpw_occam_tree.specs.declared.expression.Primitive.TheVariants.{Int, Bool as Truth, Byte}
-use Rattle.tpw_occam_tree.specs.declared.span.Span.{Span}
-use Rattle.tpw_occam_tree.specs.declared.tree.Name.{Name}
-use Rattle.tpw_occam_tree.specs.declared.tree.Passing.{Passing}
-use Rattle.tpw_occam_tree.specs.declared.tree.Passing.TheVariants as passing
+use Rattle.tpw_occam_terms.specs.declared.name.Primitive.{Primitive}
+use Rattle.tpw_occam_terms.specs.declared.name.Primitive.TheVariants.{Int, Bool as Truth, Byte}
+use Rattle.tpw_occam_terms.specs.declared.span.Span.{Span}
+use Rattle.tpw_occam_terms.specs.declared.name.Name.{Name}
+use Rattle.tpw_occam_terms.specs.declared.name.Passing.{Passing}
+use Rattle.tpw_occam_terms.specs.declared.name.Passing.TheVariants as passing
 use Rattle.tpw_occam_meaning.specs.declared.expression.Expression.{Expression}
 use Rattle.tpw_occam_meaning.specs.declared.expression.Expression.TheVariants as tree
 use Rattle.tpw_occam_meaning.specs.declared.expression.Expressions.{Expressions}

@@ -6,13 +6,13 @@ use Rattle.tpw_occam_core.specs.declared.kind.Kind.TheVariants as elements
 use Rattle.tpw_occam_core.specs.Arithmetic.{plain, subscript}
 use Rattle.tpw_occam_core.specs.Arrays.{size, kept, with_element}
 use Rattle.tpw_occam_core.specs.Meaning.{followed}
-use Rattle.tpw_occam_tree.specs.declared.expression.Primitive.{Primitive}
-use Rattle.tpw_occam_tree.specs.declared.expression.Primitive.TheVariants.{Byte}
+use Rattle.tpw_occam_terms.specs.declared.name.Primitive.{Primitive}
+use Rattle.tpw_occam_terms.specs.declared.name.Primitive.TheVariants.{Byte}
 use Rattle.tpw_occam_meaning.specs.declared.expression.Expression.{Expression}
 use Rattle.tpw_occam_meaning.specs.declared.expression.Expression.TheVariants as tree
 use Rattle.tpw_occam_meaning.specs.declared.expression.Expressions.{Expressions}
 use Rattle.tpw_occam_meaning.specs.declared.expression.Expressions.TheVariants.{End, More'}
-use Rattle.tpw_occam_tree.specs.declared.expression.Primitive.TheVariants.{Int}
+use Rattle.tpw_occam_terms.specs.declared.name.Primitive.TheVariants.{Int}
 use Rattle.tpw_occam_meaning.specs.Effects.{Effect, skipped}
 use Rattle.tpw_occam_meaning.specs.Expressions.{value_of, array_of, named}
 use Rattle.tpw_occam_meaning.specs.Maybe.{and_then, where_true}

@@ -3,8 +3,8 @@ use Rattle.std.specs.Prelude.{ℕ, Bool, true, false, ◌==◌, Option, Some, No
 use Rattle.tpw_occam_core.specs.declared.kind.Kind.TheVariants as elements
 use Rattle.tpw_occam_core.specs.Arithmetic.{subscript}
 use Rattle.tpw_occam_core.specs.Meaning.{followed}
-use Rattle.tpw_occam_tree.specs.declared.expression.Primitive.{Primitive}
-use Rattle.tpw_occam_tree.specs.declared.expression.Primitive.TheVariants.{Int}
+use Rattle.tpw_occam_terms.specs.declared.name.Primitive.{Primitive}
+use Rattle.tpw_occam_terms.specs.declared.name.Primitive.TheVariants.{Int}
 use Rattle.tpw_occam_meaning.specs.declared.expression.Expression.{Expression}
 use Rattle.tpw_occam_meaning.specs.declared.expression.Expression.TheVariants as tree
 use Rattle.tpw_occam_meaning.specs.declared.expression.Expressions.{Expressions}

@@ -1,7 +1,7 @@
 -- What numbers, characters and texts spell.
 use Rattle.std.specs.Prelude.{ℕ, ◌+◌, ◌*◌, ◌^◌, ◌==◌, nat_lt, nat_le, if◌then◌else◌, Option, Some, None}
 use Rattle.std.specs.Prelude.{List, [], ◌∷◌, length}
-use Rattle.tpw_occam_tree.specs.Spelling.{digit, letter}
+use Rattle.tpw_occam_terms.specs.Spelling.{digit, letter}
 use Rattle.tpw_occam_meaning.specs.Maybe.{and_then, where_true}
 
 -- the number behind one, by further digits of a base

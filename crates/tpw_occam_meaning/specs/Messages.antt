@@ -4,7 +4,7 @@ use Rattle.std.specs.Int.{w32, to_le_bytes}
 use Rattle.tpw_occam_core.specs.declared.kind.Kind.TheVariants as elements
 use Rattle.tpw_occam_core.specs.Arithmetic.{plain}
 use Rattle.tpw_occam_core.specs.Arrays.{element}
-use Rattle.tpw_occam_tree.specs.declared.expression.Primitive.TheVariants.{Int}
+use Rattle.tpw_occam_terms.specs.declared.name.Primitive.TheVariants.{Int}
 use Rattle.tpw_occam_meaning.specs.declared.expression.Expression.{Expression}
 use Rattle.tpw_occam_meaning.specs.Assignments.{target_of, assigned, written_array}
 use Rattle.tpw_occam_meaning.specs.Effects.{Effect}

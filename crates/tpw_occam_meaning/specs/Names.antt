@@ -5,8 +5,8 @@ use lib.Pointwise.{pointwise}
 use Rattle.tpw_occam_core.specs.declared.kind.Kind.{Kind}
 use Rattle.tpw_occam_core.specs.Arithmetic.{plain}
 use Rattle.tpw_occam_core.specs.Meaning.{followed, element_at}
-use Rattle.tpw_occam_tree.specs.declared.expression.Primitive.{Primitive}
-use Rattle.tpw_occam_tree.specs.declared.tree.Name.{Name}
+use Rattle.tpw_occam_terms.specs.declared.name.Primitive.{Primitive}
+use Rattle.tpw_occam_terms.specs.declared.name.Name.{Name}
 use Rattle.tpw_occam_meaning.specs.declared.types.Parameters.{Parameters}
 use Rattle.tpw_occam_meaning.specs.declared.types.Parameters.TheVariants as parameters
 use Rattle.tpw_occam_meaning.specs.Maybe.{and_then}

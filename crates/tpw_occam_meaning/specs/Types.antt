@@ -3,9 +3,9 @@ use Rattle.std.specs.Prelude.{ℕ, ◌*◌, ◌^◌, Bool, true, false, not, ◌
 use Rattle.tpw_occam_core.specs.declared.kind.Kind.{Kind}
 use Rattle.tpw_occam_core.specs.declared.kind.Kind.TheVariants as elements
 use Rattle.tpw_occam_core.specs.Sound.{is_message}
-use Rattle.tpw_occam_tree.specs.declared.expression.Primitive.TheVariants.{Int}
-use Rattle.tpw_occam_tree.specs.declared.tree.Passing.{Passing}
-use Rattle.tpw_occam_tree.specs.declared.tree.Passing.TheVariants as passing
+use Rattle.tpw_occam_terms.specs.declared.name.Primitive.TheVariants.{Int}
+use Rattle.tpw_occam_terms.specs.declared.name.Passing.{Passing}
+use Rattle.tpw_occam_terms.specs.declared.name.Passing.TheVariants as passing
 use Rattle.tpw_occam_meaning.specs.declared.types.Sizes.{Sizes}
 use Rattle.tpw_occam_meaning.specs.declared.types.Sizes.TheVariants as sizes
 use Rattle.tpw_occam_meaning.specs.declared.types.Type as written

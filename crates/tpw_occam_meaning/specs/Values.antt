@@ -8,8 +8,8 @@ use Rattle.tpw_occam_core.specs.declared.kind.Kind.TheVariants as kind
 use Rattle.tpw_occam_core.specs.declared.expression.Operator.TheVariants as core
 use Rattle.tpw_occam_core.specs.Arithmetic.{answer, plain, applied, low_byte}
 use Rattle.tpw_occam_core.specs.Meaning.{followed, both, either}
-use Rattle.tpw_occam_tree.specs.declared.expression.Primitive.{Primitive}
-use Rattle.tpw_occam_tree.specs.declared.expression.Primitive.TheVariants.{Int, Bool as Truth, Byte}
+use Rattle.tpw_occam_terms.specs.declared.name.Primitive.{Primitive}
+use Rattle.tpw_occam_terms.specs.declared.name.Primitive.TheVariants.{Int, Bool as Truth, Byte}
 use Rattle.tpw_occam_meaning.specs.declared.operator.Monadic.{Monadic}
 use Rattle.tpw_occam_meaning.specs.declared.operator.Monadic.TheVariants as one
 use Rattle.tpw_occam_meaning.specs.declared.operator.Dyadic.{Dyadic}

@@ -1,7 +1,7 @@
 //! Expressions, as they are written.
 
 use crate::operator::{Dyadic, Monadic};
-use tpw_occam_tree::{Name, Span};
+use tpw_occam_terms::{Name, Span};
 
 /// `?` or `!`, behind the name of a channel.
 #[derive(Clone, Copy, PartialEq, Eq)]

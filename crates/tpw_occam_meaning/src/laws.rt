@@ -3,9 +3,9 @@
 ghost use Rattle.std.specs.Prelude.{◌≡◌, ◌≢◌, ℕ};
 ghost use Rattle.std.specs.declared.boxed.Box.{Box};
 ghost use Rattle.std.specs.declared.alloc.Global.{Global};
-ghost use Rattle.tpw_occam_tree.specs.declared.expression.Primitive.{Primitive};
-ghost use Rattle.tpw_occam_tree.specs.declared.span.Span.{Span};
-ghost use Rattle.tpw_occam_tree.specs.declared.tree.Name.{Name};
+ghost use Rattle.tpw_occam_terms.specs.declared.name.Primitive.{Primitive};
+ghost use Rattle.tpw_occam_terms.specs.declared.span.Span.{Span};
+ghost use Rattle.tpw_occam_terms.specs.declared.name.Name.{Name};
 ghost use Rattle.tpw_occam_meaning.specs.declared.expression.Expression.{Expression};
 ghost use Rattle.tpw_occam_meaning.specs.declared.expression.Expression.TheVariants.{Bracketed};
 ghost use Rattle.tpw_occam_meaning.specs.Names.{Entry, Names, found, with_name};

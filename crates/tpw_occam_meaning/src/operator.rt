@@ -1,6 +1,6 @@
 //! Operators, as they are spelled.
 
-use tpw_occam_tree::Primitive;
+use tpw_occam_terms::Primitive;
 
 /// An operator of one operand.
 #[derive(Clone, Copy, PartialEq, Eq)]

@@ -2,7 +2,7 @@
 
 use crate::expression::{Expression, Expressions};
 use crate::types::{Names, Parameters, Type};
-use tpw_occam_tree::{Name, Primitive, Span};
+use tpw_occam_terms::{Name, Primitive, Span};
 
 /// A declaration.
 #[cycle(process)]

@@ -1,7 +1,7 @@
 //! Names, types and parameters, as they are written.
 
 use crate::expression::{Direction, Expression};
-use tpw_occam_tree::{Name, Passing, Primitive};
+use tpw_occam_terms::{Name, Passing, Primitive};
 
 /// Names with commas between, from the first on.
 pub enum Names<'a> {

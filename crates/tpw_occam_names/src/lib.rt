@@ -3,15 +3,15 @@
 #![tactic(auto)]
 
 mod arrays;
+mod fault;
 mod names;
 mod operators;
 mod scope;
 mod spelled;
-mod values;
 
 pub use arrays::element_at;
+pub use fault::Fault;
 pub use names::{element_type, named, type_of, type_of_one, type_of_two};
-pub use operators::{combined, low_byte, monadic};
+pub use operators::{combined, monadic};
 pub use scope::{Channel, Form, Meaning, Protocol, Scope, Shape, Storage, View, Word, look_up};
 pub use spelled::{character, number};
-pub use values::{Fault, followed};

@@ -9,7 +9,7 @@ ghost use Rattle.tpw_occam_names.specs.Scopes.{names_of, view_of};
 use crate::scope::{Meaning, Scope, View, look_up};
 use tpw_occam_core::Kind;
 use tpw_occam_meaning::{Dyadic, Expression, Monadic};
-use tpw_occam_tree::{Name, Primitive};
+use tpw_occam_terms::{Name, Primitive};
 
 /// The array that an expression names.
 pub fn named<'s>(scope: &Scope<'s, '_>, e: &Expression<'_>) -> Option<View<'s>>

@@ -3,13 +3,11 @@
 ghost use Rattle.std.specs.Prelude.{◌≡◌, int_le};
 ghost use Rattle.tp_decode.specs.Words.{signed};
 ghost use Rattle.tp_step.specs.Numbers.{truth};
-ghost use Rattle.tpw_occam_core.specs.Arithmetic as arithmetic;
 ghost use Rattle.tpw_occam_core.specs.Meaning as core;
 ghost use Rattle.tpw_occam_meaning.specs.Values as text;
 
-use crate::values::{followed, plain};
 use tp_outcome::words::{complement, difference, is_less, is_positive};
-use tpw_occam_core::{Answer, Operator, applied};
+use tpw_occam_core::{Answer, Operator, applied, followed, plain};
 use tpw_occam_meaning::{Dyadic, Monadic};
 
 /// Whether a word is at most another, both read signed, as a word.
@@ -18,16 +16,6 @@ fn is_at_most(a: u32, b: u32) -> u32
     ensures { result ≡ truth (int_le (signed a) (signed b)) }
 {
     u32::from(a.cast_signed() <= b.cast_signed())
-}
-
-/// The low byte of a word. The flag is set where there is more.
-pub fn low_byte(word: u32) -> Answer
-    ensures { result ≡ arithmetic.low_byte word }
-{
-    Answer {
-        word: word % 256,
-        flag: word >= 256,
-    }
 }
 
 /// What an operator makes of a word.

@@ -6,7 +6,7 @@ ghost use Rattle.tpw_occam_names.specs.Scopes.{names_of, entry_of};
 
 use tpw_occam_core::Kind;
 use tpw_occam_meaning::{Expression, Parameters, Process};
-use tpw_occam_tree::{Name, Primitive};
+use tpw_occam_terms::{Name, Primitive};
 
 /// A constant, or the word that a cell has, which is only read.
 #[derive(Clone, Copy)]

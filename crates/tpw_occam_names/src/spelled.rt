@@ -1,7 +1,7 @@
 //! What numbers and characters spell.
 
 ghost use Rattle.std.specs.Prelude.{◌≡◌, ◌<◌, Some, IfSome};
-ghost use Rattle.tpw_occam_tree.specs.Spelling.{digit, letter};
+ghost use Rattle.tpw_occam_terms.specs.Spelling.{digit, letter};
 ghost use Rattle.tpw_occam_meaning.specs.Literals as text;
 
 /// The number that a digit stands for.

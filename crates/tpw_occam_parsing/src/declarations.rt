@@ -10,7 +10,7 @@ use crate::phrases::{front_type, name, names, parameters};
 use crate::stop::Stop;
 use std::alloc::AllocError;
 use tpw_occam_lexing::{Keyword, Symbol};
-use tpw_occam_tree::{Fault, FaultKind, Name, Primitive, Span, Unsupported, Wanted};
+use tpw_occam_terms::{Fault, FaultKind, Name, Primitive, Span, Unsupported, Wanted};
 
 /// The expression that parts spell.
 pub(crate) fn value<'a>(

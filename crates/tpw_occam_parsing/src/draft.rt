@@ -2,7 +2,7 @@
 
 use std::alloc::{AllocError, Global};
 use tpw_occam_meaning::{Direction, Dyadic, Monadic};
-use tpw_occam_tree::{Name, Passing, Primitive, Span};
+use tpw_occam_terms::{Name, Passing, Primitive, Span};
 
 /// Some rows of a table, from one up to another.
 #[derive(Clone, Copy)]

@@ -8,7 +8,7 @@ use crate::parts::{
 use crate::stop::Stop;
 use tpw_occam_lexing::{Keyword, Symbol, Token};
 use tpw_occam_meaning::{Direction, Dyadic, Monadic};
-use tpw_occam_tree::{Fault, FaultKind, Name, Primitive, Span, Wanted};
+use tpw_occam_terms::{Fault, FaultKind, Name, Primitive, Span, Wanted};
 
 /// The most operators and brackets within one another, where an operator of a chain lies within the next.
 pub(crate) const MAX_DEPTH: usize = 501;

@@ -1,7 +1,7 @@
 //! The faults that are kept of a text.
 
 use std::alloc::{AllocError, Global};
-use tpw_occam_tree::{Fault, MAX_FAULTS};
+use tpw_occam_terms::{Fault, MAX_FAULTS};
 
 /// The first faults of a text by their places, at most [`MAX_FAULTS`].
 #[derive(Drop)]

@@ -13,7 +13,7 @@ use crate::stop::Stop;
 use std::alloc::AllocError;
 use tpw_occam_lexing::{Keyword, Symbol};
 use tpw_occam_meaning::Dyadic;
-use tpw_occam_tree::{Fault, FaultKind, Name, Span, Unsupported, Wanted};
+use tpw_occam_terms::{Fault, FaultKind, Name, Span, Unsupported, Wanted};
 
 /// What a line says with what stands below it.
 #[derive(Clone, Copy)]

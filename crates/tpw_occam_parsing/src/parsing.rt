@@ -5,13 +5,13 @@ use crate::processes::Parser;
 use crate::rows::{Rows, rows_of};
 use std::alloc::{AllocError, Global};
 use tpw_occam_lexing::Line;
-use tpw_occam_tree::Fault;
+use tpw_occam_terms::Fault;
 
 /// The draft of a text's tree.
 #[derive(Drop)]
 pub struct Drafted<'a> {
     pub draft: Draft<'a>,
-    /// In the order of their places, at most [`MAX_FAULTS`](tpw_occam_tree::MAX_FAULTS).
+    /// In the order of their places, at most [`MAX_FAULTS`](tpw_occam_terms::MAX_FAULTS).
     pub faults: Vec<Fault>,
     /// Whether each line's indentation is right. Else it is not known what stands below what.
     pub is_laid_out: bool,

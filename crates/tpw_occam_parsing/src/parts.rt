@@ -3,7 +3,7 @@
 use crate::stop::Stop;
 use std::alloc::{AllocError, Global};
 use tpw_occam_lexing::{Item, Keyword, Symbol, Token};
-use tpw_occam_tree::{Fault, FaultKind, Name, Span};
+use tpw_occam_terms::{Fault, FaultKind, Name, Span};
 
 /// The most brackets within one another.
 const MAX_BRACKETS: usize = 60;

@@ -9,7 +9,7 @@ use crate::parts::{
 use crate::stop::Stop;
 use tpw_occam_lexing::{Keyword, Symbol};
 use tpw_occam_meaning::Direction;
-use tpw_occam_tree::{Name, Passing, Span, Wanted};
+use tpw_occam_terms::{Name, Passing, Span, Wanted};
 
 /// The one name that parts are.
 pub(crate) fn name<'a>(parts: &[Part<'a>], end: Span) -> Result<Name<'a>, Stop> {

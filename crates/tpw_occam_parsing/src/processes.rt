@@ -10,7 +10,7 @@ use crate::parts::Part;
 use crate::rows::{Row, first_of, is_end, last_of, parts_of_row};
 use crate::stop::Stop;
 use std::alloc::AllocError;
-use tpw_occam_tree::{Fault, FaultKind, Span, Wanted};
+use tpw_occam_terms::{Fault, FaultKind, Span, Wanted};
 
 /// More than the levels of lines.
 pub(crate) const MAX_DEPTH: usize = 64;

@@ -5,7 +5,7 @@ use crate::parts::{Part, behind as behind_parts, flat_parts, front as front_part
 use crate::stop::Stop;
 use std::alloc::{AllocError, Global};
 use tpw_occam_lexing::{Line, Symbol, Token};
-use tpw_occam_tree::{Fault, FaultKind, Span};
+use tpw_occam_terms::{Fault, FaultKind, Span};
 
 /// The most lines that stand below one another, below the first.
 const MAX_LEVELS: usize = 60;

@@ -1,7 +1,7 @@
 //! Why nothing was read.
 
 use std::alloc::{AllocError, AllocFailed};
-use tpw_occam_tree::Fault;
+use tpw_occam_terms::Fault;
 
 /// Why nothing was read.
 #[derive(Clone, Copy)]

@@ -13,7 +13,7 @@ use Rattle.tpw_occam_core.specs.declared.process.Process.{Process}
 use Rattle.tpw_occam_core.specs.Meaning.{Store, with_value, with_array, array_of}
 use Rattle.tpw_occam_core.specs.Meaning as core
 use Rattle.tpw_occam_core.specs.Sound.{bytes_of}
-use Rattle.tpw_occam_tree.specs.declared.span.Span.{Span}
+use Rattle.tpw_occam_terms.specs.declared.span.Span.{Span}
 use Rattle.tpw_occam_meaning.specs.States.{State}
 use Rattle.tpw_occam_meaning.specs.States as state
 use Rattle.tpw_occam_scoped.specs.declared.expression.Expression.{Expression as Scoped}

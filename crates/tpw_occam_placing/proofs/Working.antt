@@ -26,7 +26,7 @@ use Rattle.tpw_occam_core.specs.Arrays.{element}
 use Rattle.tpw_occam_core.specs.Meaning.{Store, with_value, with_array, first_bytes, most_traced, received, followed, both, either, element_at}
 use Rattle.tpw_occam_core.specs.Meaning as core
 use Rattle.tpw_occam_core.specs.Sound.{bytes_of, is_table}
-use Rattle.tpw_occam_tree.specs.declared.span.Span.{Span}
+use Rattle.tpw_occam_terms.specs.declared.span.Span.{Span}
 use Rattle.tpw_occam_meaning.specs.States.{State, first}
 use Rattle.tpw_occam_meaning.specs.States as state
 use Rattle.tpw_occam_meaning.specs.Texts.{meant}

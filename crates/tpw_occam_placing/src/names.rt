@@ -6,7 +6,7 @@ use std::alloc::Global;
 use std::collections::BTreeSet;
 use tpw_occam_core::{Kind, Place};
 use tpw_occam_scoped::Process;
-use tpw_occam_tree::Span;
+use tpw_occam_terms::Span;
 
 /// Something that a text declares, once for each place in which it lies.
 #[derive(Drop)]

@@ -5,10 +5,8 @@ ghost use Rattle.tpw_occam_core.specs.declared.kind.Kind.{Kind};
 ghost use Rattle.tpw_occam_core.specs.Meaning as core;
 ghost use Rattle.tpw_occam_core.specs.Meaning.{Store, meaning, flagged, stored, subscript_of, with_value};
 ghost use Rattle.tpw_occam_interpreter.specs.Memories.{state_of};
-ghost use Rattle.tpw_occam_meaning.specs.States.{first};
-ghost use Rattle.tpw_occam_meaning.specs.Texts.{meant};
 ghost use Rattle.tpw_occam_scoped.specs.declared.process.Process.TheVariants.{ReceiveWord};
-ghost use Rattle.tpw_occam_scoped.specs.Meaning.{run};
+ghost use Rattle.tpw_occam_scoped.specs.Meaning as scoped;
 ghost use Rattle.tpw_occam_placing.specs.Working.{IsFinished, IsReceived, IsBegun, Takes, Apart};
 
 use crate::assignments::{message, target};
@@ -372,7 +370,7 @@ fn with_tables(storages: &[Storage], arrays: Vec<usize>) -> Result<Vec<usize>, F
 /// A worker that does what a scoped core does, which receives the packet and sends the result.
 pub fn place(alloc: Global, p: &Scoped, room: u32) -> Result<Worker, Fault>
     ensures { IfOk result (λ made. (packet : List ℕ) → Takes made.arrays.items made.receive packet
-        → meaning made packet ≡ meant (run p.now (first packet))) }
+        → meaning made packet ≡ scoped.meaning p.now packet) }
 {
     let tables = needed(alloc, p)?;
     if tables.kinds.len() != tables.cells.len() || tables.storages.len() != tables.arrays.len() {

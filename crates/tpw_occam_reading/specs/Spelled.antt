@@ -1,10 +1,10 @@
 -- The lexemes that spell an expression, a type or parameters, in front of more.
-use Rattle.std.specs.Prelude.{Bool, true, false, Option, Some, None, List, [], ◌∷◌}
-use Rattle.tpw_occam_tree.specs.declared.expression.Primitive.{Primitive}
-use Rattle.tpw_occam_tree.specs.declared.expression.Primitive.TheVariants as primitive
-use Rattle.tpw_occam_tree.specs.declared.tree.Name.{Name}
-use Rattle.tpw_occam_tree.specs.declared.tree.Passing.{Passing}
-use Rattle.tpw_occam_tree.specs.declared.tree.Passing.TheVariants as passing
+use Rattle.std.specs.Prelude.{ℕ, ◌==◌, Bool, true, false, Option, Some, None, List, [], ◌∷◌}
+use Rattle.tpw_occam_terms.specs.declared.name.Primitive.{Primitive}
+use Rattle.tpw_occam_terms.specs.declared.name.Primitive.TheVariants as primitive
+use Rattle.tpw_occam_terms.specs.declared.name.Name.{Name}
+use Rattle.tpw_occam_terms.specs.declared.name.Passing.{Passing}
+use Rattle.tpw_occam_terms.specs.declared.name.Passing.TheVariants as passing
 use Rattle.tpw_occam_lexing.specs.declared.keywords.Keyword.TheVariants as keyword
 use Rattle.tpw_occam_lexing.specs.declared.symbol.Symbol.TheVariants as symbol
 use Rattle.tpw_occam_lexing.specs.Lexemes.{Lexeme, Word, Number, Character, Text, Sign}
@@ -84,10 +84,45 @@ of_dyadic dyadic.After = Word keyword.After
 of_dyadic dyadic.And = Word keyword.And
 of_dyadic dyadic.Or = Word keyword.Or
 
+-- ---- brackets
+
+-- operators of one number form chains that need no brackets; one that has none needs them
+abbrev pub chain : Dyadic → Option ℕ
+chain dyadic.Add = Some 1
+chain dyadic.Multiply = Some 2
+chain dyadic.Plus = Some 3
+chain dyadic.Times = Some 4
+chain dyadic.Conjunction = Some 5
+chain dyadic.BitAnd = Some 5
+chain dyadic.Disjunction = Some 6
+chain dyadic.BitOr = Some 6
+chain dyadic.ExclusiveOr = Some 7
+chain dyadic.And = Some 8
+chain dyadic.Or = Some 9
+chain other = None
+
+abbrev pub is_same_chain : Option ℕ → Option ℕ → Bool
+is_same_chain (Some a) (Some b) = a == b
+is_same_chain a b = false
+
+-- an expression that needs no brackets beside an operator, and one that needs none in front of it
+abbrev pub is_operand : Expression → Bool
+is_operand (expression.Monadic' operator span p operand) = false
+is_operand (expression.Dyadic' operator span p left q right) = false
+is_operand other = true
+
+abbrev pub is_left_operand : Dyadic → Expression → Bool
+is_left_operand operator (expression.Dyadic' other span p left q right) = is_same_chain (chain other) (chain operator)
+is_left_operand operator e = is_operand e
+
+abbrev pub bracketed_unless : Bool → (List Lexeme → List Lexeme) → List Lexeme → List Lexeme
+bracketed_unless true written more = written more
+bracketed_unless false written more = Sign symbol.OpenRound ∷ written (Sign symbol.CloseRound ∷ more)
+
 -- ---- expressions
 
 abbrev mutual
-  -- brackets stand where the tree has them, and nowhere else
+  -- brackets stand where the tree has them, and where an operand needs them
   pub spelled : Expression → List Lexeme → List Lexeme
   spelled (expression.Number digits span) more = Number digits.now ∷ more
   spelled (expression.Character quoted span) more = Character quoted.now ∷ more
@@ -104,9 +139,11 @@ abbrev mutual
       named name ∷ Sign symbol.OpenRound ∷ listed arguments (Sign symbol.CloseRound ∷ more)
   spelled (expression.Bracketed' p within span) more =
       Sign symbol.OpenRound ∷ spelled within (Sign symbol.CloseRound ∷ more)
-  spelled (expression.Monadic' operator span p operand) more = of_monadic operator ∷ spelled operand more
+  spelled (expression.Monadic' operator span p operand) more =
+      of_monadic operator ∷ bracketed_unless (is_operand operand) (spelled operand) more
   spelled (expression.Dyadic' operator span p left q right) more =
-      spelled left (of_dyadic operator ∷ spelled right more)
+      bracketed_unless (is_left_operand operator left) (spelled left)
+      (of_dyadic operator ∷ bracketed_unless (is_operand right) (spelled right) more)
   spelled (expression.Wrong span) more = more
 
   -- with commas between

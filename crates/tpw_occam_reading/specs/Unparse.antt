@@ -1,6 +1,6 @@
 -- A tree written out: the lines that spell it, in front of more. What stands below a line is indented by two more.
 use Rattle.std.specs.Prelude.{ℕ, ◌+◌, List, [], ◌∷◌}
-use Rattle.tpw_occam_tree.specs.declared.tree.Name.{Name}
+use Rattle.tpw_occam_terms.specs.declared.name.Name.{Name}
 use Rattle.tpw_occam_meaning.specs.declared.types.Parameters.{Parameters}
 use Rattle.tpw_occam_lexing.specs.declared.keywords.Keyword.TheVariants as keyword
 use Rattle.tpw_occam_lexing.specs.declared.symbol.Symbol.TheVariants as symbol

@@ -7,7 +7,7 @@ ghost use Rattle.tpw_occam_reading.specs.Spelled.{of_primitive, of_direction, of
 
 use tpw_occam_lexing::{Item, Keyword, Symbol, Token};
 use tpw_occam_meaning::{Direction, Dyadic, Monadic};
-use tpw_occam_tree::Primitive;
+use tpw_occam_terms::Primitive;
 
 /// Whether keywords are the same.
 fn is_same_keyword(one: Keyword, other: Keyword) -> bool

@@ -2,6 +2,7 @@
 
 ghost use Rattle.std.specs.Prelude.{◌≡◌, ◌∷◌, IfSome};
 ghost use Rattle.tpw_occam_reading.specs.Seen.{seen};
+ghost use Rattle.tpw_occam_reading.specs.Spelled.{chain, is_left_operand, is_operand};
 ghost use Rattle.tpw_occam_reading.specs.Spelled.{named, spelled, listed, behind_comma, sizes_spelled, type_spelled, type_if};
 ghost use Rattle.tpw_occam_reading.specs.Spelled.{names_behind, names_spelled, passing_spelled, direction_if, parameters_behind, parameters_spelled};
 
@@ -9,14 +10,57 @@ use crate::marks::{
     direction_token, dyadic_token, monadic_token, most_token, primitive_token, taken, truth_token,
 };
 use tpw_occam_lexing::{Item, Keyword, Symbol, Token};
-use tpw_occam_meaning::{Direction, Expression, Expressions, Names, Parameters, Sizes, Type};
-use tpw_occam_tree::{Name, Passing};
+use tpw_occam_meaning::{
+    Direction, Dyadic, Expression, Expressions, Names, Parameters, Sizes, Type,
+};
+use tpw_occam_terms::{Name, Passing};
 
 /// A name.
 pub(crate) fn name<'t, 'a>(name: Name<'_>, items: &'t [Item<'a>]) -> Option<&'t [Item<'a>]>
     ensures { IfSome result (λ rest. seen items.now ≡ named name.entry ∷ seen rest.now) }
 {
     taken(Token::Name(name.text), items)
+}
+
+/// The number of the chains that an operator forms without brackets.
+fn chain(operator: Dyadic) -> Option<u8>
+    ensures { result ≡ chain operator }
+{
+    match operator {
+        Dyadic::Add => Some(1),
+        Dyadic::Multiply => Some(2),
+        Dyadic::Plus => Some(3),
+        Dyadic::Times => Some(4),
+        Dyadic::Conjunction | Dyadic::BitAnd => Some(5),
+        Dyadic::Disjunction | Dyadic::BitOr => Some(6),
+        Dyadic::ExclusiveOr => Some(7),
+        Dyadic::And => Some(8),
+        Dyadic::Or => Some(9),
+        _ => None,
+    }
+}
+
+/// Whether an expression needs no brackets beside an operator.
+fn is_operand(e: &Expression<'_>) -> bool
+    ensures { result ≡ is_operand e.now }
+{
+    !matches!(e, Expression::Monadic { .. } | Expression::Dyadic { .. })
+}
+
+/// Whether an expression needs no brackets in front of an operator.
+fn is_left_operand(operator: Dyadic, e: &Expression<'_>) -> bool
+    ensures { result ≡ is_left_operand operator e.now }
+{
+    match e {
+        Expression::Dyadic {
+            operator: other,
+            ..
+        } => match (chain(*other), chain(operator)) {
+            (Some(a), Some(b)) => a == b,
+            _ => false,
+        },
+        _ => is_operand(e),
+    }
 }
 
 #[cycle(expression)]
@@ -77,6 +121,9 @@ pub(crate) fn expression<'t, 'a>(
             operand,
             ..
         } => {
+            if !is_operand(operand) {
+                return None;
+            }
             let items = taken(monadic_token(*operator), items)?;
             expression(operand, items)
         }
@@ -86,6 +133,9 @@ pub(crate) fn expression<'t, 'a>(
             right,
             ..
         } => {
+            if !is_left_operand(*operator, left) || !is_operand(right) {
+                return None;
+            }
             let items = expression(left, items)?;
             let items = taken(dyadic_token(*operator), items)?;
             expression(right, items)

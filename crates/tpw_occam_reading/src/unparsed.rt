@@ -11,7 +11,7 @@ use tpw_occam_lexing::{Item, Keyword, Line, Symbol, Token};
 use tpw_occam_meaning::{
     Cases, Choices, Declaration, Declarations, Parameters, Process, Processes, Source,
 };
-use tpw_occam_tree::Name;
+use tpw_occam_terms::Name;
 
 /// The tokens of the first line, which is indented so; and the other lines.
 fn first_line<'l, 'a>(lines: &'l [Line<'a>], d: usize) -> Option<(&'l [Item<'a>], &'l [Line<'a>])>

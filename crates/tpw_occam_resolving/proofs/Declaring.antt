@@ -2,7 +2,7 @@
 use Rattle.std.proofs.Common.{◌≡◌, ℕ, List, map, Some, sym, ap, ◌∙◌}
 use Rattle.std.specs.declared.boxed.Box.{Box}
 use Rattle.std.specs.declared.alloc.Global.{Global}
-use Rattle.tpw_occam_tree.specs.declared.tree.Name.{Name}
+use Rattle.tpw_occam_terms.specs.declared.name.Name.{Name}
 use Rattle.tpw_occam_meaning.specs.declared.tree.Declaration.{Declaration}
 use Rattle.tpw_occam_meaning.specs.declared.tree.Declaration.TheVariants as declaration
 use Rattle.tpw_occam_meaning.specs.declared.tree.Process.{Process}

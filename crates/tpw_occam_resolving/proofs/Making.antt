@@ -3,8 +3,8 @@ use Rattle.std.proofs.Common.{◌≡◌, ℕ, List, Some, sym, ap, ◌∙◌}
 use Rattle.tpw_occam_core.specs.Arithmetic.{subscript, low_byte}
 use Rattle.tpw_occam_core.specs.Arrays.{size, with_element}
 use Rattle.tpw_occam_core.specs.Meaning.{followed, element_at}
-use Rattle.tpw_occam_tree.specs.declared.expression.Primitive.{Primitive}
-use Rattle.tpw_occam_tree.specs.declared.expression.Primitive.TheVariants.{Int, Byte}
+use Rattle.tpw_occam_terms.specs.declared.name.Primitive.{Primitive}
+use Rattle.tpw_occam_terms.specs.declared.name.Primitive.TheVariants.{Int, Byte}
 use Rattle.tpw_occam_meaning.specs.Assignments.{written_array, element_target}
 use Rattle.tpw_occam_meaning.specs.Maybe.{and_then}
 use Rattle.tpw_occam_meaning.specs.Names.{View, Array, Table, element_in, element_of}

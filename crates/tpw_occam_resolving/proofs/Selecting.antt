@@ -8,7 +8,7 @@ use Rattle.tpw_occam_core.specs.declared.expression.Operator.TheVariants.{Equal}
 use Rattle.tpw_occam_core.specs.Arithmetic.{plain, applied}
 use Rattle.tpw_occam_core.specs.Meaning.{followed, either}
 use Rattle.tpw_occam_meaning.specs.declared.expression.Expression as tree
-use Rattle.tpw_occam_tree.specs.declared.span.Span.{Span}
+use Rattle.tpw_occam_terms.specs.declared.span.Span.{Span}
 use Rattle.tpw_occam_meaning.specs.declared.tree.Cases.{Cases}
 use Rattle.tpw_occam_meaning.specs.declared.tree.Process.{Process}
 use Rattle.tpw_occam_meaning.specs.declared.tree.Process.TheVariants as process

@@ -1,7 +1,7 @@
 -- What is sent.
 use Rattle.std.proofs.Common.{◌≡◌, ℕ, Option, Some, sym, ap, ◌∙◌}
 use Rattle.std.specs.Int.{w32, to_le_bytes}
-use Rattle.tpw_occam_tree.specs.declared.expression.Primitive.TheVariants.{Int}
+use Rattle.tpw_occam_terms.specs.declared.name.Primitive.TheVariants.{Int}
 use Rattle.tpw_occam_meaning.specs.declared.expression.Expression.{Expression}
 use Rattle.tpw_occam_meaning.specs.Expressions.{value_of}
 use Rattle.tpw_occam_meaning.specs.Maybe.{and_then}

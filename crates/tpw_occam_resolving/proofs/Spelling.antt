@@ -1,7 +1,7 @@
 -- Texts between quotes.
 use Rattle.std.proofs.Common.{◌≡◌, ◌∙◌, ℕ, ◌+◌, ◌*◌, ◌==◌, nat_lt, Bool, true, false, if◌then◌else◌, Option, Some, None, List, [], ◌∷◌, drop, sym, ap}
-use Rattle.tpw_occam_tree.specs.Spelling as tree
-use Rattle.tpw_occam_tree.specs.Spelling.{digit, letter, front, escaped, hexadecimal, two_digits}
+use Rattle.tpw_occam_terms.specs.Spelling as tree
+use Rattle.tpw_occam_terms.specs.Spelling.{digit, letter, front, escaped, hexadecimal, two_digits}
 use Rattle.tpw_occam_meaning.specs.Literals.{Escape, Plain, Star, Hash, High, in_front, spelled_behind, text}
 use Rattle.tpw_occam_meaning.specs.Maybe.{and_then, where_true}
 

@@ -21,7 +21,7 @@ use tpw_occam_names::{
     Channel, Fault, Meaning, Protocol, Scope, View, Word, element_type, look_up, named,
 };
 use tpw_occam_scoped::Value;
-use tpw_occam_tree::{Name, Primitive};
+use tpw_occam_terms::{Name, Primitive};
 
 /// What a parameter is another name for.
 #[derive(Clone, Copy)]

@@ -18,7 +18,7 @@ use tpw_occam_core::Operator;
 use tpw_occam_meaning::{Cases, Expression, Expressions};
 use tpw_occam_names::{Fault, Scope, Word, type_of};
 use tpw_occam_scoped::{Expression as Made, Process, Value};
-use tpw_occam_tree::Primitive;
+use tpw_occam_terms::Primitive;
 
 /// The type of what is selected by: an INT or a BYTE.
 pub(crate) fn cased_type(scope: &Scope<'_, '_>, e: &Expression<'_>) -> Result<Primitive, Fault>

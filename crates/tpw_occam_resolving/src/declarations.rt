@@ -19,7 +19,7 @@ use tpw_occam_core::Kind;
 use tpw_occam_meaning::{Expression, Expressions, Parameters, Type};
 use tpw_occam_names::{Fault, Form, Meaning, Protocol, Scope, Shape, View, look_up, type_of};
 use tpw_occam_scoped::Value;
-use tpw_occam_tree::{Name, Passing, Primitive};
+use tpw_occam_terms::{Name, Passing, Primitive};
 
 /// Whether an expression is a text or a table.
 pub fn is_table(e: &Expression<'_>) -> bool

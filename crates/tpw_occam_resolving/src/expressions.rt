@@ -23,7 +23,7 @@ use tpw_occam_names::{
     Fault, Form, Meaning, Scope, Shape, element_type, look_up, named, type_of, type_of_two,
 };
 use tpw_occam_scoped::Value;
-use tpw_occam_tree::{Name, Primitive};
+use tpw_occam_terms::{Name, Primitive};
 
 /// What is made of an expression of a type, where `d` things are declared.
 #[cycle(value)]

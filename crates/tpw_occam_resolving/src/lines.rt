@@ -6,7 +6,7 @@ ghost use Rattle.tpw_occam_scoped.specs.Made.{effect_of};
 use std::alloc::{AllocError, Global};
 use tpw_occam_meaning::{Declaration, Expression, Expressions, Names, Process as Tree};
 use tpw_occam_scoped::Process;
-use tpw_occam_tree::Span;
+use tpw_occam_terms::Span;
 
 /// The line of a place, as a core keeps it.
 pub fn line_of(span: Span) -> u32 {

@@ -14,7 +14,7 @@ use std::alloc::Global;
 use tpw_occam_meaning::Expression;
 use tpw_occam_names::{Fault, Protocol, Scope, Shape};
 use tpw_occam_scoped::{Message, Process};
-use tpw_occam_tree::{Name, Primitive};
+use tpw_occam_terms::{Name, Primitive};
 
 /// What is sent.
 pub fn message<'a>(

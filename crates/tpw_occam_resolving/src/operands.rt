@@ -7,7 +7,7 @@ ghost use Rattle.tpw_occam_names.specs.Scopes.{names_of};
 
 use tpw_occam_meaning::{Dyadic, Expression};
 use tpw_occam_names::{Scope, type_of};
-use tpw_occam_tree::Primitive;
+use tpw_occam_terms::Primitive;
 
 /// Whether an expression is a number, which is of the type that is wanted.
 fn is_number(e: &Expression<'_>) -> bool

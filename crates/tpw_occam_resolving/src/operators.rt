@@ -9,11 +9,11 @@ ghost use Rattle.tpw_occam_scoped.specs.Made.{value_made};
 ghost use Rattle.tpw_occam_scoped.specs.Meaning.{value_of};
 
 use std::alloc::{AllocError, Global};
-use tpw_occam_core::Operator;
+use tpw_occam_core::{Operator, followed, low_byte};
 use tpw_occam_meaning::{Dyadic, Monadic};
-use tpw_occam_names::{Fault, combined, followed, low_byte, monadic};
+use tpw_occam_names::{Fault, combined, monadic};
 use tpw_occam_scoped::{Expression, Value};
-use tpw_occam_tree::Primitive;
+use tpw_occam_terms::Primitive;
 
 /// An operator of one operand.
 fn monadic_expression(

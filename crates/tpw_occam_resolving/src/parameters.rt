@@ -5,7 +5,7 @@ ghost use Rattle.tpw_occam_meaning.specs.declared.types.Parameters.TheVariants.{
 ghost use Rattle.tpw_occam_resolving.specs.Passing.{BeginsWith};
 
 use tpw_occam_meaning::Parameters;
-use tpw_occam_tree::Name;
+use tpw_occam_terms::Name;
 
 /// The first parameter, and those behind it.
 pub fn first<'r, 'a>(takes: &'r Parameters<'a>) -> Option<(Name<'a>, &'r Parameters<'a>)>

@@ -33,7 +33,7 @@ use tpw_occam_meaning::{
 };
 use tpw_occam_names::{Channel, Fault, Form, Meaning, Scope, Storage, View, Word, look_up};
 use tpw_occam_scoped::Process;
-use tpw_occam_tree::{Name, Primitive};
+use tpw_occam_terms::{Name, Primitive};
 
 /// The process that is made of one of the text, where `d` things are declared, with its line.
 #[cycle(process)]

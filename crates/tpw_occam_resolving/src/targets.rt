@@ -14,7 +14,7 @@ use tpw_occam_core::Kind;
 use tpw_occam_meaning::{Expression, Expressions};
 use tpw_occam_names::{Fault, Meaning, Scope, Shape, Storage, View, element_type, look_up, named};
 use tpw_occam_scoped::{Assignment, Process, Target, Value, assigning, no_assignments};
-use tpw_occam_tree::{Name, Primitive};
+use tpw_occam_terms::{Name, Primitive};
 
 /// What is assigned to, of a type.
 #[derive(Drop)]

@@ -5,7 +5,7 @@ ghost use Rattle.tpw_occam_meaning.specs.Literals as text;
 
 use std::alloc::Global;
 use tpw_occam_names::Fault;
-use tpw_occam_tree::quoted;
+use tpw_occam_terms::quoted;
 
 /// What stands behind the first bytes.
 fn behind(spelled: &str, width: usize) -> Result<&str, Fault>

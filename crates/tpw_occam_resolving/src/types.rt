@@ -12,7 +12,7 @@ use std::alloc::Global;
 use tpw_occam_core::Kind;
 use tpw_occam_meaning::{Expression, Sizes, Type};
 use tpw_occam_names::{Fault, Scope, Shape};
-use tpw_occam_tree::Primitive;
+use tpw_occam_terms::Primitive;
 
 /// The constant of a type that an expression is.
 pub(crate) fn constant<'a>(

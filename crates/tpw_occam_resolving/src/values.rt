@@ -9,19 +9,19 @@ ghost use Rattle.tpw_occam_meaning.specs.Maybe.{and_then};
 ghost use Rattle.tpw_occam_meaning.specs.Names as names;
 ghost use Rattle.tpw_occam_meaning.specs.Names.{found};
 ghost use Rattle.tpw_occam_meaning.specs.Values as types;
-ghost use Rattle.tpw_occam_tree.specs.declared.expression.Primitive.TheVariants.{Byte};
+ghost use Rattle.tpw_occam_terms.specs.declared.name.Primitive.TheVariants.{Byte};
 ghost use Rattle.tpw_occam_names.specs.Scopes.{names_of, view_of, word_of};
 ghost use Rattle.tpw_occam_scoped.specs.Made.{value_made};
 
 use std::alloc::Global;
-use tpw_occam_core::checked_subscript;
+use tpw_occam_core::{checked_subscript, followed};
 use tpw_occam_meaning::Expression as Tree;
 use tpw_occam_names::{
-    Fault, Meaning, Scope, Storage, View, Word, character, element_at, element_type, followed,
-    look_up, named, number,
+    Fault, Meaning, Scope, Storage, View, Word, character, element_at, element_type, look_up,
+    named, number,
 };
 use tpw_occam_scoped::{Expression, Value};
-use tpw_occam_tree::{Name, Primitive};
+use tpw_occam_terms::{Name, Primitive};
 
 /// Whether two types are the same.
 pub fn is_type(of: Primitive, other: Primitive) -> Result<(), Fault>

@@ -7,7 +7,7 @@ use Rattle.tpw_occam_meaning.specs.Names.{Word, Constant, Kept, Storage, Array, 
 use Rattle.tpw_occam_meaning.specs.States.{with_cell}
 use Rattle.tpw_occam_meaning.specs.Values.{Value, Known, Varying, known, at}
 use Rattle.tpw_occam_core.specs.Meaning.{followed}
-use Rattle.tpw_occam_tree.specs.declared.expression.Primitive.{Primitive}
+use Rattle.tpw_occam_terms.specs.declared.name.Primitive.{Primitive}
 use Rattle.tpw_occam_scoped.specs.declared.value.Value as made
 use Rattle.tpw_occam_scoped.specs.declared.value.Value.TheVariants as value
 use Rattle.tpw_occam_scoped.specs.declared.process.Assignment.{Assignment}

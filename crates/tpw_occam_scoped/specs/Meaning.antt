@@ -1,5 +1,5 @@
 -- What a scoped core does to the state, on which a text means what it does too.
-use Rattle.std.specs.Prelude.{ℕ, Bool, false, true, not, ◌||◌, ◌==◌, List, [], ◌∷◌, replicate}
+use Rattle.std.specs.Prelude.{ℕ, Bool, false, true, not, ◌||◌, ◌==◌, List, [], ◌∷◌, replicate, Option}
 use Rattle.std.specs.Int.{w32, to_le_bytes}
 use Rattle.tp_decode.specs.Words.{complement}
 use Rattle.tp_step.specs.Numbers.{truth}
@@ -8,8 +8,10 @@ use Rattle.tpw_occam_core.specs.declared.kind.Kind.TheVariants.{Word}
 use Rattle.tpw_occam_core.specs.Arithmetic.{plain, subscript, low_byte, applied}
 use Rattle.tpw_occam_core.specs.Arrays.{size, element, kept, with_element}
 use Rattle.tpw_occam_core.specs.Meaning.{followed, both, either, element_at}
-use Rattle.tpw_occam_meaning.specs.States.{State, with_cell, with_array, flagged, stored, with_traced, with_result}
-use Rattle.tpw_occam_meaning.specs.States.{turns, chosen}
+use Rattle.tpw_occam_core.specs.Meaning.{Meant}
+use Rattle.tpw_occam_meaning.specs.States.{State, first, with_cell, with_array, flagged, stored, with_traced}
+use Rattle.tpw_occam_meaning.specs.States.{with_result, turns, chosen}
+use Rattle.tpw_occam_meaning.specs.Texts.{meant}
 use Rattle.tpw_occam_scoped.specs.declared.expression.Expression.{Expression}
 use Rattle.tpw_occam_scoped.specs.declared.expression.Expression.TheVariants.{Constant, Cell, Element', Listed', Checked'}
 use Rattle.tpw_occam_scoped.specs.declared.expression.Expression.TheVariants.{Binary', Complement', Not', LowByte', And'}
@@ -96,3 +98,9 @@ run (process.ReceiveArray a) s = with_array a s.packet s
 run (process.Trace m) s = with_traced (bytes_of m s) (flagged (flag_of m s) s)
 run (process.Send m) s = with_result (bytes_of m s) (flagged (flag_of m s) s)
 run (process.At' line p body) s = run body s
+
+-- ---- workers
+
+-- what a core that receives a packet and sends a result makes of a packet
+abbrev pub meaning : Process → List ℕ → Option Meant
+meaning p packet = meant (run p (first packet))

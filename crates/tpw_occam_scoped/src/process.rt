@@ -2,7 +2,7 @@
 
 use crate::expression::Expression;
 use tpw_occam_core::Kind;
-use tpw_occam_tree::Span;
+use tpw_occam_terms::Span;
 
 /// What is assigned to.
 #[derive(Drop)]

@@ -17,7 +17,7 @@ use crate::process::{Assignment, Bytes, Message, Process, Target};
 use crate::value::Value;
 use std::alloc::{AllocError, Global};
 use tpw_occam_core::Kind;
-use tpw_occam_tree::{Primitive, Span};
+use tpw_occam_terms::{Primitive, Span};
 
 impl Process {
     /// `SKIP`.

@@ -10,7 +10,7 @@ use crate::value::{Root, Value, Worth};
 use tpw_occam_faults::{FaultKind, Role, Stop};
 use tpw_occam_meaning::{Expression as Tree, Expressions};
 use tpw_occam_names::element_type;
-use tpw_occam_tree::{Name, Primitive, Span};
+use tpw_occam_terms::{Name, Primitive, Span};
 
 /// What a parameter stands for, and whether a name is bound around the body for it.
 #[derive(Clone, Copy)]

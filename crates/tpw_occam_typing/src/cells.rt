@@ -2,7 +2,7 @@
 
 use crate::environment::Storage;
 use std::alloc::{AllocError, Global};
-use tpw_occam_tree::Name;
+use tpw_occam_terms::Name;
 
 /// A variable or an array, and what is done with it.
 #[derive(Clone, Copy)]

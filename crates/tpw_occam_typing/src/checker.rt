@@ -7,7 +7,7 @@ use crate::per_call::PerCall;
 use crate::signatures::{Parameter, Signature};
 use std::alloc::{AllocError, Global};
 use tpw_occam_faults::{FaultKind, Findings, Limit, NoteKind, Stop};
-use tpw_occam_tree::{Name, Span};
+use tpw_occam_terms::{Name, Span};
 
 /// The names in scope, and how many calls may still lie within one another.
 #[derive(Clone, Copy)]

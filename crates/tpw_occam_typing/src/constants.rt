@@ -6,7 +6,7 @@ use crate::trees::span_of;
 use crate::value::{Value, Worth};
 use tpw_occam_faults::{FaultKind, Stop};
 use tpw_occam_meaning::Expression;
-use tpw_occam_tree::{Primitive, Span};
+use tpw_occam_terms::{Primitive, Span};
 
 impl<'a> Checker<'a> {
     /// The constant that a value at a place is.

@@ -13,7 +13,7 @@ use crate::words::{MOST_NEGATIVE, MOST_POSITIVE};
 use tpw_occam_faults::{FaultKind, Limit, Role, Stop};
 use tpw_occam_meaning::{Dyadic, Expression as Tree, Expressions, Monadic};
 use tpw_occam_names::{character, element_at, element_type, number};
-use tpw_occam_tree::{FaultKind as Misread, Name, Primitive, Span};
+use tpw_occam_terms::{FaultKind as Misread, Name, Primitive, Span};
 
 impl<'a> Checker<'a> {
     /// A number, which is a BYTE where one is wanted.

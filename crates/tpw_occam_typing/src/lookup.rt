@@ -5,8 +5,9 @@ use crate::environment::{Access, Channel, Entry, Meaning, Protocol, Scope, View}
 use crate::trees::{name_alone, span_of};
 use crate::value::{Root, Value, computed, constant};
 use tpw_occam_faults::{FaultKind, Role, Stop};
+use tpw_occam_lexing::Keyword;
 use tpw_occam_meaning::Expression;
-use tpw_occam_tree::{Keyword, Name, Primitive};
+use tpw_occam_terms::{Name, Primitive};
 
 impl<'a> Checker<'a> {
     /// What a name in scope stands for.
@@ -23,7 +24,7 @@ impl<'a> Checker<'a> {
             return self.fault(name.span, kind);
         }
         let near = match Keyword::in_capitals(name.text) {
-            Some(keyword) => Some(keyword),
+            Some(keyword) => Some(keyword.spelling()),
             None => self.environment.nearest(self.alloc, scope, name.text)?,
         };
         let kind = FaultKind::Unknown {

@@ -1,10 +1,10 @@
 //! Operators: the types that they take and make, and the constants.
 
 use crate::value::{Root, Value, Worth, answered};
-use tpw_occam_core::Answer;
+use tpw_occam_core::{Answer, low_byte as low_byte_of};
 use tpw_occam_meaning::{Dyadic, Monadic};
 use tpw_occam_names as names;
-use tpw_occam_tree::{Primitive, Span};
+use tpw_occam_terms::{Primitive, Span};
 
 /// The type of the operands of an operator; none where they are of one type, whichever that is.
 pub(crate) fn operands_of(operator: Dyadic) -> Option<Primitive> {
@@ -55,7 +55,7 @@ pub(crate) fn of_one(operator: Monadic, e: Value, span: Span) -> Value {
 /// `BYTE` of an INT.
 pub(crate) fn low_byte(e: Value, span: Span) -> Value {
     let worth = match e.worth {
-        Worth::Constant(word) => answered(names::low_byte(word), span),
+        Worth::Constant(word) => answered(low_byte_of(word), span),
         worth => worth,
     };
     Value {

@@ -6,7 +6,7 @@ use crate::signatures::{Callee, Form, Parameter, Signature};
 use crate::trees::{Size, size_of};
 use tpw_occam_faults::{FaultKind, Stop};
 use tpw_occam_meaning::{Parameters, Type};
-use tpw_occam_tree::{Name, Passing, Primitive, Span};
+use tpw_occam_terms::{Name, Passing, Primitive, Span};
 
 impl<'a> Checker<'a> {
     /// What a channel of a type carries.

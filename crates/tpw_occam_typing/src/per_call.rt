@@ -1,7 +1,7 @@
 //! Names that stand for another constant, or an array of another size, in each call.
 
 use std::alloc::{AllocError, Global};
-use tpw_occam_tree::Span;
+use tpw_occam_terms::Span;
 
 /// Parameters, and what is declared by means of them.
 #[derive(Drop)]

@@ -9,7 +9,7 @@ use tpw_occam_core::Kind;
 use tpw_occam_faults::{FaultKind, Stop};
 use tpw_occam_meaning::Type;
 use tpw_occam_names::element_type;
-use tpw_occam_tree::{FaultKind as Misread, Primitive, Span, Wanted};
+use tpw_occam_terms::{FaultKind as Misread, Primitive, Span, Wanted};
 
 impl<'a> Checker<'a> {
     /// The number of elements of an array that is declared, where it may have so many.

@@ -4,7 +4,7 @@ use crate::environment::{Access, Protocol};
 use crate::limits::MAX_MESSAGE_WORDS;
 use crate::trees::bytes_of;
 use tpw_occam_core::Kind;
-use tpw_occam_tree::{Name, Primitive};
+use tpw_occam_terms::{Name, Primitive};
 
 /// The elements of an array, and how many; none where there may be any number.
 #[derive(Clone, Copy)]

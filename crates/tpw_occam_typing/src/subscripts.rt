@@ -7,7 +7,7 @@ use crate::trees::{name_alone, span_of};
 use crate::value::Worth;
 use tpw_occam_faults::{FaultKind, NoteKind, Stop};
 use tpw_occam_meaning::Expression as Tree;
-use tpw_occam_tree::{Name, Span};
+use tpw_occam_terms::{Name, Span};
 
 /// Where a subscript stands.
 #[derive(Clone, Copy)]

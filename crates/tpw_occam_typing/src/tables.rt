@@ -10,7 +10,7 @@ use tpw_occam_core::Kind;
 use tpw_occam_faults::{FaultKind, Role, Stop};
 use tpw_occam_meaning::{Expression as Tree, Expressions};
 use tpw_occam_names::element_type;
-use tpw_occam_tree::{Span, text_bytes};
+use tpw_occam_terms::{Span, text_bytes};
 
 /// Appends an element's bytes.
 fn put_element(bytes: &mut Vec<u8>, kind: Kind, word: u32) -> Result<(), AllocError> {

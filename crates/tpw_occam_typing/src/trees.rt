@@ -2,7 +2,7 @@
 
 use tpw_occam_core::Kind;
 use tpw_occam_meaning::{Expression, Expressions, Sizes, Type};
-use tpw_occam_tree::{Name, Primitive, Span};
+use tpw_occam_terms::{Name, Primitive, Span};
 
 /// An expression without the brackets around it.
 pub fn bare<'a>(e: &'a Expression<'a>) -> &'a Expression<'a> {

@@ -1,7 +1,7 @@
 //! What is known of a value: its type, whether it is a constant, and whether it is worked out.
 
 use tpw_occam_core::Answer;
-use tpw_occam_tree::{Primitive, Span};
+use tpw_occam_terms::{Primitive, Span};
 
 /// What is known of a value in the text.
 #[derive(Clone, Copy)]

@@ -8,7 +8,7 @@ ghost use Rattle.tpw_occam_names.specs.Scopes.{names_of, form_of, protocol_of};
 ghost use Rattle.tpw_occam_workers.specs.Behind.{places_of};
 
 use tpw_occam_names::{Channel, Fault, Form, Meaning, Protocol, Scope, look_up};
-use tpw_occam_tree::Name;
+use tpw_occam_terms::Name;
 
 /// What the channels of a worker carry.
 #[derive(Clone, Copy)]

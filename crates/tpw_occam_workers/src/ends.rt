@@ -4,7 +4,7 @@
 ghost use Rattle.std.specs.Prelude.{◌≡◌, IfOk};
 ghost use Rattle.tpw_occam_meaning.specs.Messages as messages;
 ghost use Rattle.tpw_occam_scoped.specs.Made.{effect_of, target_made, message_made};
-ghost use Rattle.tpw_occam_tree.specs.declared.expression.Primitive.TheVariants.{Int};
+ghost use Rattle.tpw_occam_terms.specs.declared.name.Primitive.TheVariants.{Int};
 ghost use Rattle.tpw_occam_workers.specs.Behind as ends;
 
 use tpw_occam_scoped::{Message, Process, Target};

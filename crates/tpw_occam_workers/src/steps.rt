@@ -18,7 +18,7 @@ use tpw_occam_resolving::{
     array, is_type, line_of, message, process, target_of, view, written_array,
 };
 use tpw_occam_scoped::Process;
-use tpw_occam_tree::{Name, Primitive, Span};
+use tpw_occam_terms::{Name, Primitive, Span};
 
 /// The packet goes to a variable or an element, or to an array.
 fn received<'a>(

@@ -6,13 +6,12 @@ ghost use Rattle.tpw_occam_meaning.specs.Expressions.{value_of};
 ghost use Rattle.tpw_occam_meaning.specs.Maybe.{and_then};
 ghost use Rattle.tpw_occam_meaning.specs.Names.{Is, Whole, Procedure, Function, bound, with_name, taking};
 ghost use Rattle.tpw_occam_meaning.specs.Processes as processes;
-ghost use Rattle.tpw_occam_meaning.specs.States.{first};
 ghost use Rattle.tpw_occam_meaning.specs.Texts as text;
-ghost use Rattle.tpw_occam_meaning.specs.Texts.{MeansText, meant};
+ghost use Rattle.tpw_occam_meaning.specs.Texts.{MeansText};
 ghost use Rattle.tpw_occam_names.specs.Scopes.{names_of, form_of};
 ghost use Rattle.tpw_occam_resolving.specs.Passing.{array_made};
 ghost use Rattle.tpw_occam_scoped.specs.Made.{effect_of};
-ghost use Rattle.tpw_occam_scoped.specs.Meaning.{run};
+ghost use Rattle.tpw_occam_scoped.specs.Meaning.{meaning};
 ghost use Rattle.tpw_occam_workers.specs.Behind.{after_of, traces_places};
 
 use crate::channels::channels_of;
@@ -30,11 +29,11 @@ use tpw_occam_resolving::{
     value, view, word_passed,
 };
 use tpw_occam_scoped::Process;
-use tpw_occam_tree::{Name, Primitive};
+use tpw_occam_terms::{Name, Primitive};
 
 /// The scoped core that is made of a text: it receives the packet, and sends the result.
 pub fn resolve<'a>(alloc: Global, source: &'a Source<'a>, room: u32) -> Result<Process, Fault>
-    ensures { IfOk result (λ made. MeansText source.now (λ packet. meant (run made (first packet)))) }
+    ensures { IfOk result (λ made. MeansText source.now (meaning made)) }
 {
     declarations(alloc, &Scope::Empty, 0, &source.declarations, room)
 }

@@ -1,27 +1,19 @@
 -- What a check shows of packets, in terms of what their text means.
-use Rattle.std.proofs.Common.{◌≡◌, ℕ, ◌+◌, List, [], ◌∷◌, ◌++◌, Option, Some, None, ap, sym, ◌∙◌, append_assoc}
-use Rattle.std.specs.Option.{option_map}
+use Rattle.std.proofs.Common.{◌≡◌, ℕ, ◌+◌, List, [], ◌∷◌, ◌++◌, ap, sym, ◌∙◌, append_assoc}
 use Rattle.std.proofs.lemmas.List.{append-nil}
 use Rattle.tp_collect.specs.declared.collected.Entry.{Entry}
-use Rattle.tpw_occam_core.specs.declared.evaluated.Given.{Given}
-use Rattle.tpw_occam_core.specs.declared.worker.Worker.{Worker}
-use Rattle.tpw_occam_core.specs.Meaning.{meaning, IsMeaning}
+use Rattle.tpw_occam_scoped.specs.Meaning.{meaning}
 use Rattle.tpw_runs.specs.declared.form.Form.TheVariants.{Lines}
 use Rattle.tpw_runs.specs.Reports.{ShowsAll}
 use Rattle.tpw_runs.specs.Tallies.{counted, with_entries}
 use Rattle.tpw_runs.proofs.Forms.{one_counted}
 use Rattle.tpw_running.specs.declared.checking.Checking.{Checking}
-use Rattle.tpw_running.specs.Checks.{given_value, other_text, other_numbers, others_text, all_others, checked_text, CheckedNext}
-
-pub is_meaning : (worker : Worker) (packet : List ℕ) (given : Option Given) → IsMeaning worker packet given
-    → option_map given_value given ≡ meaning worker packet
-is_meaning worker packet None is = sym is
-is_meaning worker packet (Some given) is = sym is
+use Rattle.tpw_running.specs.Checks.{other_text, other_numbers, others_text, all_others, checked_text, CheckedNext}
 
 -- what is shown of packets by a check, and kept of them
 pub record Checks (c : Checking) (packets : List (List ℕ)) (entries : List Entry) (text : List ℕ) (d : Checking) : Type 0 where
-  pub text_is : text ≡ others_text c.worker.now c.style c.budget (counted c.tally) packets entries
-  pub others : d.others.items ≡ c.others.items ++ all_others c.worker.now (counted c.tally) packets entries
+  pub text_is : text ≡ others_text c.core.now c.style c.budget (counted c.tally) packets entries
+  pub others : d.others.items ≡ c.others.items ++ all_others c.core.now (counted c.tally) packets entries
   pub tally : d.tally ≡ with_entries (Lines c.style) c.tally entries
 
 pub checks : (c d : Checking) (packets : List (List ℕ)) (entries : List Entry) (text : List ℕ)
@@ -38,16 +30,16 @@ checks c d (p ∷ packets) (e ∷ entries) text all =
     let is = all.1 in
     let rest = checks next d packets entries all.2.0 all.2.2 in
     let n = counted c.tally in
-    let w = c.worker.now in
+    let w = c.core.now in
     let later : counted next.tally ≡ n + 1 = ap counted is.tally ∙ one_counted (Lines c.style) c.tally e in
     let others : all.2.0 ≡ others_text w c.style c.budget (n + 1) packets entries =
     rest.text_is
-    ∙ ap (λ v. others_text v next.style next.budget (counted next.tally) packets entries) is.worker_is
+    ∙ ap (λ v. others_text v next.style next.budget (counted next.tally) packets entries) is.core_is
     ∙ ap (λ s. others_text w s next.budget (counted next.tally) packets entries) is.style_is
     ∙ ap (λ b. others_text w c.style b (counted next.tally) packets entries) is.budget_is
     ∙ ap (λ m. others_text w c.style c.budget m packets entries) later in
-    let numbers : all_others next.worker.now (counted next.tally) packets entries ≡ all_others w (n + 1) packets entries =
-    ap (λ v. all_others v (counted next.tally) packets entries) is.worker_is
+    let numbers : all_others next.core.now (counted next.tally) packets entries ≡ all_others w (n + 1) packets entries =
+    ap (λ v. all_others v (counted next.tally) packets entries) is.core_is
     ∙ ap (λ m. all_others w m packets entries) later in
     record {
       text_is = all.2.1 ∙ ap (λ l. other_text c.style c.budget n e (meaning w p) ++ l) others;

@@ -14,9 +14,10 @@ use Rattle.tp_collect.specs.declared.collected.Entry.{Entry}
 use Rattle.tp_collect.specs.declared.collected.Entry.TheVariants as entry
 use Rattle.tp_collect.specs.declared.collected.LostCause.{LostCause}
 use Rattle.tp_collect.specs.declared.collected.LostCause.TheVariants as cause
-use Rattle.tpw_occam_core.specs.declared.evaluated.Given.{Given}
-use Rattle.tpw_occam_core.specs.declared.worker.Worker.{Worker}
-use Rattle.tpw_occam_core.specs.Meaning.{Meant, meaning}
+use Rattle.tpw_occam_core.specs.Meaning.{Meant}
+use Rattle.tpw_occam_interpreter.specs.declared.workers.Given.{Given}
+use Rattle.tpw_occam_scoped.specs.declared.process.Process.{Process}
+use Rattle.tpw_occam_scoped.specs.Meaning.{meaning}
 use Rattle.tpw_files.specs.declared.outcome.Outcome.{Outcome}
 use Rattle.tpw_files.specs.declared.outcome.Outcome.TheVariants.{Good, Bad}
 use Rattle.tpw_runs.specs.declared.form.Style.{Style}
@@ -74,22 +75,22 @@ abbrev pub other_numbers : (number : ℕ) → Entry → Option Meant → List �
 other_numbers number e meant = if is_meant e meant then [] else number ∷ []
 
 -- of packets, the first of which has a number
-abbrev pub others_text : Worker → Style → (budget number : ℕ) → List (List ℕ) → List Entry → List ℕ
-others_text worker style budget number (packet ∷ packets) (e ∷ entries) =
-    other_text style budget number e (meaning worker packet)
-    ++ others_text worker style budget (number + 1) packets entries
-others_text worker style budget number packets entries = []
+abbrev pub others_text : Process → Style → (budget number : ℕ) → List (List ℕ) → List Entry → List ℕ
+others_text core style budget number (packet ∷ packets) (e ∷ entries) =
+    other_text style budget number e (meaning core packet)
+    ++ others_text core style budget (number + 1) packets entries
+others_text core style budget number packets entries = []
 
 -- the numbers of those that have something else than the text means
-abbrev pub all_others : Worker → (number : ℕ) → List (List ℕ) → List Entry → List ℕ
-all_others worker number (packet ∷ packets) (e ∷ entries) =
-    other_numbers number e (meaning worker packet) ++ all_others worker (number + 1) packets entries
-all_others worker number packets entries = []
+abbrev pub all_others : Process → (number : ℕ) → List (List ℕ) → List Entry → List ℕ
+all_others core number (packet ∷ packets) (e ∷ entries) =
+    other_numbers number e (meaning core packet) ++ all_others core (number + 1) packets entries
+all_others core number packets entries = []
 
 -- ---- the check, packet by packet
 
-pub record IsNothingChecked (worker : Worker) (style : Style) (budget : ℕ) (c : Checking) : Type 0 where
-  pub worker_is : c.worker.now ≡ worker
+pub record IsNothingChecked (core : Process) (style : Style) (budget : ℕ) (c : Checking) : Type 0 where
+  pub core_is : c.core.now ≡ core
   pub style_is : c.style ≡ style
   pub budget_is : c.budget ≡ budget
   pub tally : c.tally ≡ nothing_counted
@@ -99,28 +100,28 @@ abbrev pub checked_count : Checking → ℕ
 checked_count c = counted c.tally
 
 abbrev pub checked_text : Checking → List ℕ → Entry → List ℕ
-checked_text c packet e = other_text c.style c.budget (counted c.tally) e (meaning c.worker.now packet)
+checked_text c packet e = other_text c.style c.budget (counted c.tally) e (meaning c.core.now packet)
 
 -- one packet more is checked
 pub record CheckedNext (c : Checking) (packet : List ℕ) (e : Entry) (d : Checking) : Type 0 where
-  pub worker_is : d.worker.now ≡ c.worker.now
+  pub core_is : d.core.now ≡ c.core.now
   pub style_is : d.style ≡ c.style
   pub budget_is : d.budget ≡ c.budget
   pub tally : d.tally ≡ with_entry (Lines c.style) c.tally e
-  pub others : d.others.items ≡ c.others.items ++ other_numbers (counted c.tally) e (meaning c.worker.now packet)
+  pub others : d.others.items ≡ c.others.items ++ other_numbers (counted c.tally) e (meaning c.core.now packet)
 
 -- Packets were run: of each that has something else than the text means, and of no other, both are written, and its
 -- number is kept. All are counted.
-pub record HasChecked (image : Accepted) (worker : Worker) (style : Style) (packets : List (List ℕ))
+pub record HasChecked (image : Accepted) (core : Process) (style : Style) (packets : List (List ℕ))
     (before after : Option (List ℕ)) (c : Checking) : Type 0 where
   pub entries : List Entry
   pub results : AreResults image.image image.budget packets entries
-  pub written : Appends before after (others_text worker style image.budget 0 packets entries)
-  pub others : c.others.items ≡ all_others worker 0 packets entries
+  pub written : Appends before after (others_text core style image.budget 0 packets entries)
+  pub others : c.others.items ≡ all_others core 0 packets entries
   pub counted : c.tally ≡ with_entries (Lines style) nothing_counted entries
 
 -- Packets were run, and the check is good where each has what the text means.
-pub record IsChecked (image : Accepted) (worker : Worker) (packets : List (List ℕ)) (outcome : Outcome) : Type 0 where
+pub record IsChecked (image : Accepted) (core : Process) (packets : List (List ℕ)) (outcome : Outcome) : Type 0 where
   pub entries : List Entry
   pub results : AreResults image.image image.budget packets entries
-  pub outcome_is : outcome ≡ (if length (all_others worker 0 packets entries) == 0 then Good else Bad)
+  pub outcome_is : outcome ≡ (if length (all_others core 0 packets entries) == 0 then Good else Bad)

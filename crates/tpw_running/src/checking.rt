@@ -12,14 +12,15 @@ use std::io::Write;
 use tp_collect::{Done, Entry, LostCause};
 use tp_link::{DeviceFault, Link, LinkFault};
 use tpw_files::Failure;
-use tpw_occam_core::{Given, Worker};
+use tpw_occam_interpreter::Given;
+use tpw_occam_scoped::Process;
 use tpw_runs::{Form, Report, Style, Tally, write_whole_line};
 
 /// Compares what becomes of packets with what a text in occam means by them, and shows where they differ.
 #[derive(Drop)]
 pub struct Checking<'a> {
     alloc: Global,
-    worker: &'a Worker,
+    core: &'a Process,
     style: Style,
     /// The budget of the worker's image.
     budget: u32,
@@ -30,12 +31,12 @@ pub struct Checking<'a> {
 
 impl<'a> Checking<'a> {
     /// Nothing yet.
-    pub fn new(alloc: Global, worker: &'a Worker, style: Style, budget: u32) -> Checking<'a>
-        ensures { IsNothingChecked worker.now style budget result }
+    pub fn new(alloc: Global, core: &'a Process, style: Style, budget: u32) -> Checking<'a>
+        ensures { IsNothingChecked core.now style budget result }
     {
         Checking {
             alloc,
-            worker,
+            core,
             style,
             budget,
             tally: Tally::new(),
@@ -127,7 +128,7 @@ impl Report for Checking<'_> {
 
     fn show(&mut self, out: &mut Vec<u8>, packet: &[u8], entry: &Entry) -> Result<(), AllocError> {
         let number = self.tally.packets();
-        let meant = Meant::of(self.alloc, self.worker, packet)?;
+        let meant = Meant::of(self.alloc, self.core, packet)?;
         write_other(out, self.style, self.budget, number, entry, &meant)?;
         push_other(&mut self.others, number, entry, &meant)?;
         self.tally.add_entry(Form::Lines(self.style), entry);

@@ -8,7 +8,7 @@ use crate::summary::{is_as_expected, write_summary};
 use std::alloc::{AllocError, Global};
 use std::io::Write;
 use tpw_files::{Failure, Outcome};
-use tpw_occam_core::Worker;
+use tpw_occam_scoped::Process;
 use tpw_runs::{Expected, Form, Kind, LONG_TRACE, Tally, write_expected, write_loss};
 
 /// Whether what is meant by a packet is the result that is expected.
@@ -61,7 +61,7 @@ fn write_meant(
 /// `errors`.
 fn write_packet<W: Write, E: Write>(
     alloc: Global,
-    worker: &Worker,
+    core: &Process,
     number: usize,
     packet: &[u8],
     form: Form<'_>,
@@ -72,7 +72,7 @@ fn write_packet<W: Write, E: Write>(
     requires { counted tally.old < 2 ^ 63 }
     ensures { OnOk result (counted tally.new ≡ counted tally.old + 1) }
 {
-    let meant = Meant::of(alloc, worker, packet)?;
+    let meant = Meant::of(alloc, core, packet)?;
     let mut text = Vec::new(alloc);
     let is_other = write_meant(&mut text, form, number, &meant)?;
     if writer.write_all(&text).is_err() {
@@ -91,7 +91,7 @@ fn write_packet<W: Write, E: Write>(
 /// Evaluates packets, and writes what is shown of each in a form.
 fn write_packets<W: Write, E: Write>(
     alloc: Global,
-    worker: &Worker,
+    core: &Process,
     packets: &[Vec<u8>],
     form: Form<'_>,
     writer: &mut W,
@@ -100,22 +100,22 @@ fn write_packets<W: Write, E: Write>(
     let mut tally = Tally::new();
     for (number, packet) in packets.iter().enumerate() {
         write_packet(
-            alloc, worker, number, packet, form, writer, errors, &mut tally,
+            alloc, core, number, packet, form, writer, errors, &mut tally,
         )?;
     }
     Ok(tally)
 }
 
-/// Evaluates packets on a worker in occam, and writes what is shown of them in a form, and the last line.
+/// Evaluates packets by the core of a text in occam, and writes what is shown of them in a form, and the last line.
 pub fn evaluate_packets<W: Write, E: Write>(
     alloc: Global,
-    worker: &Worker,
+    core: &Process,
     packets: &[Vec<u8>],
     form: Form<'_>,
     writer: &mut W,
     errors: &mut E,
 ) -> Result<Outcome, Failure> {
-    let tally = write_packets(alloc, worker, packets, form, writer, errors)?;
+    let tally = write_packets(alloc, core, packets, form, writer, errors)?;
     match form {
         // A picture or a pipe has the results alone.
         Form::Raw => {

@@ -1,13 +1,15 @@
 //! The meaning of packets by a text in occam, as lines.
 
 ghost use Rattle.std.specs.Prelude.{◌≡◌, ◌++◌, IfOk, OnOk};
-ghost use Rattle.tpw_occam_core.specs.Meaning.{IsMeaning};
+ghost use Rattle.tpw_occam_interpreter.specs.Workers.{IsGiven};
+ghost use Rattle.tpw_occam_scoped.specs.Meaning.{meaning};
 ghost use Rattle.tpw_running.specs.Checks.{given_value, given_text, lost_text, meant_head, meant_text};
 ghost use Rattle.std.specs.Option.{option_map};
 
 use std::alloc::{AllocError, Global};
 use std::io::Write;
-use tpw_occam_core::{Given, Worker, evaluate};
+use tpw_occam_interpreter::{Given, run_worker};
+use tpw_occam_scoped::Process;
 use tpw_runs::{Style, write_message, write_trace};
 
 /// The meaning of a packet: a result, or that the packet is lost.
@@ -48,12 +50,12 @@ fn write_given(
 }
 
 impl Meant {
-    /// The meaning of a packet by a worker.
-    pub fn of(alloc: Global, worker: &Worker, packet: &[u8]) -> Result<Meant, AllocError>
-        ensures { IfOk result (λ meant. IsMeaning worker.now packet.now meant.given) }
+    /// The meaning of a packet by the core of a text.
+    pub fn of(alloc: Global, core: &Process, packet: &[u8]) -> Result<Meant, AllocError>
+        ensures { IfOk result (λ meant. IsGiven (meaning core.now packet.now) meant.given) }
     {
         Ok(Meant {
-            given: evaluate(alloc, worker, packet)?,
+            given: run_worker(alloc, core, packet)?,
         })
     }
 

@@ -14,7 +14,7 @@ use std::time::Clock;
 use tp_accept::Accepted;
 use tpw_command_line::{ReplayHint, RunOptions};
 use tpw_files::{Failure, Input, Language, Outcome, Terminal};
-use tpw_occam_core::Worker;
+use tpw_occam_scoped::Process;
 use tpw_runs::{
     Expected, Form, Progress, Report, RunFault, Shown, Style, Tally, members_for, run_on_members,
     write_loss,
@@ -127,7 +127,7 @@ fn run_checked<'m, T, W: Write>(
     alloc: Global,
     prepared: &Prepared,
     members: usize,
-    meaning: &'m Worker,
+    core: &'m Process,
     style: Style,
     writer: &mut W,
     is_terminal: bool,
@@ -135,10 +135,10 @@ fn run_checked<'m, T, W: Write>(
 where
     T: Threads + Wait + Clock + Eprint + Sync,
     requires { All (λ p. length p.items ≡ 4 * prepared.now.image.image.packet) prepared.now.packets.items }
-    ensures { IfOk result (HasChecked prepared.now.image meaning.now style
+    ensures { IfOk result (HasChecked prepared.now.image core.now style
         (map (λ p. p.items) prepared.now.packets.items) (W.contents writer.old) (W.contents writer.new)) }
 {
-    let mut checking = Checking::new(alloc, meaning, style, prepared.image.budget());
+    let mut checking = Checking::new(alloc, core, style, prepared.image.budget());
     run_reported(
         rt,
         alloc,
@@ -201,14 +201,14 @@ pub fn write_check<T, W: Write, E: Write>(
     alloc: Global,
     prepared: &Prepared,
     asked: &RunOptions,
-    meaning: &Worker,
+    core: &Process,
     writer: &mut W,
     terminal: &mut Terminal<'_, E>,
 ) -> Result<Outcome, Failure>
 where
     T: Threads + Wait + Clock + Eprint + Sync,
     requires { All (λ p. length p.items ≡ 4 * prepared.now.image.image.packet) prepared.now.packets.items }
-    ensures { IfOk result (IsChecked prepared.now.image meaning.now (map (λ p. p.items) prepared.now.packets.items)) }
+    ensures { IfOk result (IsChecked prepared.now.image core.now (map (λ p. p.items) prepared.now.packets.items)) }
 {
     let style = Style {
         trace: true,
@@ -221,7 +221,7 @@ where
         alloc,
         prepared,
         asked.members,
-        meaning,
+        core,
         style,
         writer,
         is_terminal,

@@ -53,10 +53,13 @@ pub struct Shown<'a> {
 }
 
 impl<'a> Shown<'a> {
-    /// How values are written.
-    fn style(&self) -> Style<'a> {
+    /// How values are written at an instruction.
+    fn style(&self, at: i64) -> Style<'a> {
         Style {
-            source: self.source,
+            source: match usize::try_from(at) {
+                Ok(at) => self.source.at(at),
+                Err(_) => self.source,
+            },
             hexadecimal: self.hexadecimal,
         }
     }
@@ -165,6 +168,8 @@ fn write_message<W: Write>(writer: &mut W, name: &str, bytes: &str) -> Result<()
 struct Progress {
     /// Steps made, prefixes counted.
     count: u64,
+    /// The address of the last instruction.
+    last: i64,
     /// Whether it has reached where printing begins.
     is_shown: bool,
 }
@@ -222,13 +227,14 @@ fn show_one<D: LinkDevice, W: Write>(
     let code = stepper.image().code.as_slice();
     let bytes = (prefixes_at(code, at) as u64).saturating_add(1);
     progress.count = progress.count.saturating_add(bytes);
+    progress.last = at;
     let result = taken(alloc, &mut links.sink, &mut sent.result)?;
     let trace = taken(alloc, &mut links.trace, &mut sent.trace)?;
     let after = Workspace::of(alloc, stepper)?;
     let written = Written {
         before: stands,
         after: &after,
-        style: shown.style(),
+        style: shown.style(at),
     };
     if progress.is_shown && (shown.watched.is_empty() || written.changes(shown.watched)) {
         let behind = stepper.registers();
@@ -239,7 +245,7 @@ fn show_one<D: LinkDevice, W: Write>(
             at,
             &registers,
             &behind,
-            shown.style(),
+            shown.style(at),
         )?;
         write!(writer, "{written}").map_err(|_| ShowFault::Write)?;
         write_message(writer, "result", result.as_str())?;
@@ -328,6 +334,7 @@ pub fn show_run<W: Write>(
     };
     let mut progress = Progress {
         count: 0,
+        last: stepper.registers().iptr,
         is_shown: false,
     };
     let mut end = End::Unended;
@@ -352,6 +359,6 @@ pub fn show_run<W: Write>(
         }
     }
     write_end(alloc, &stepper, &sent, progress.count, end, writer)?;
-    write_state(&stepper, &stands, shown.style(), writer)?;
+    write_state(&stepper, &stands, shown.style(progress.last), writer)?;
     Ok(end)
 }

@@ -107,7 +107,7 @@ fn indexed<'a>(source: SourceText<'a>, name: &str, index: &str) -> Result<Named<
     Ok(Named {
         first: local.first.checked_add(index).ok_or(none)?,
         words: 1,
-        name: local.name,
+        ..local
     })
 }
 
@@ -119,6 +119,8 @@ fn numbered(image: &Image, number: &str) -> Result<Named<'static>, WatchKind> {
             first,
             words: 1,
             name: "",
+            from: 0,
+            to: usize::MAX,
         })
     } else {
         Err(WatchKind::NoWord(image.workspace))

@@ -356,6 +356,7 @@ pub(crate) fn write_state<W: Write>(
         table,
     } = found;
     let at = refusal.instruction.at;
+    let source = source.at(at);
     write_around(alloc, image, listing, source, at, writer)?;
     let wanted = asked_by(refusal.instruction.instr);
     let name = name_of(refusal.edge);

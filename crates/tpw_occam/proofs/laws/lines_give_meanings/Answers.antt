@@ -15,10 +15,15 @@ use Rattle.tp_session.specs.InTime.{IsOutcomeInTime}
 use Rattle.tp_session.proofs.OtherRules.{told_so}
 use Rattle.tpw_asm.specs.declared.program.Program.{Program}
 use Rattle.tpw_asm.specs.Assembly.{IsAssembly}
-use Rattle.tpw_occam_core.specs.declared.worker.Worker.{Worker}
-use Rattle.tpw_occam_core.specs.Meaning.{Meant, meaning, meant, after, most_traced}
-use Rattle.tpw_occam_symbolic.specs.Program.{Means, GivesMeaning}
+use Rattle.tpw_occam_core.specs.Meaning.{Meant, most_traced}
+use Rattle.tpw_occam_meaning.specs.States.{State, first}
+use Rattle.tpw_occam_scoped.specs.declared.process.Process.{Process}
+use Rattle.tpw_occam_scoped.specs.Meaning as scoped
+use Rattle.tpw_occam_scoped.specs.Meaning.{meaning}
+use Rattle.tpw_occam_symbolic.specs.Program.{GivesMeaning}
+use Rattle.tpw_occam.specs.Compilation.{Does}
 use Rattle.tpw_occam.specs.Serving.{Agrees, IsOutcomeMeant}
+use Rattle.tpw_occam.proofs.Doing.{gives}
 use Rattle.tpw_occam.proofs.laws.lines_give_meanings.Goals as goal
 
 -- what is meant has no more traces than may be
@@ -29,11 +34,11 @@ few_of false n all m e l is =
     let short : n ≤ most_traced = grind (arith, nat_tests, e) in
     subst (λ (k : Meant). length k.traced ≤ most_traced) (same_Some all m is) (omega (arith, l, short))
 
-few : (w : Worker) (packet : List ℕ) (m : Meant) → meaning w packet ≡ Some m → length m.traced ≤ most_traced
-unfolding meaning
-few w packet m is =
-    few_of (nat_lt most_traced (length (after w packet).traced)) (length (after w packet).traced)
-    (meant w.send (after w packet)) m refl refl is
+few : (p : Process) (packet : List ℕ) (m : Meant) → meaning p packet ≡ Some m → length m.traced ≤ most_traced
+few p packet m is =
+    let s = scoped.run p (first packet) in
+    few_of (nat_lt most_traced (length s.traced)) (length s.traced)
+    (record { result = s.result; flag = s.flag; traced = s.traced }) m refl refl is
 
 -- a run that ends with no more traces than may be gives what is meant
 given : (run : RunResult) (m : Option Meant) → GivesMeaning (run_of_parts run.result run.error run.steps run.trace) m
@@ -42,11 +47,11 @@ given run (Some m) gives short = gives
 given run None long short = absurd (omega (arith, long, short))
 
 -- the packet of a run that traces more on its way means nothing
-lost : (w : Worker) (packet : List ℕ) (run : Run) (m : Option Meant) → meaning w packet ≡ m → GivesMeaning run m
+lost : (p : Process) (packet : List ℕ) (run : Run) (m : Option Meant) → meaning p packet ≡ m → GivesMeaning run m
     → most_trace < length run.trace → Agrees m None
-lost w packet run (Some m) is gives long =
-    let short = few w packet m is in absurd (omega (arith, short, long, ap length gives.2))
-lost w packet run None is gives long = tt
+lost p packet run (Some m) is gives long =
+    let short = few p packet m is in absurd (omega (arith, short, long, ap length gives.2))
+lost p packet run None is gives long = tt
 
 -- what is traced on the way is no more than what is traced in the end
 traces : (image : ImageValue) (packet : List ℕ) (run : Run) → RunsAlone image packet run → TracesMoreThan most_trace image packet
@@ -55,32 +60,36 @@ traces image packet run alone more =
     let first = (sends_first image packet run alone more.way.count more.state more.way.leads).1 in
     omega (arith, more.more, ap length first.is, length-append more.state.traced first.rest)
 
-module _ (w : Worker) (program : Program) (means : Means w program) where
+module _ (p : Process) (program : Program) (does : Does p program) where
   runs : (image : ImageValue) (packet : List ℕ) (run : Run) → IsAssembly program image → IsPacket image packet
-      → RunsAlone image packet run → GivesMeaning run (meaning w packet)
+      → RunsAlone image packet run → GivesMeaning run (meaning p packet)
   runs image packet run assembly whole alone =
-      means.runs image packet run assembly record { size = whole.long; bytes = whole.bytes } alone
+      gives p program does image packet run assembly (record { size = whole.long; bytes = whole.bytes }) alone
 
   agrees : (image : ImageValue) (packet : List ℕ) (o : Option RunResult) → IsOutcomeInTime image packet o → IsAssembly program image
-      → Agrees (meaning w packet) o
+      → Agrees (meaning p packet) o
   agrees image packet (Some run) so assembly =
-      given run (meaning w packet)
+      given run (meaning p packet)
       (runs image packet (run_of_parts run.result run.error run.steps run.trace) assembly so.whole so.is.0) so.is.1
   agrees image packet None so assembly =
-      lost w packet so.ends.run (meaning w packet) refl (runs image packet so.ends.run assembly so.whole so.ends.alone)
+      lost p packet so.ends.run (meaning p packet) refl (runs image packet so.ends.run assembly so.whole so.ends.alone)
       (traces image packet so.ends.run so.ends.alone so.is)
 
   all_agree : (image : ImageValue) (packets : List (List ℕ)) (os : List (Option RunResult)) → AllZip (IsOutcomeInTime image) packets os
-      → AllZip (IsOutcomeMeant w program image) packets os
+      → AllZip (IsOutcomeMeant (meaning p) program image) packets os
   all_agree image [] [] all = tt
   all_agree image [] (o ∷ os) all = absurd all
-  all_agree image (p ∷ packets) [] all = absurd all
-  all_agree image (p ∷ packets) (o ∷ os) all =
-      (record { is = all.0.is; agrees = agrees image p o all.0 }, all_agree image packets os all.1)
+  all_agree image (q ∷ packets) [] all = absurd all
+  all_agree image (q ∷ packets) (o ∷ os) all =
+      (record { is = all.0.is; agrees = agrees image q o all.0 }, all_agree image packets os all.1)
 
 pub returns : goal.returns
-returns c worker program trace input output means is =
-    told_so IsVerdict IsVerdict IsOutcomeInTime (IsOutcomeMeant worker program) (λ text v judged. judged) (λ s. Unit {0})
-    (λ name text image budget judged. tt) (λ s packet bytes long g. tt) (λ s g. tt)
-    (λ s os g all. all_agree worker program means s.image s.packets os all) trace (lines_of input) output
-    (c.results_are_in_time.ensures trace input output is)
+returns c text made trace input output compiled is = record {
+  meaning = meaning made.core;
+  means = compiled.means;
+  answered =
+      told_so IsVerdict IsVerdict IsOutcomeInTime (IsOutcomeMeant (meaning made.core) made.program) (λ text v judged. judged)
+      (λ s. Unit {0}) (λ name text image budget judged. tt) (λ s packet bytes long g. tt) (λ s g. tt)
+      (λ s os g all. all_agree made.core made.program compiled.does s.image s.packets os all) trace (lines_of input) output
+      (c.results_are_in_time.ensures trace input output is);
+}

@@ -1,5 +1,5 @@
 use Rattle.std.proofs.Common.{◌≡◌, List, ◌∷◌, Some, ap, ◌∙◌}
-use Rattle.tpw_occam_tree.specs.declared.expression.Primitive.{Primitive}
+use Rattle.tpw_occam_terms.specs.declared.name.Primitive.{Primitive}
 use Rattle.tpw_occam_meaning.specs.Assignments.{assigning, assigned}
 use Rattle.tpw_occam_meaning.specs.Values.{Value, at}
 use Rattle.tpw_occam_scoped.specs.declared.expression.Expression.{Expression}

@@ -19,7 +19,7 @@ returns g c =
     let all = checks s c.run_reported.new.report packets entries ran.written ran.shown in
     let first : counted s.tally ≡ 0 = ap counted begun.tally in
     let text : ran.written ≡ others_text meaning style image.budget 0 packets entries =
-    all.text_is ∙ ap (λ w. others_text w s.style s.budget (counted s.tally) packets entries) begun.worker_is
+    all.text_is ∙ ap (λ w. others_text w s.style s.budget (counted s.tally) packets entries) begun.core_is
     ∙ ap (λ y. others_text meaning y s.budget (counted s.tally) packets entries) begun.style_is
     ∙ ap (λ b. others_text meaning style b (counted s.tally) packets entries) (begun.budget_is ∙ c.budget.ensures.value)
     ∙ ap (λ n. others_text meaning style image.budget n packets entries) first in
@@ -27,8 +27,8 @@ returns g c =
       entries = entries;
       results = ran.results;
       written = subst (Appends (g.W.Write.contents c.args.writer.now) (g.W.Write.contents c.run_reported.new.writer)) text ran.appended;
-      others = all.others ∙ ap (λ l. l ++ all_others s.worker.now (counted s.tally) packets entries) begun.others
-          ∙ ap (λ w. all_others w (counted s.tally) packets entries) begun.worker_is
+      others = all.others ∙ ap (λ l. l ++ all_others s.core.now (counted s.tally) packets entries) begun.others
+          ∙ ap (λ w. all_others w (counted s.tally) packets entries) begun.core_is
           ∙ ap (λ n. all_others meaning n packets entries) first;
       counted = all.tally ∙ ap (λ y. with_entries (Lines y) s.tally entries) begun.style_is
           ∙ ap (λ t. with_entries (Lines style) t entries) begun.tally;

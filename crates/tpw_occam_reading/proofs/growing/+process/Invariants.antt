@@ -1,0 +1,20 @@
+use Rattle.std.proofs.Common.{◌+◌, ◌*◌}
+use Rattle.tpw_occam_reading.proofs.growing.+process.Given as goal
+
+abbrev pub decreases-declaration : goal.decreases-declaration
+decreases-declaration l = 2 * l.room
+
+abbrev pub decreases-process : goal.decreases-process
+decreases-process l = 2 * l.room
+
+abbrev pub decreases-bare : goal.decreases-bare
+decreases-bare l = 2 * l.room
+
+abbrev pub decreases-steps : goal.decreases-steps
+decreases-steps l = 2 * l.room + 1
+
+abbrev pub decreases-choices : goal.decreases-choices
+decreases-choices l = 2 * l.room + 1
+
+abbrev pub decreases-cases : goal.decreases-cases
+decreases-cases l = 2 * l.room + 1

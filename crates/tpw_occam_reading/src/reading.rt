@@ -1,0 +1,77 @@
+//! A text, read as the tree that spells it.
+
+ghost use Rattle.std.specs.Prelude.{◌≡◌, ◌≤◌, true, All, IfOk, vec_len};
+ghost use Rattle.tpw_occam_terms.specs.Places.{LiesIn, AreInOrder};
+ghost use Rattle.tpw_occam_lexing.specs.Lines.{lines_of};
+ghost use Rattle.tpw_occam_reading.specs.Seen.{seen_lines};
+ghost use Rattle.tpw_occam_reading.specs.Unparse.{unparse};
+
+use crate::growing::source;
+use crate::unparsed::is_unparsed;
+use std::alloc::{AllocError, Global};
+use tpw_occam_lexing::{Lexed, lex};
+use tpw_occam_meaning::Source;
+use tpw_occam_parsing::draft_of;
+use tpw_occam_terms::{Fault, placed_faults};
+
+/// What is known of a text.
+#[derive(Clone, Copy, PartialEq, Eq)]
+pub enum Standing {
+    /// It is the tree, written out.
+    Read,
+    /// It has faults.
+    Faulty,
+    /// It has none, and is not the tree, written out: a defect of the compiler.
+    Defective,
+}
+
+/// The tree of a text.
+#[derive(Drop)]
+pub struct Parsed<'a> {
+    pub source: Source<'a>,
+    /// In the order of their places, at most [`MAX_FAULTS`](tpw_occam_terms::MAX_FAULTS).
+    pub faults: Vec<Fault>,
+    /// Whether each line's indentation is right. Else it is not known what stands below what.
+    pub is_laid_out: bool,
+    pub standing: Standing,
+}
+
+/// What is known of a text that has such lines.
+fn standing_of(lexed: &Lexed<'_>, source: &Source<'_>, has_faults: bool) -> Standing
+    ensures { result ≡ Standing.Read → (lexed.now.is_clean ≡ true) × (seen_lines lexed.now.lines.items ≡ unparse source.now) }
+{
+    if lexed.is_clean && is_unparsed(source, &lexed.lines) {
+        return if has_faults {
+            Standing::Faulty
+        } else {
+            Standing::Read
+        };
+    }
+    if has_faults {
+        Standing::Faulty
+    } else {
+        Standing::Defective
+    }
+}
+
+/// Reads a text. What has a fault is left out or [`Wrong`](tpw_occam_meaning::Process::Wrong), and all else is read; a
+/// fault that another one explains is not told. What the names mean, and whether the last declaration is a worker, is
+/// not judged here.
+pub fn parse<'a>(alloc: Global, text: &'a str) -> Result<Parsed<'a>, AllocError>
+    ensures spelled { IfOk result (λ p. p.standing ≡ Standing.Read → lines_of text.now ≡ Some (unparse p.source)) }
+    ensures few { IfOk result (λ p. vec_len p.faults ≤ 20) }
+    ensures placed { IfOk result (λ p. All (λ f. LiesIn text.now f.span) p.faults.items) }
+    ensures ordered { IfOk result (λ p. AreInOrder p.faults.items) }
+{
+    let lexed = lex(alloc, text)?;
+    let drafted = draft_of(alloc, &lexed.lines)?;
+    let source = source(alloc, &drafted.draft)?;
+    let standing = standing_of(&lexed, &source, !drafted.faults.is_empty());
+    let faults = placed_faults(alloc, text, &drafted.faults)?;
+    Ok(Parsed {
+        source,
+        faults,
+        is_laid_out: drafted.is_laid_out,
+        standing,
+    })
+}

@@ -1,5 +1,0 @@
-use Rattle.tpw_occam_tree.proofs.Spelled.{one_thing}
-use Rattle.tpw_occam_tree.proofs.laws.texts_spell_one_thing.Goals as goal
-
-pub returns : goal.returns
-returns c = one_thing

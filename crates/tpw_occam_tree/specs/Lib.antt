@@ -1,4 +1,0 @@
-pub mod Formulas
-pub mod Operators
-pub mod Places
-pub mod Spelling
