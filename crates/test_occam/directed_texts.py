@@ -209,8 +209,38 @@ def stops():
            declared=['PROC inner ()', '  STOP', ':', 'PROC outer (VAL INT x)', '  IF', '    x = 7', '      inner ()', '    TRUE', '      SKIP', ':'])
 
 
+def shared():
+    """Scopes that are never open together, which have no room beside one another."""
+    few = [packet(x) for x in (0, 1, 2, 7)]
+    head = 'PROC worker (CHAN OF INT packet, CHAN OF INT result)'
+    text('a PROC with an array of 60 words, eight times', [
+        'PROC smooth ([60]INT s)', '  [60]INT t:', '  SEQ', '    t := s', '    SEQ i = 1 FOR 58', '      s[i] := (t[i - 1] + t[i]) + t[i + 1]', ':',
+        head, '  INT x:', '  [60]INT s:', '  SEQ', '    packet ? x', '    s[30] := x', *['    smooth (s)'] * 8, '    result ! s[30]', ':'], few)
+    text('a product of matrices of 64 words, five times', [
+        'PROC multiply ([64]INT r, VAL [64]INT m)', '  [64]INT t:', '  SEQ', '    t := r', '    SEQ i = 0 FOR 8', '      SEQ j = 0 FOR 8',
+        '        INT sum:', '        SEQ', '          SEQ k = 0 FOR 8', '            sum := sum + (t[(8 * i) + k] * m[(8 * k) + j])',
+        '          r[(8 * i) + j] := sum', ':', head, '  INT x:', '  [64]INT m, r:', '  SEQ', '    packet ? x', '    m[0], m[1], m[8] := 1, 1, x',
+        '    r := m', *['    multiply (r, m)'] * 5, '    result ! r[0]', ':'], few[:3])
+    text('a PROC with an array of 100 words, five times', [
+        'PROC fold (INT y)', '  [100]INT a:', '  INT sum:', '  SEQ', '    SEQ i = 0 FOR 100', '      SEQ', '        sum := sum + a[i]',
+        '        a[i] := y', '        sum := sum + a[i]', '    y := y + sum', ':', head, '  INT s:', '  SEQ', '    packet ? s', *['    fold (s)'] * 3,
+        '    result ! s', ':'], few)
+    text('three arrays of 200 words, one behind another', [
+        head, '  INT x, y:', '  SEQ', '    packet ? x', *[line for a in 'abc' for line in (
+            f'    [200]INT {a}:', '    SEQ', f'      y := (3 * y) + {a}[199]', f'      {a}[199] := x + y', f'      y := y + {a}[199]')],
+        '    result ! y', ':'], few)
+    text('an array of 300 words in both branches of an IF', [
+        head, '  INT x, y:', '  SEQ', '    packet ? x', '    IF', '      x = 1', '        [300]INT a:', '        SEQ', '          a[x] := 7',
+        '          y := a[1] + a[2]', '      TRUE', '        [300]INT b:', '        SEQ', '          b[x] := 9', '          y := b[1] + b[2]',
+        '    result ! y', ':'], few)
+    text('a count of 256 words, and then another', [
+        head, '  INT x, y:', '  SEQ', '    packet ? x', '    [256]INT count:', '    SEQ', '      SEQ i = 0 FOR 10',
+        '        count[i /\\ x] := count[i /\\ x] + 1', '      y := count[0]', '    [256]INT seen:', '    SEQ', '      SEQ i = 0 FOR 10',
+        '        seen[i + x] := 1', '      SEQ i = 0 FOR 256', '        y := y + (100 * seen[i])', '    result ! y', ':'], few)
+
+
 def main():
-    parts = (operators, conversions, truth, registers, subscripts, assignments, parameters, choices, messages, spellings, declarations, stops)
+    parts = (operators, conversions, truth, registers, subscripts, assignments, parameters, choices, messages, spellings, declarations, stops, shared)
     for part in parts:
         part()
 

@@ -1,5 +1,5 @@
 -- The lexemes that spell an expression, a type or parameters, in front of more.
-use Rattle.std.specs.Prelude.{ℕ, ◌==◌, Bool, true, false, Option, Some, None, List, [], ◌∷◌}
+use Rattle.std.specs.Prelude.{ℕ, ◌==◌, Bool, true, false, Option, Some, None, List, ◌∷◌}
 use Rattle.tpw_occam_terms.specs.declared.name.Primitive.{Primitive}
 use Rattle.tpw_occam_terms.specs.declared.name.Primitive.TheVariants as primitive
 use Rattle.tpw_occam_terms.specs.declared.name.Name.{Name}
