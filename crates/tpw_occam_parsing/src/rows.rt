@@ -10,6 +10,11 @@ use tpw_occam_terms::{Fault, FaultKind, Span};
 /// The most lines that stand below one another, below the first.
 const MAX_LEVELS: usize = 60;
 
+/// The most lines of a text, and the most tokens of a line. The passes over a tree go as deep as its lists are long.
+const MAX_LINES: usize = 5_000;
+
+const MAX_ITEMS: usize = 5_000;
+
 /// A line, in front of those below it.
 #[derive(Clone, Copy)]
 pub(crate) struct Row {
@@ -227,6 +232,10 @@ impl<'a> Layout<'a> {
         if begins_with_tab(line, span.line) {
             self.is_laid_out = false;
         }
+        if line.items.len() > MAX_ITEMS {
+            self.is_laid_out = false;
+            return self.fault(FaultKind::LongLine, span);
+        }
         let is_sibling = self.close(line.indent);
         if self.chain.len() > MAX_LEVELS {
             if !self.is_deep {
@@ -255,6 +264,11 @@ pub(crate) fn rows_of<'a>(alloc: Global, lines: &[Line<'a>]) -> Result<Rows<'a>,
         is_deep: false,
     };
     for line in lines {
+        if layout.rows.len() == MAX_LINES {
+            layout.is_laid_out = false;
+            layout.fault(FaultKind::TooManyLines, span_of(line))?;
+            break;
+        }
         layout.put(alloc, line)?;
     }
     layout.finish();

@@ -148,6 +148,10 @@ pub enum FaultKind {
     EarlyBreak,
     /// Levels of lines or brackets beyond the most.
     TooDeep,
+    /// Lines beyond the most.
+    TooManyLines,
+    /// A line with words and signs beyond the most.
+    LongLine,
     /// A character that no token begins with.
     NoToken,
     /// A number that is no INT.
@@ -190,6 +194,10 @@ impl fmt::Display for FaultKind {
             FaultKind::TooDeep => f.write_str(
                 "at most 60 levels of brackets or of processes lie within one another",
             ),
+            FaultKind::TooManyLines => f.write_str(
+                "more than 5,000 lines, comments and empty ones aside",
+            ),
+            FaultKind::LongLine => f.write_str("a line with more than 5,000 words and signs"),
             FaultKind::NoToken => f.write_str("no name, number, text or operator begins so"),
             FaultKind::BigNumber => f.write_str("a number above 2147483647, the greatest INT"),
             FaultKind::BadHexadecimal => f.write_str(
