@@ -1,4 +1,4 @@
-//! A text in occam, read as the one tree that spells it.
+//! A text in occam, read as a tree that spells it.
 //!
 //! [`parse`] makes a tree, writes it out, and compares. `specs/` says how a tree is written out: `unparse`.
 #![tactic(auto)]
