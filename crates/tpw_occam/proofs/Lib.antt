@@ -1,0 +1,2 @@
+mod Compiled
+pub mod Doing
