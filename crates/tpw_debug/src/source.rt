@@ -101,7 +101,7 @@ impl<'a> SourceText<'a> {
 
     /// The same, with an address at hand.
     pub fn at(self, at: usize) -> SourceText<'a>
-        ensures { result ≡ record self { at = Some at } }
+        ensures { result ≡ record self.entry { at = Some at } }
     {
         SourceText {
             at: Some(at),
