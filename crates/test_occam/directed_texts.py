@@ -127,6 +127,13 @@ def assignments():
 def parameters():
     worker('an element is worked out once', ['i := 0', 'change (p[i], i)', 'r := p[0] PLUS (p[1] TIMES 3)'], pairs(),
            declared=['INT i:', 'PROC change (INT x, INT i)', '  SEQ', '    i := 1', '    x := 7', ':'])
+    add = ['PROC add (INT x, VAL INT n)', '  x := x PLUS n', ':']
+    worker('an element under another name', ['SEQ i = 0 FOR 4', '  a[i] := i PLUS p[1]', 'add (a[p[0] /\\ 3], 5)', 'add (a[2], 7)',
+           'r := (((a[0] TIMES 3) PLUS (a[1] TIMES 5)) PLUS (a[2] TIMES 7)) PLUS (a[3] TIMES 11)'], pairs()[::3], declared=['[4]INT a:', *add])
+    worker('a byte under another name', ['m[0] := BYTE (p[0] /\\ 255)', 'set (m[(p[0] /\\ 3) + 4], BYTE (p[1] /\\ 127))', 'SEQ i = 0 FOR SIZE m',
+           '  r := (r TIMES 3) PLUS (INT m[i])'], pairs()[::5], declared=['[8]BYTE m:', 'PROC set (BYTE b, VAL BYTE v)', '  b := v', ':'])
+    worker('an element beyond its array under another name', ['add (a[p[0]], 5)', 'r := a[0] PLUS ((a[1] TIMES 3) PLUS (a[2] TIMES 7))'],
+           pairs()[::14], declared=['[3]INT a:', *add])
     worker('a value is one', ['x := p[0]', 'change (x, x)', 'r := x'], pairs()[:30],
            declared=['INT x:', 'PROC change (VAL INT v, INT x)', '  SEQ', '    x := x PLUS 1', '    x := v PLUS x', ':'])
     worker('two names of a variable', ['x := p[0]', 'change (x, x)', 'r := x'], pairs()[:30],
