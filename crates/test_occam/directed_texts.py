@@ -144,6 +144,8 @@ def parameters():
            declared=['INT FUNCTION count (VAL []INT a) IS SIZE a:'])
     worker('names of where it is declared', ['p[0] := f (p[1])', 'r := p[0]'], pairs(),
            declared=['VAL INT n IS 3:', 'INT FUNCTION f (VAL INT x) IS x PLUS n:', 'VAL INT n IS 4:'])
+    worker('names of where a PROC is declared', ['put (p[1])', 'r := y'], pairs()[::3],
+           declared=['VAL INT n IS 3:', 'INT y:', 'PROC put (VAL INT x)', '  y := x PLUS n', ':', 'VAL INT n IS 4:'])
 
 
 def choices():
