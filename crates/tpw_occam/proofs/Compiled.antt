@@ -9,7 +9,9 @@ use Rattle.tpw_occam_reading.specs.Unparse.{unparse}
 use Rattle.tpw_occam_scoped.specs.Meaning.{meaning}
 use Rattle.tpw_occam_symbolic.specs.Program.{Means, GivesRuled}
 use Rattle.tpw_occam.specs.declared.compiling.CompiledText.{CompiledText}
-use Rattle.tpw_occam.specs.Compilation.{ArePlaced, IsCompiled, IsDoneBy}
+use Rattle.tpw_occam.specs.declared.fault.OccamFault.{OccamFault}
+use Rattle.tpw_occam.specs.declared.fault.OccamFault.TheVariants.{Refused, Compiler, Memory}
+use Rattle.tpw_occam.specs.Compilation.{ArePlaced, IsCompiled, IsDoneBy, IsOfCompiler, IsRefusal}
 
 pub is_compiled : (text : List ℕ) (made : CompiledText) (tree : Source) (worker : Worker) → lines_of text ≡ Some (unparse tree)
     → MeansText tree (meaning made.core) → IsDoneBy made.core worker → Means worker made.program
@@ -23,3 +25,8 @@ is_compiled text made tree worker written means done does image addresses rules 
   rules = rules;
   placed = placed;
 }
+
+pub of_compiler : (text : List ℕ) (fault : OccamFault) → IsOfCompiler fault → IsRefusal text fault
+of_compiler text (Refused faults) is = absurd is
+of_compiler text (Compiler defect) is = is
+of_compiler text Memory is = is

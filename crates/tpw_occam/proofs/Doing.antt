@@ -1,5 +1,5 @@
 -- What a program that does what a core does gives of a packet: what the core means by it.
-use Rattle.std.proofs.Common.{◌≡◌, ◌∙◌, ℕ, ◌*◌, List, length, Option, ap, sym, subst}
+use Rattle.std.proofs.Common.{◌≡◌, ◌∙◌, ℕ, ◌*◌, List, length, Option, ap, subst}
 use Rattle.tp_image.specs.Image.{ImageValue}
 use Rattle.tp_step.specs.Runs.{Run, RunsAlone}
 use Rattle.tpw_asm.specs.declared.program.Program.{Program}

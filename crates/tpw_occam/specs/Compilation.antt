@@ -65,6 +65,11 @@ IsRefusal text (Refused faults) =
 IsRefusal text (Compiler defect) = ⊤
 IsRefusal text Memory = ⊤
 
+-- a fault of the compiler, or no memory
+abbrev pub IsOfCompiler : OccamFault → Type 0
+IsOfCompiler (Refused faults) = ⊥
+IsOfCompiler fault = ⊤
+
 abbrev pub IsCompilation : List ℕ → Result CompiledText OccamFault → Type 0
 IsCompilation text (Ok made) = IsCompiled text made
 IsCompilation text (Err fault) = IsRefusal text fault

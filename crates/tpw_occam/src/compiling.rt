@@ -1,7 +1,7 @@
 //! From a text to its program.
 
-ghost use Rattle.std.specs.Prelude.{◌≡◌, IfOk, Some};
-ghost use Rattle.tpw_occam.specs.Compilation.{IsCompilation, IsDoneBy, IsRefusal};
+ghost use Rattle.std.specs.Prelude.{◌≡◌, IfErr, IfOk, Some};
+ghost use Rattle.tpw_occam.specs.Compilation.{IsCompilation, IsDoneBy, IsOfCompiler, IsRefusal};
 ghost use Rattle.tpw_occam_lexing.specs.Lines.{lines_of};
 ghost use Rattle.tpw_occam_meaning.specs.Texts.{MeansText};
 ghost use Rattle.tpw_occam_reading.specs.declared.reading.Standing.TheVariants.{Read};
@@ -101,6 +101,7 @@ fn made_of<'t>(alloc: Global, source: &'t Source<'t>) -> Result<Made<'t>, OccamF
     ensures source { IfOk result (λ made. made.source.now ≡ source.now) }
     ensures means { IfOk result (λ made. MeansText source.now (meaning made.core)) }
     ensures done { IfOk result (λ made. IsDoneBy made.core made.worker) }
+    ensures fault { IfErr result IsOfCompiler }
 {
     let core = resolve(alloc, source, ROOM)?;
     let worker = place(alloc, &core, ROOM)?;
@@ -185,10 +186,10 @@ pub fn compile_text<'t>(alloc: Global, text: &'t str) -> Result<CompiledText<'t>
     };
     match check(alloc, text, source, &parsed.faults) {
         Ok(notes) => match parsed.standing {
-            Standing::Read => {
-                let made = made_of(alloc, &parsed.source)?;
-                compiled(alloc, text, made, &notes)
-            }
+            Standing::Read => match made_of(alloc, &parsed.source) {
+                Ok(made) => compiled(alloc, text, made, &notes),
+                Err(fault) => Err(fault),
+            },
             Standing::Faulty | Standing::Defective => { Err(OccamFault::Compiler(Defect::Misread)) }
         },
         Err(CheckError::Faults(faults)) => Err(refused(alloc, text, &faults)),

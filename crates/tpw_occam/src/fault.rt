@@ -42,6 +42,10 @@ pub enum OccamFault {
 }
 
 impl From<ResolvingFault> for OccamFault {
+    ghost use Rattle.tpw_occam.specs.Compilation.{IsOfCompiler};
+
+    ghost from_gives = { λ _ e. IsOfCompiler e };
+
     fn from(fault: ResolvingFault) -> Self {
         match fault {
             ResolvingFault::Memory => OccamFault::Memory,
@@ -51,6 +55,10 @@ impl From<ResolvingFault> for OccamFault {
 }
 
 impl From<PlacingFault> for OccamFault {
+    ghost use Rattle.tpw_occam.specs.Compilation.{IsOfCompiler};
+
+    ghost from_gives = { λ _ e. IsOfCompiler e };
+
     fn from(fault: PlacingFault) -> Self {
         match fault {
             PlacingFault::Memory => OccamFault::Memory,

@@ -1,22 +1,21 @@
-use Rattle.std.proofs.Common.{◌≡◌, ◌≤◌, ◌<◌, ◌+◌, ◌++◌, nat_lt, Bool, true, false, if◌then◌else◌, ℕ, List, [], ◌∷◌, Option, Some, None, refl, ap, sym, subst, ◌∙◌, arith, length, length-append}
+use Rattle.std.proofs.Common.{◌≡◌, ◌≤◌, ◌<◌, nat_lt, Bool, true, false, if◌then◌else◌, ℕ, List, [], ◌∷◌, Option, Some, None, refl, ap, subst, arith, length, length-append}
 use Rattle.std.specs.List.{AllZip}
 use Rattle.std.proofs.lemmas.Option.{same_Some}
 use Rattle.std.proofs.lemmas.Bool.Decides.{nat_tests}
 use Rattle.tp_image.specs.Image.{ImageValue}
 use Rattle.tp_step.specs.Runs.{Run, RunsAlone, TracesMoreThan}
 use Rattle.tp_step.proofs.LastingLemmas.{sends_first}
-use Rattle.tp_accept.specs.Ending.{IsPacket, EndsWithin}
+use Rattle.tp_accept.specs.Ending.{IsPacket}
 use Rattle.tp_collect.specs.DoneValue.{run_of_parts, most_trace}
 use Rattle.tp_requests.specs.Lines.{lines_of}
 use Rattle.tp_answers.specs.Results.{RunResult}
-use Rattle.tp_answers.specs.Sessions.{Session}
 use Rattle.tp_answers.specs.Rules.{IsVerdict}
 use Rattle.tp_session.specs.InTime.{IsOutcomeInTime}
 use Rattle.tp_session.proofs.OtherRules.{told_so}
 use Rattle.tpw_asm.specs.declared.program.Program.{Program}
 use Rattle.tpw_asm.specs.Assembly.{IsAssembly}
 use Rattle.tpw_occam_core.specs.Meaning.{Meant, most_traced}
-use Rattle.tpw_occam_meaning.specs.States.{State, first}
+use Rattle.tpw_occam_meaning.specs.States.{first}
 use Rattle.tpw_occam_scoped.specs.declared.process.Process.{Process}
 use Rattle.tpw_occam_scoped.specs.Meaning as scoped
 use Rattle.tpw_occam_scoped.specs.Meaning.{meaning}

@@ -1,4 +1,4 @@
-use Rattle.std.proofs.Common.{◌≡◌, Bool, true, false, Result, Ok, Err, List, refl, ap, sym, subst, ◌∙◌, nat_lt}
+use Rattle.std.proofs.Common.{◌≡◌, Bool, true, false, Result, Ok, Err, List, sym, subst, nat_lt}
 use Rattle.std.specs.Prelude.{if◌then◌else◌}
 use Rattle.tp_image.specs.Image.{ImageValue}
 use Rattle.tp_image.proofs.Bodies.{first_fault-text}
@@ -12,7 +12,7 @@ use Rattle.tp_check.specs.Tables.{Table}
 use Rattle.tp_accept.specs.Limits.{most_budget}
 use Rattle.tp_accept.specs.Bound.{bound}
 use Rattle.tp_accept.specs.Refusals.{too_long}
-use Rattle.tp_accept.specs.Verdict.{Answer, allowed, answer_on, IsTextAnswer, IsCutAnswer, IsFlowAnswer}
+use Rattle.tp_accept.specs.Verdict.{allowed, answer_on, IsTextAnswer, IsCutAnswer, IsFlowAnswer}
 use Rattle.tpw_occam.specs.Refusing.{IsOfStatesOrBudget}
 use Rattle.tpw_occam.proofs.laws.refused_for_states_or_budget_alone.Goals as goal
 
