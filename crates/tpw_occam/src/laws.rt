@@ -1,6 +1,6 @@
 //! What follows for batches of compiled texts: each function's contract is the law.
 
-ghost use Rattle.std.specs.Prelude.{Bool, List, ℕ};
+ghost use Rattle.std.specs.Prelude.{◌≡◌, Bool, List, ℕ, Option};
 ghost use Rattle.tp_image.specs.Image.{ImageValue};
 ghost use Rattle.tp_image.specs.Text.{IsTextOf};
 ghost use Rattle.tp_accept.specs.Verdict.{Answer, IsAnswer};
@@ -11,16 +11,22 @@ ghost use Rattle.tp_farm.specs.Jobs.{value_of_job};
 ghost use Rattle.tp_farm.specs.Batches.{IsBatch};
 ghost use Rattle.tpw_asm.specs.declared.program.Program.{Program};
 ghost use Rattle.tpw_asm.specs.Assembly.{IsAssembly};
+ghost use Rattle.tpw_occam_core.specs.Meaning.{Meant};
 ghost use Rattle.tpw_occam_scoped.specs.Meaning.{meaning};
 ghost use Rattle.tpw_occam_symbolic.specs.Program.{GivesRuled};
 ghost use Rattle.tpw_occam.specs.declared.compiling.CompiledText.{CompiledText};
-ghost use Rattle.tpw_occam.specs.Compilation.{IsCompiled};
+ghost use Rattle.tpw_occam.specs.Compilation.{IsCompiled, IsMeaningOf};
 ghost use Rattle.tpw_occam.specs.Meanings.{AreMeant};
 ghost use Rattle.tpw_occam.specs.Refusing.{IsOfStatesOrBudget};
 ghost use Rattle.tpw_occam.specs.Serving.{IsTextServed};
 
 use tp_farm::Job;
 use tp_session::laws::results_are_in_time;
+
+/// A text means at most one function of packets, whichever tree is taken for it.
+pub fn a_text_means_one_function()
+    ensures { (text : List ℕ) (f g : List ℕ → Option Meant) → IsMeaningOf text f → IsMeaningOf text g → f ≡ g }
+{}
 
 /// Each result that the farm collects of a compiled text is what the text means by its packet: the result's bytes, the
 /// error flag and the trace, whatever the members, their schedule, the devices and the gate are.

@@ -13,11 +13,11 @@ use Rattle.tpw_occam_meaning.specs.declared.expression.Expression.TheVariants as
 use Rattle.tpw_occam_meaning.specs.declared.expression.Expressions.{Expressions}
 use Rattle.tpw_occam_meaning.specs.declared.expression.Expressions.TheVariants.{End, More'}
 use Rattle.tpw_occam_reading.specs.Spelled.{spelled, listed, behind_comma, of_monadic, of_dyadic, is_operand, is_left_operand, bracketed_unless}
-use Rattle.tpw_occam_one_tree.proofs.Plain.{plain, all_plain, name, table, call, monadic, dyadic, is_name, IsWhole, AreWhole}
-use Rattle.tpw_occam_one_tree.proofs.Plain as plainly
-use Rattle.tpw_occam_one_tree.proofs.Reader.{start, Operator, next, Next, Opens, Subscripts, Directs, Operates}
-use Rattle.tpw_occam_one_tree.proofs.Reader.{Around, ListKind, TableIn, CallIn, InRound, InSubscript, InList, BehindOne, BehindTwo}
-use Rattle.tpw_occam_one_tree.proofs.Reader.{State, Wants, Has, Goes, Result, begins, goes_on, settled, move, after, parse}
+use Rattle.tpw_occam_reading_laws.proofs.Plain.{plain, all_plain, name, table, call, monadic, dyadic, is_name, IsWhole, AreWhole}
+use Rattle.tpw_occam_reading_laws.proofs.Plain as plainly
+use Rattle.tpw_occam_reading_laws.proofs.Reader.{start, Operator, next, Next, Opens, Subscripts, Directs, Operates}
+use Rattle.tpw_occam_reading_laws.proofs.Reader.{Around, ListKind, TableIn, CallIn, InRound, InSubscript, InList, BehindOne, BehindTwo}
+use Rattle.tpw_occam_reading_laws.proofs.Reader.{State, Wants, Has, Goes, Result, begins, goes_on, settled, move, after, parse}
 
 -- ---- what may stand behind an expression
 

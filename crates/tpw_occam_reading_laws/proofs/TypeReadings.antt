@@ -20,10 +20,10 @@ use Rattle.tpw_occam_meaning.specs.declared.types.Type as written
 use Rattle.tpw_occam_meaning.specs.declared.types.Parameters.{Parameters}
 use Rattle.tpw_occam_meaning.specs.declared.types.Parameters.TheVariants as parameters
 use Rattle.tpw_occam_reading.specs.Spelled.{named, of_primitive, spelled, sizes_spelled, type_spelled, names_behind, names_spelled, passing_spelled, direction_if, parameters_behind, parameters_spelled}
-use Rattle.tpw_occam_one_tree.proofs.Plain.{boxed, name_of, plain, IsWhole}
-use Rattle.tpw_occam_one_tree.proofs.PlainTypes.{plain_name_of, plain_sizes, plain_type, plain_names, plain_parameters, AreSizes, IsType, AreParameters}
-use Rattle.tpw_occam_one_tree.proofs.Reader.{Wants, Alone, parse}
-use Rattle.tpw_occam_one_tree.proofs.Readings.{alone_reads, one_expression}
+use Rattle.tpw_occam_reading_laws.proofs.Plain.{boxed, name_of, plain, IsWhole}
+use Rattle.tpw_occam_reading_laws.proofs.PlainTypes.{plain_name_of, plain_sizes, plain_type, plain_names, plain_parameters, AreSizes, IsType, AreParameters}
+use Rattle.tpw_occam_reading_laws.proofs.Reader.{Wants, Alone, parse}
+use Rattle.tpw_occam_reading_laws.proofs.Readings.{alone_reads, one_expression}
 
 -- ---- lists of lexemes
 

@@ -10,9 +10,9 @@ use Rattle.tpw_occam_meaning.specs.Effects.{Effect, given}
 use Rattle.tpw_occam_meaning.specs.Types.{by_sizes}
 use Rattle.tpw_occam_meaning.specs.States.{State}
 use Rattle.tpw_occam_meaning.specs.Values.{Value, Known, Varying}
-use Rattle.tpw_occam_one_tree.proofs.PlainTypes.{plain_sizes, plain_parameters}
-use Rattle.tpw_occam_one_tree.proofs.Order.{Below, BodyBelow, EntryBelow, entry_refl, NamesBelow, names_more, names_refl}
-use Rattle.tpw_occam_one_tree.proofs.TypeMeanings.{BoundBelow, bound_below}
+use Rattle.tpw_occam_reading_laws.proofs.PlainTypes.{plain_sizes, plain_parameters}
+use Rattle.tpw_occam_reading_laws.proofs.Order.{Below, BodyBelow, EntryBelow, entry_refl, NamesBelow, names_more, names_refl}
+use Rattle.tpw_occam_reading_laws.proofs.TypeMeanings.{BoundBelow, bound_below}
 
 pub record Agree {A : Type 0} (o p : Option A) : Type 0 where
   pub same : (x y : A) → o ≡ Some x → p ≡ Some y → x ≡ y

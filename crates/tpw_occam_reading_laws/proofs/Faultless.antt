@@ -31,12 +31,12 @@ use Rattle.tpw_occam_meaning.specs.Messages.{carried}
 use Rattle.tpw_occam_meaning.specs.Names.{Word, Traces, Fixed, Is, Names, found, with_name}
 use Rattle.tpw_occam_meaning.specs.Processes.{run, all_run, first_true, selected, otherwise, declared, all_constants, constants_of, elses}
 use Rattle.tpw_occam_meaning.specs.Types.{by_sizes}
-use Rattle.tpw_occam_one_tree.proofs.Plain.{IsWhole, AreWhole}
-use Rattle.tpw_occam_one_tree.proofs.PlainTypes.{IsTypeIf, AreSizes}
-use Rattle.tpw_occam_one_tree.proofs.Wellformed.{Needs, needs_none, needs_fact, needs_map, needs_both, needs_first, needs_then, needs_where, value_needs}
-use Rattle.tpw_occam_one_tree.proofs.TypeMeanings.{constant_needs, shape_needs, forms_needs}
-use Rattle.tpw_occam_one_tree.proofs.Statements.{assignment_needs, given_needs, called_needs, message_needs, table_needs, type_of_value_needs, retyped_needs}
-use Rattle.tpw_occam_one_tree.proofs.Sameness.{DeclarationWhole, ProcessWhole, StepsWhole, ChoicesWhole, CasesWhole, ConstantsWhole, ElseWhole}
+use Rattle.tpw_occam_reading_laws.proofs.Plain.{IsWhole, AreWhole}
+use Rattle.tpw_occam_reading_laws.proofs.PlainTypes.{IsTypeIf, AreSizes}
+use Rattle.tpw_occam_reading_laws.proofs.Wellformed.{Needs, needs_none, needs_fact, needs_map, needs_both, needs_first, needs_then, needs_where, value_needs}
+use Rattle.tpw_occam_reading_laws.proofs.TypeMeanings.{constant_needs, shape_needs, forms_needs}
+use Rattle.tpw_occam_reading_laws.proofs.Statements.{assignment_needs, given_needs, called_needs, message_needs, table_needs, type_of_value_needs, retyped_needs}
+use Rattle.tpw_occam_reading_laws.proofs.Sameness.{DeclarationWhole, ProcessWhole, StepsWhole, ChoicesWhole, CasesWhole, ConstantsWhole, ElseWhole}
 
 -- ---- declarations
 

@@ -8,7 +8,7 @@ use Rattle.tpw_occam_meaning.specs.Maybe.{and_then, where_true}
 use Rattle.tpw_occam_meaning.specs.Names.{Place, Form, Body, behind, Entry, Is, Procedure, Function, Nothing, Names, found}
 use Rattle.tpw_occam_meaning.specs.States.{State}
 use Rattle.tpw_occam_meaning.specs.Values.{Value, as_type}
-use Rattle.tpw_occam_one_tree.proofs.Plain.{name_of}
+use Rattle.tpw_occam_reading_laws.proofs.Plain.{name_of}
 
 pub record Below {A : Type 0} (o p : Option A) : Type 0 where
   pub holds : (x : A) → o ≡ Some x → p ≡ Some x

@@ -13,8 +13,8 @@ use Rattle.tpw_occam_meaning.specs.Maybe.{and_then}
 use Rattle.tpw_occam_meaning.specs.Names.{Word, Constant, Kept, Shape, Form, OfValue, OfArray, Fixed, Whole, Body, behind, Entry, Is, Procedure, Function, Nothing, Names, found}
 use Rattle.tpw_occam_meaning.specs.Values.{Value, Known, Varying, operands_of, element_type}
 use Rattle.tpw_occam_meaning.specs.Expressions.{value_of, array_of, elements_of, passed, named, called, within, Passing, type_of, type_in, is_number, compared, view_in, value_in, constant}
-use Rattle.tpw_occam_one_tree.proofs.Plain.{plain, all_plain, name_of}
-use Rattle.tpw_occam_one_tree.proofs.Order.{Below, below_refl, below_none, below_eq, below_then, below_as, BodyBelow, behind_below, EntryBelow, NamesBelow, found_below, same_lookup}
+use Rattle.tpw_occam_reading_laws.proofs.Plain.{plain, all_plain, name_of}
+use Rattle.tpw_occam_reading_laws.proofs.Order.{Below, below_refl, below_none, below_eq, below_then, below_as, BodyBelow, behind_below, EntryBelow, NamesBelow, found_below, same_lookup}
 
 -- ---- by lookups
 

@@ -22,16 +22,16 @@ use Rattle.tpw_occam_meaning.specs.Processes.{run, declared}
 use Rattle.tpw_occam_meaning.specs.States.{State}
 use Rattle.tpw_occam_meaning.specs.Texts.{finished, worker_body, worker, text_effect, meaning_of_text, MeansText}
 use Rattle.tpw_occam_reading.specs.Unparse.{declaration_lines, process_lines, all_lines, unparse}
-use Rattle.tpw_occam_one_tree.proofs.Plain.{plain}
-use Rattle.tpw_occam_one_tree.proofs.PlainTypes.{plain_parameters}
-use Rattle.tpw_occam_one_tree.proofs.Wellformed.{Needs, needs_none, needs_map, needs_both, needs_first, needs_then, needs_where}
-use Rattle.tpw_occam_one_tree.proofs.TypeMeanings.{forms_needs}
-use Rattle.tpw_occam_one_tree.proofs.Statements.{message_needs, received_needs, received_below}
-use Rattle.tpw_occam_one_tree.proofs.Sameness.{DeclarationWhole, ProcessWhole, StepsWhole, SameLines, SameDeclaration, Same, SameSteps}
-use Rattle.tpw_occam_one_tree.proofs.Faultless.{declared_needs, run_needs}
-use Rattle.tpw_occam_one_tree.proofs.ProcessReadings.{one_process, one_declaration}
-use Rattle.tpw_occam_one_tree.proofs.Agreement.{Agree, agree_refl, agree_left_none, agree_right_none, agree_between, agree_then, agree_where, Joined, joined_refl, WithNames, agree_taking}
-use Rattle.tpw_occam_one_tree.proofs.Doing.{agree_forms, agree_carried, agree_message, agree_declared, agree_run, bodies_run}
+use Rattle.tpw_occam_reading_laws.proofs.Plain.{plain}
+use Rattle.tpw_occam_reading_laws.proofs.PlainTypes.{plain_parameters}
+use Rattle.tpw_occam_reading_laws.proofs.Wellformed.{Needs, needs_none, needs_map, needs_both, needs_first, needs_then, needs_where}
+use Rattle.tpw_occam_reading_laws.proofs.TypeMeanings.{forms_needs}
+use Rattle.tpw_occam_reading_laws.proofs.Statements.{message_needs, received_needs, received_below}
+use Rattle.tpw_occam_reading_laws.proofs.Sameness.{DeclarationWhole, ProcessWhole, StepsWhole, SameLines, SameDeclaration, Same, SameSteps}
+use Rattle.tpw_occam_reading_laws.proofs.Faultless.{declared_needs, run_needs}
+use Rattle.tpw_occam_reading_laws.proofs.ProcessReadings.{one_process, one_declaration}
+use Rattle.tpw_occam_reading_laws.proofs.Agreement.{Agree, agree_refl, agree_left_none, agree_right_none, agree_between, agree_then, agree_where, Joined, joined_refl, WithNames, agree_taking}
+use Rattle.tpw_occam_reading_laws.proofs.Doing.{agree_forms, agree_carried, agree_message, agree_declared, agree_run, bodies_run}
 
 -- ---- workers are well formed
 

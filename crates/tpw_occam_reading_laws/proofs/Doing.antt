@@ -36,19 +36,19 @@ use Rattle.tpw_occam_meaning.specs.Names.{Word, Kept, Channel, Protocol, Traces,
 use Rattle.tpw_occam_meaning.specs.Processes.{run, all_run, first_true, selected, otherwise, declared, all_constants, are_distinct, constants_of, elses, is_cased}
 use Rattle.tpw_occam_meaning.specs.Types.{shape_of, forms_of, is_value, bytes_of}
 use Rattle.tpw_occam_reading.specs.Spelled.{spelled}
-use Rattle.tpw_occam_one_tree.proofs.Plain.{plain, all_plain, name_of}
-use Rattle.tpw_occam_one_tree.proofs.PlainTypes.{plain_type, plain_type_if, plain_names, plain_parameters}
-use Rattle.tpw_occam_one_tree.proofs.Readings.{one_expression}
-use Rattle.tpw_occam_one_tree.proofs.Wellformed.{value_needs}
-use Rattle.tpw_occam_one_tree.proofs.Order.{Below, below_refl, below_eq, below_then, found_below, NamesBelow}
-use Rattle.tpw_occam_one_tree.proofs.Meanings.{value_below, type_same, constant_below}
-use Rattle.tpw_occam_one_tree.proofs.TypeMeanings.{shape_below, forms_below}
-use Rattle.tpw_occam_one_tree.proofs.Statements.{assignment_below, called_below, carried_same, message_below, is_table_same, table_below, type_of_value_below, retyped_below}
-use Rattle.tpw_occam_one_tree.proofs.Sameness.{SameDeclaration, Same, SameSteps, SameChoices, SameCases}
-use Rattle.tpw_occam_one_tree.proofs.Faultless.{run_needs}
-use Rattle.tpw_occam_one_tree.proofs.ProcessReadings.{one_process}
-use Rattle.tpw_occam_one_tree.proofs.Agreement.{Agree, agree_refl, agree_left_none, agree_between, agree_then, agree_any, agree_where, agree_if, agree_given, agree_by_sizes}
-use Rattle.tpw_occam_one_tree.proofs.Agreement.{Joined, joined_same, joined_procedure, joined_function, WithNames, agree_taking}
+use Rattle.tpw_occam_reading_laws.proofs.Plain.{plain, all_plain, name_of}
+use Rattle.tpw_occam_reading_laws.proofs.PlainTypes.{plain_type, plain_type_if, plain_names, plain_parameters}
+use Rattle.tpw_occam_reading_laws.proofs.Readings.{one_expression}
+use Rattle.tpw_occam_reading_laws.proofs.Wellformed.{value_needs}
+use Rattle.tpw_occam_reading_laws.proofs.Order.{Below, below_refl, below_eq, below_then, found_below, NamesBelow}
+use Rattle.tpw_occam_reading_laws.proofs.Meanings.{value_below, type_same, constant_below}
+use Rattle.tpw_occam_reading_laws.proofs.TypeMeanings.{shape_below, forms_below}
+use Rattle.tpw_occam_reading_laws.proofs.Statements.{assignment_below, called_below, carried_same, message_below, is_table_same, table_below, type_of_value_below, retyped_below}
+use Rattle.tpw_occam_reading_laws.proofs.Sameness.{SameDeclaration, Same, SameSteps, SameChoices, SameCases}
+use Rattle.tpw_occam_reading_laws.proofs.Faultless.{run_needs}
+use Rattle.tpw_occam_reading_laws.proofs.ProcessReadings.{one_process}
+use Rattle.tpw_occam_reading_laws.proofs.Agreement.{Agree, agree_refl, agree_left_none, agree_between, agree_then, agree_any, agree_where, agree_if, agree_given, agree_by_sizes}
+use Rattle.tpw_occam_reading_laws.proofs.Agreement.{Joined, joined_same, joined_procedure, joined_function, WithNames, agree_taking}
 
 -- ---- expressions, types, names of channels
 

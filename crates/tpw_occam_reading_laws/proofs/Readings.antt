@@ -6,10 +6,10 @@ use Rattle.tpw_occam_meaning.specs.declared.expression.Expression.{Expression}
 use Rattle.tpw_occam_meaning.specs.declared.expression.Expressions.{Expressions}
 use Rattle.tpw_occam_meaning.specs.declared.expression.Expressions.TheVariants.{End, More'}
 use Rattle.tpw_occam_reading.specs.Spelled.{spelled, listed}
-use Rattle.tpw_occam_one_tree.proofs.Plain.{plain, all_plain, more, IsWhole, AreWhole}
-use Rattle.tpw_occam_one_tree.proofs.Reader.{Next, Opens, Subscripts, Directs, Operates, next, Top, Alone, InList}
-use Rattle.tpw_occam_one_tree.proofs.Reader.{Wants, Has, Ends, Result, goes_on, after, parse}
-use Rattle.tpw_occam_one_tree.proofs.ReadBack.{IsEnd, IsEnded, ended_follows, reads, reads_list}
+use Rattle.tpw_occam_reading_laws.proofs.Plain.{plain, all_plain, more, IsWhole, AreWhole}
+use Rattle.tpw_occam_reading_laws.proofs.Reader.{Next, Opens, Subscripts, Directs, Operates, next, Top, Alone, InList}
+use Rattle.tpw_occam_reading_laws.proofs.Reader.{Wants, Has, Ends, Result, goes_on, after, parse}
+use Rattle.tpw_occam_reading_laws.proofs.ReadBack.{IsEnd, IsEnded, ended_follows, reads, reads_list}
 
 -- what was read, and what is left
 abbrev pub read_of : Result → Expressions

@@ -26,14 +26,14 @@ use Rattle.tpw_occam_meaning.specs.declared.tree.Cases.{Cases}
 use Rattle.tpw_occam_meaning.specs.declared.tree.Cases.TheVariants as cases
 use Rattle.tpw_occam_reading.specs.Spelled.{named, spelled, listed, type_if, names_spelled}
 use Rattle.tpw_occam_reading.specs.Unparse.{line, declaration_lines, process_lines, steps_lines, choices_lines, cases_lines}
-use Rattle.tpw_occam_one_tree.proofs.Plain.{boxed, plain, all_plain, call, IsWhole, AreWhole}
-use Rattle.tpw_occam_one_tree.proofs.PlainTypes.{plain_type_if, IsTypeIf}
-use Rattle.tpw_occam_one_tree.proofs.Reader.{Wants, InList, Top, parse}
-use Rattle.tpw_occam_one_tree.proofs.Readings.{one_expression, one_list, list_reads, left_of}
-use Rattle.tpw_occam_one_tree.proofs.TypeReadings.{same_head, same_tail, one_primitive, one_type, one_names, one_bytes, one_parameters, First, ByVal, ByType, ByOther, first, type_first}
-use Rattle.tpw_occam_one_tree.proofs.Statements.{AreTargets}
-use Rattle.tpw_occam_one_tree.proofs.Sameness.{DeclarationWhole, ProcessWhole, StepsWhole, ChoicesWhole, CasesWhole, Shallow, SameLines, SameDeclaration, Same, SameSteps, SameChoices, SameCases}
-use Rattle.tpw_occam_one_tree.proofs.Lines.{first_lexemes, heads, behinds, sort, sort_of, process_sort, shallow_up, process_shallow, process_not_shallow, line_not_shallow, drop_deep, drops, keep_line}
+use Rattle.tpw_occam_reading_laws.proofs.Plain.{boxed, plain, all_plain, call, IsWhole, AreWhole}
+use Rattle.tpw_occam_reading_laws.proofs.PlainTypes.{plain_type_if, IsTypeIf}
+use Rattle.tpw_occam_reading_laws.proofs.Reader.{Wants, InList, Top, parse}
+use Rattle.tpw_occam_reading_laws.proofs.Readings.{one_expression, one_list, list_reads, left_of}
+use Rattle.tpw_occam_reading_laws.proofs.TypeReadings.{same_head, same_tail, one_primitive, one_type, one_names, one_bytes, one_parameters, First, ByVal, ByType, ByOther, first, type_first}
+use Rattle.tpw_occam_reading_laws.proofs.Statements.{AreTargets}
+use Rattle.tpw_occam_reading_laws.proofs.Sameness.{DeclarationWhole, ProcessWhole, StepsWhole, ChoicesWhole, CasesWhole, Shallow, SameLines, SameDeclaration, Same, SameSteps, SameChoices, SameCases}
+use Rattle.tpw_occam_reading_laws.proofs.Lines.{first_lexemes, heads, behinds, sort, sort_of, process_sort, shallow_up, process_shallow, process_not_shallow, line_not_shallow, drop_deep, drops, keep_line}
 
 -- ---- declarations
 

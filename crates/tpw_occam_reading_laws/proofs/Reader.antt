@@ -17,7 +17,7 @@ use Rattle.tpw_occam_meaning.specs.declared.expression.Expression.{Expression}
 use Rattle.tpw_occam_meaning.specs.declared.expression.Expression.TheVariants as tree
 use Rattle.tpw_occam_meaning.specs.declared.expression.Expressions.{Expressions}
 use Rattle.tpw_occam_meaning.specs.declared.expression.Expressions.TheVariants.{End}
-use Rattle.tpw_occam_one_tree.proofs.Plain.{number, character, text, truth, most, table, name, channel, element, call, monadic, dyadic, more}
+use Rattle.tpw_occam_reading_laws.proofs.Plain.{number, character, text, truth, most, table, name, channel, element, call, monadic, dyadic, more}
 
 -- ---- what a lexeme is where an expression is to begin
 

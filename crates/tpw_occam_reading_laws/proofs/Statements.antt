@@ -19,12 +19,12 @@ use Rattle.tpw_occam_meaning.specs.Names.{Word, Constant, Kept, View, Place, For
 use Rattle.tpw_occam_meaning.specs.Names.{Body, behind, Entry, Is, Procedure, Function, Nothing, Names, found}
 use Rattle.tpw_occam_meaning.specs.States.{State}
 use Rattle.tpw_occam_meaning.specs.Values.{Value, Known, Varying, element_type}
-use Rattle.tpw_occam_one_tree.proofs.Plain.{plain, all_plain, name_of, is_name, IsWhole, AreWhole}
-use Rattle.tpw_occam_one_tree.proofs.PlainTypes.{plain_name_of, plain_type, plain_type_if, IsType, IsTypeIf}
-use Rattle.tpw_occam_one_tree.proofs.Order.{Below, below_refl, below_none, below_eq, below_then, below_where, below_as, BodyBelow, behind_below, EntryBelow, NamesBelow, found_below, same_lookup}
-use Rattle.tpw_occam_one_tree.proofs.Wellformed.{Needs, needs_none, needs_fact, needs_map, needs_both, needs_first, needs_then, needs_where, needs_as, named_needs, value_needs, array_needs}
-use Rattle.tpw_occam_one_tree.proofs.Meanings.{named_same, type_same, value_below, array_below}
-use Rattle.tpw_occam_one_tree.proofs.TypeMeanings.{shape_needs, by_sizes_needs, shape_below, by_sizes_below}
+use Rattle.tpw_occam_reading_laws.proofs.Plain.{plain, all_plain, name_of, is_name, IsWhole, AreWhole}
+use Rattle.tpw_occam_reading_laws.proofs.PlainTypes.{plain_name_of, plain_type, plain_type_if, IsType, IsTypeIf}
+use Rattle.tpw_occam_reading_laws.proofs.Order.{Below, below_refl, below_none, below_eq, below_then, below_where, below_as, BodyBelow, behind_below, EntryBelow, NamesBelow, found_below, same_lookup}
+use Rattle.tpw_occam_reading_laws.proofs.Wellformed.{Needs, needs_none, needs_fact, needs_map, needs_both, needs_first, needs_then, needs_where, needs_as, named_needs, value_needs, array_needs}
+use Rattle.tpw_occam_reading_laws.proofs.Meanings.{named_same, type_same, value_below, array_below}
+use Rattle.tpw_occam_reading_laws.proofs.TypeMeanings.{shape_needs, by_sizes_needs, shape_below, by_sizes_below}
 
 -- ---- targets
 

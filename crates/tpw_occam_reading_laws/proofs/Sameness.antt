@@ -17,9 +17,9 @@ use Rattle.tpw_occam_meaning.specs.declared.tree.Cases.TheVariants as cases
 use Rattle.tpw_occam_meaning.specs.Processes.{elses}
 use Rattle.tpw_occam_reading.specs.Spelled.{spelled}
 use Rattle.tpw_occam_reading.specs.Unparse.{process_lines}
-use Rattle.tpw_occam_one_tree.proofs.Plain.{plain, all_plain, IsWhole, AreWhole}
-use Rattle.tpw_occam_one_tree.proofs.PlainTypes.{plain_type, plain_type_if, plain_names, plain_parameters, IsType, IsTypeIf, AreParameters}
-use Rattle.tpw_occam_one_tree.proofs.Statements.{AreTargets}
+use Rattle.tpw_occam_reading_laws.proofs.Plain.{plain, all_plain, IsWhole, AreWhole}
+use Rattle.tpw_occam_reading_laws.proofs.PlainTypes.{plain_type, plain_type_if, plain_names, plain_parameters, IsType, IsTypeIf, AreParameters}
+use Rattle.tpw_occam_reading_laws.proofs.Statements.{AreTargets}
 
 -- ---- no fault
 

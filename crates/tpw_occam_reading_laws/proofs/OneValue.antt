@@ -6,11 +6,11 @@ use Rattle.tpw_occam_meaning.specs.Names.{Names}
 use Rattle.tpw_occam_meaning.specs.Values.{Value}
 use Rattle.tpw_occam_meaning.specs.Expressions.{value_of}
 use Rattle.tpw_occam_reading.specs.Spelled.{spelled}
-use Rattle.tpw_occam_one_tree.proofs.Plain.{plain}
-use Rattle.tpw_occam_one_tree.proofs.Readings.{one_expression}
-use Rattle.tpw_occam_one_tree.proofs.Wellformed.{value_needs}
-use Rattle.tpw_occam_one_tree.proofs.Order.{names_refl}
-use Rattle.tpw_occam_one_tree.proofs.Meanings.{value_below}
+use Rattle.tpw_occam_reading_laws.proofs.Plain.{plain}
+use Rattle.tpw_occam_reading_laws.proofs.Readings.{one_expression}
+use Rattle.tpw_occam_reading_laws.proofs.Wellformed.{value_needs}
+use Rattle.tpw_occam_reading_laws.proofs.Order.{names_refl}
+use Rattle.tpw_occam_reading_laws.proofs.Meanings.{value_below}
 
 -- two things that are one
 pub one_of : {A : Type 0} (o : Option A) (x y : A) → o ≡ Some x → o ≡ Some y → x ≡ y

@@ -12,7 +12,7 @@ use Rattle.tpw_occam_meaning.specs.Maybe.{and_then, where_true}
 use Rattle.tpw_occam_meaning.specs.Names.{Word, Constant, Kept, Shape, Form, OfValue, OfArray, Body, Entry, Function, Names, found}
 use Rattle.tpw_occam_meaning.specs.Values.{Value, Known, Varying, as_type, converted}
 use Rattle.tpw_occam_meaning.specs.Expressions.{value_of, array_of, elements_of, passed, named, called, within, Passing, type_of}
-use Rattle.tpw_occam_one_tree.proofs.Plain.{is_name, IsWhole, AreWhole}
+use Rattle.tpw_occam_reading_laws.proofs.Plain.{is_name, IsWhole, AreWhole}
 
 -- where there is something, the fact holds
 pub record Needs {A : Type 0} (Fact : Type 0) (o : Option A) : Type 0 where

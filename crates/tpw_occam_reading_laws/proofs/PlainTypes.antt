@@ -8,7 +8,7 @@ use Rattle.tpw_occam_meaning.specs.declared.types.Sizes.TheVariants as sizes
 use Rattle.tpw_occam_meaning.specs.declared.types.Type as written
 use Rattle.tpw_occam_meaning.specs.declared.types.Parameters.{Parameters}
 use Rattle.tpw_occam_meaning.specs.declared.types.Parameters.TheVariants as parameters
-use Rattle.tpw_occam_one_tree.proofs.Plain.{boxed, name_of, plain, IsWhole}
+use Rattle.tpw_occam_reading_laws.proofs.Plain.{boxed, name_of, plain, IsWhole}
 
 abbrev pub plain_name_of : Name → Name
 plain_name_of name = name_of name.text.now

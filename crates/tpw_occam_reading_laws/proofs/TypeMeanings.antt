@@ -14,11 +14,11 @@ use Rattle.tpw_occam_meaning.specs.Expressions.{constant}
 use Rattle.tpw_occam_meaning.specs.Names.{Names, Form, Place, Is, bound, with_name}
 use Rattle.tpw_occam_meaning.specs.Types.{size_in, shape_of, by_sizes, protocol_of, array_form, form_of, forms_behind, forms_of}
 use Rattle.tpw_occam_meaning.specs.Values.{kind_of}
-use Rattle.tpw_occam_one_tree.proofs.Plain.{IsWhole}
-use Rattle.tpw_occam_one_tree.proofs.PlainTypes.{plain_name_of, plain_sizes, plain_type, plain_parameters, AreSizes, IsType, AreParameters}
-use Rattle.tpw_occam_one_tree.proofs.Order.{Below, below_refl, below_none, below_then, NamesBelow, names_more}
-use Rattle.tpw_occam_one_tree.proofs.Wellformed.{Needs, needs_none, needs_fact, needs_map, needs_both, needs_first, needs_then, value_needs}
-use Rattle.tpw_occam_one_tree.proofs.Meanings.{constant_below}
+use Rattle.tpw_occam_reading_laws.proofs.Plain.{IsWhole}
+use Rattle.tpw_occam_reading_laws.proofs.PlainTypes.{plain_name_of, plain_sizes, plain_type, plain_parameters, AreSizes, IsType, AreParameters}
+use Rattle.tpw_occam_reading_laws.proofs.Order.{Below, below_refl, below_none, below_then, NamesBelow, names_more}
+use Rattle.tpw_occam_reading_laws.proofs.Wellformed.{Needs, needs_none, needs_fact, needs_map, needs_both, needs_first, needs_then, value_needs}
+use Rattle.tpw_occam_reading_laws.proofs.Meanings.{constant_below}
 
 -- ---- well formed
 

@@ -27,9 +27,9 @@ use Rattle.tpw_occam_meaning.specs.declared.tree.Cases.{Cases}
 use Rattle.tpw_occam_meaning.specs.declared.tree.Cases.TheVariants as cases
 use Rattle.tpw_occam_reading.specs.Spelled.{spelled, listed, behind_comma, of_primitive, sizes_spelled}
 use Rattle.tpw_occam_reading.specs.Unparse.{line, declaration_lines, process_lines, steps_lines, choices_lines, cases_lines}
-use Rattle.tpw_occam_one_tree.proofs.Plain.{is_name, IsWhole}
-use Rattle.tpw_occam_one_tree.proofs.Statements.{is_target, AreTargets}
-use Rattle.tpw_occam_one_tree.proofs.Sameness.{DeclarationWhole, ProcessWhole, Shallow}
+use Rattle.tpw_occam_reading_laws.proofs.Plain.{is_name, IsWhole}
+use Rattle.tpw_occam_reading_laws.proofs.Statements.{is_target, AreTargets}
+use Rattle.tpw_occam_reading_laws.proofs.Sameness.{DeclarationWhole, ProcessWhole, Shallow}
 
 abbrev pub first_lexemes : List WrittenLine → List Lexeme
 first_lexemes [] = []
