@@ -33,7 +33,7 @@ def laid_out(rng, line):
             if rng.random() < 0.3:
                 out.append(" " * rng.randrange(9) + "-- a comment\n")
             out.append(" " * (indent + rng.choice([0, 1, 2, 3, 8])))
-    return "".join(out) + rng.choice(["", "", "", " ", " -- \xe9", "--"])
+    return "".join(out) + rng.choice(["", "", "", " ", " -- \xe9", " --"])
 
 
 def text_of(rng, text):
