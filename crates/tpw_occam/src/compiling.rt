@@ -89,15 +89,15 @@ fn without_code(alloc: Global, text: &str, fault: CodeFault) -> OccamFault
 
 /// A tree, what it means, the worker that does it, and what is declared in it.
 #[derive(Drop)]
-struct Made<'t> {
-    source: &'t Source<'t>,
+struct Made<'t, 'a> {
+    source: &'t Source<'a>,
     core: Process,
     worker: Worker,
     declared: Vec<Declared>,
 }
 
 /// The worker that does what a tree means.
-fn made_of<'t>(alloc: Global, source: &'t Source<'t>) -> Result<Made<'t>, OccamFault>
+fn made_of<'t, 'a>(alloc: Global, source: &'t Source<'a>) -> Result<Made<'t, 'a>, OccamFault>
     ensures source { IfOk result (λ made. made.source.now ≡ source.now) }
     ensures means { IfOk result (λ made. MeansText source.now (meaning made.core)) }
     ensures done { IfOk result (λ made. IsDoneBy made.core made.worker) }
@@ -121,7 +121,7 @@ fn made_of<'t>(alloc: Global, source: &'t Source<'t>) -> Result<Made<'t>, OccamF
 fn compiled<'t>(
     alloc: Global,
     text: &'t str,
-    made: Made<'t>,
+    made: Made<'_, 't>,
     notes: &[Note<'_>],
 ) -> Result<CompiledText<'t>, OccamFault>
     requires written { lines_of text.now ≡ Some (unparse made.source.now) }
@@ -165,20 +165,11 @@ fn compiled<'t>(
     }
 }
 
-/// The tree of a text. It stays allocated until the program ends: the kit's borrow checker shortens no lifetime within
-/// a tree, so one that is dropped earlier could not be borrowed.
-fn tree_of<'t>(alloc: Global, text: &'t str) -> Result<&'t Parsed<'t>, AllocError>
-    ensures { IfOk result (λ parsed. parsed.now.standing ≡ Read → lines_of text.now ≡ Some (unparse parsed.now.source)) }
-{
-    let tree = Box::new(alloc, parse(alloc, text)?)?;
-    Ok(Box::leak(tree))
-}
-
 /// The program of a text with what it means and its warnings, or why it has none.
 pub fn compile_text<'t>(alloc: Global, text: &'t str) -> Result<CompiledText<'t>, OccamFault>
     ensures { IsCompilation text.now result }
 {
-    let parsed = tree_of(alloc, text)?;
+    let parsed = parse(alloc, text)?;
     let source = if parsed.is_laid_out {
         Some(&parsed.source)
     } else {

@@ -10,8 +10,8 @@ use tpw_occam_typing::{
 };
 
 /// The type of a name that is assigned to.
-fn named_target<'a>(
-    checker: &mut Checker<'a>,
+fn named_target<'t, 'a>(
+    checker: &mut Checker<'t, 'a>,
     frame: Frame,
     name: Name<'a>,
 ) -> Result<Primitive, Stop> {
@@ -30,11 +30,11 @@ fn named_target<'a>(
 }
 
 /// The type of an element that is assigned to.
-fn element_target<'a>(
-    checker: &mut Checker<'a>,
+fn element_target<'t, 'a>(
+    checker: &mut Checker<'t, 'a>,
     frame: Frame,
     array: Name<'a>,
-    subscript: &'a Tree<'a>,
+    subscript: &'t Tree<'a>,
     depth: u32,
 ) -> Result<Primitive, Stop> {
     let place = checker.subscript_at(subscript);
@@ -47,10 +47,10 @@ fn element_target<'a>(
 }
 
 /// The type of what is assigned to.
-pub(crate) fn target<'a>(
-    checker: &mut Checker<'a>,
+pub(crate) fn target<'t, 'a>(
+    checker: &mut Checker<'t, 'a>,
     frame: Frame,
-    e: &'a Tree<'a>,
+    e: &'t Tree<'a>,
     depth: u32,
 ) -> Result<Primitive, Stop> {
     match bare(e) {
@@ -69,11 +69,11 @@ pub(crate) fn target<'a>(
 }
 
 /// A target and its value. Where the target is wrong, the value is looked at all the same.
-fn pair<'a>(
-    checker: &mut Checker<'a>,
+fn pair<'t, 'a>(
+    checker: &mut Checker<'t, 'a>,
     frame: Frame,
-    to: &'a Tree<'a>,
-    value: &'a Tree<'a>,
+    to: &'t Tree<'a>,
+    value: &'t Tree<'a>,
     depth: u32,
 ) -> Result<(), Stop> {
     match target(checker, frame, to, depth) {
@@ -92,11 +92,11 @@ fn pair<'a>(
 }
 
 /// An array that takes the elements of another, or of a table.
-fn copy<'a>(
-    checker: &mut Checker<'a>,
+fn copy<'t, 'a>(
+    checker: &mut Checker<'t, 'a>,
     frame: Frame,
     target: Name<'a>,
-    value: &'a Tree<'a>,
+    value: &'t Tree<'a>,
     depth: u32,
 ) -> Result<(), Stop> {
     let to = checker.written_view(frame.scope, target)?;
@@ -111,7 +111,11 @@ fn copy<'a>(
 }
 
 /// The name of an array that is assigned to whole, if it is one.
-fn whole_array<'a>(checker: &Checker<'a>, frame: Frame, target: &Tree<'a>) -> Option<Name<'a>> {
+fn whole_array<'t, 'a>(
+    checker: &Checker<'t, 'a>,
+    frame: Frame,
+    target: &Tree<'a>,
+) -> Option<Name<'a>> {
     let view = checker.named_array(frame.scope, target)?;
     if view.access == Access::ReadAndWrite {
         name_alone(target)
@@ -121,11 +125,11 @@ fn whole_array<'a>(checker: &Checker<'a>, frame: Frame, target: &Tree<'a>) -> Op
 }
 
 /// Assignments to variables and elements.
-fn pairs<'a>(
-    checker: &mut Checker<'a>,
+fn pairs<'t, 'a>(
+    checker: &mut Checker<'t, 'a>,
     frame: Frame,
-    targets: &'a Expressions<'a>,
-    values: &'a Expressions<'a>,
+    targets: &'t Expressions<'a>,
+    values: &'t Expressions<'a>,
     depth: u32,
 ) -> Result<(), Stop> {
     let mut is_whole = true;
@@ -151,11 +155,11 @@ fn pairs<'a>(
 }
 
 /// `x, a[e] := f, g`, or `a := b`. The reader has seen to it that there are as many values as targets.
-pub(crate) fn assignment<'a>(
-    checker: &mut Checker<'a>,
+pub(crate) fn assignment<'t, 'a>(
+    checker: &mut Checker<'t, 'a>,
     frame: Frame,
-    targets: &'a Expressions<'a>,
-    values: &'a Expressions<'a>,
+    targets: &'t Expressions<'a>,
+    values: &'t Expressions<'a>,
     depth: u32,
 ) -> Result<(), Stop> {
     if count_of(targets) != count_of(values) {

@@ -21,10 +21,10 @@ pub(crate) struct Seen {
 }
 
 /// Whether the guard of a choice is TRUE as it is written.
-pub(crate) fn guard<'a>(
-    checker: &mut Checker<'a>,
+pub(crate) fn guard<'t, 'a>(
+    checker: &mut Checker<'t, 'a>,
     frame: Frame,
-    e: &'a Tree<'a>,
+    e: &'t Tree<'a>,
     depth: u32,
 ) -> Result<bool, Stop> {
     let value = checker.expression(frame, e, Some(Primitive::Bool), depth)?;
@@ -35,10 +35,10 @@ pub(crate) fn guard<'a>(
 }
 
 /// What a CASE chooses by.
-pub(crate) fn chosen_by<'a>(
-    checker: &mut Checker<'a>,
+pub(crate) fn chosen_by<'t, 'a>(
+    checker: &mut Checker<'t, 'a>,
     frame: Frame,
-    e: &'a Tree<'a>,
+    e: &'t Tree<'a>,
     depth: u32,
 ) -> Result<Selector, Stop> {
     let value = checker.expression(frame, e, None, depth)?;
@@ -56,10 +56,10 @@ pub(crate) fn chosen_by<'a>(
 }
 
 /// A constant of a CASE, which stands in it once.
-fn case_constant<'a>(
-    checker: &mut Checker<'a>,
+fn case_constant<'t, 'a>(
+    checker: &mut Checker<'t, 'a>,
     frame: Frame,
-    e: &'a Tree<'a>,
+    e: &'t Tree<'a>,
     of: Primitive,
     seen: &mut Vec<Seen>,
 ) -> Result<(), Stop> {
@@ -76,10 +76,10 @@ fn case_constant<'a>(
 }
 
 /// How many of the constants of a choice of a CASE are without a fault.
-fn case_constants<'a>(
-    checker: &mut Checker<'a>,
+fn case_constants<'t, 'a>(
+    checker: &mut Checker<'t, 'a>,
     frame: Frame,
-    list: &'a Expressions<'a>,
+    list: &'t Expressions<'a>,
     of: Primitive,
     seen: &mut Vec<Seen>,
 ) -> Result<usize, Stop> {
@@ -97,10 +97,10 @@ fn case_constants<'a>(
 }
 
 /// The constants of a choice of a CASE, of which each is compared within the comparison of those behind it.
-pub(crate) fn case_guard<'a>(
-    checker: &mut Checker<'a>,
+pub(crate) fn case_guard<'t, 'a>(
+    checker: &mut Checker<'t, 'a>,
     frame: Frame,
-    constants: &'a Expressions<'a>,
+    constants: &'t Expressions<'a>,
     of: Primitive,
     seen: &mut Vec<Seen>,
     depth: u32,

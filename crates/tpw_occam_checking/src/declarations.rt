@@ -54,13 +54,13 @@ impl Declared {
 
 /// What a name is declared to stand for, and whether a name is bound around the process for it.
 #[derive(Clone, Copy)]
-struct Made<'a> {
-    meaning: Meaning<'a>,
+struct Made<'t, 'a> {
+    meaning: Meaning<'t, 'a>,
     is_bound: bool,
 }
 
 /// A name for which nothing is bound.
-fn unbound<'a>(meaning: Meaning<'a>) -> Made<'a> {
+fn unbound<'t, 'a>(meaning: Meaning<'t, 'a>) -> Made<'t, 'a> {
     Made {
         meaning,
         is_bound: false,
@@ -68,11 +68,11 @@ fn unbound<'a>(meaning: Meaning<'a>) -> Made<'a> {
 }
 
 /// Declares a name behind the others.
-fn put<'a>(
-    checker: &mut Checker<'a>,
+fn put<'t, 'a>(
+    checker: &mut Checker<'t, 'a>,
     declared: Declared,
     name: Name<'a>,
-    made: Made<'a>,
+    made: Made<'t, 'a>,
 ) -> Result<Declared, Stop> {
     checker.count(name.span)?;
     let scope = checker.declare(declared.frame.scope, name, made.meaning)?;
@@ -84,8 +84,8 @@ fn put<'a>(
 }
 
 /// Adds a name to those that stand for something else in each call, if one of them was looked up behind a point.
-fn add_per_call<'a>(
-    checker: &mut Checker<'a>,
+fn add_per_call<'t, 'a>(
+    checker: &mut Checker<'t, 'a>,
     name: Name<'a>,
     before: Point,
 ) -> Result<(), AllocError> {
@@ -96,12 +96,12 @@ fn add_per_call<'a>(
 }
 
 /// What a name stands for that is declared to have a value. In front of the worker's SEQ the value is worked out at once.
-fn named_value<'a>(
-    checker: &mut Checker<'a>,
+fn named_value<'t, 'a>(
+    checker: &mut Checker<'t, 'a>,
     e: &Tree<'a>,
     value: Value,
     level: Level,
-) -> Result<Made<'a>, Stop> {
+) -> Result<Made<'t, 'a>, Stop> {
     let of = value.of;
     match (value.worth, level) {
         (Worth::Constant(word), _) => Ok(unbound(Meaning::Constant { of, word })),
@@ -122,12 +122,12 @@ fn named_value<'a>(
 }
 
 /// A table of a shape.
-fn named_table<'a>(
-    checker: &mut Checker<'a>,
+fn named_table<'t, 'a>(
+    checker: &mut Checker<'t, 'a>,
     frame: Frame,
-    e: &'a Tree<'a>,
+    e: &'t Tree<'a>,
     shape: Shape,
-) -> Result<Made<'a>, Stop> {
+) -> Result<Made<'t, 'a>, Stop> {
     if !is_table(e) {
         return checker.fault(span_of(e), FaultKind::TableWanted);
     }
@@ -136,10 +136,10 @@ fn named_table<'a>(
 }
 
 /// What the elements of a list are: what its first constant is.
-fn kind_of_list<'a>(
-    checker: &mut Checker<'a>,
+fn kind_of_list<'t, 'a>(
+    checker: &mut Checker<'t, 'a>,
     frame: Frame,
-    items: &'a Expressions<'a>,
+    items: &'t Expressions<'a>,
 ) -> Result<Kind, Stop> {
     let Expressions::More(first, _) = items else {
         return Ok(Kind::Word);
@@ -149,10 +149,10 @@ fn kind_of_list<'a>(
 }
 
 /// The shape of a table without a type: a text has BYTEs.
-fn shape_of_table<'a>(
-    checker: &mut Checker<'a>,
+fn shape_of_table<'t, 'a>(
+    checker: &mut Checker<'t, 'a>,
     frame: Frame,
-    e: &'a Tree<'a>,
+    e: &'t Tree<'a>,
 ) -> Result<Shape, Stop> {
     let kind = match bare(e) {
         Tree::Table { items, .. } => kind_of_list(checker, frame, items)?,
@@ -165,26 +165,26 @@ fn shape_of_table<'a>(
 }
 
 /// A value, of the type that is wanted where one is.
-fn single<'a>(
-    checker: &mut Checker<'a>,
+fn single<'t, 'a>(
+    checker: &mut Checker<'t, 'a>,
     declared: Declared,
     of: Option<Primitive>,
-    e: &'a Tree<'a>,
+    e: &'t Tree<'a>,
     level: Level,
-) -> Result<Made<'a>, Stop> {
+) -> Result<Made<'t, 'a>, Stop> {
     let value = checker.expression(declared.frame, e, of, declared.levels(level))?;
     named_value(checker, e, value, level)
 }
 
 /// What `VAL n IS e` makes of a name.
-fn value<'a>(
-    checker: &mut Checker<'a>,
+fn value<'t, 'a>(
+    checker: &mut Checker<'t, 'a>,
     declared: Declared,
-    of: Option<&'a Type<'a>>,
+    of: Option<&'t Type<'a>>,
     name: Name<'a>,
-    e: &'a Tree<'a>,
+    e: &'t Tree<'a>,
     level: Level,
-) -> Result<Made<'a>, Stop> {
+) -> Result<Made<'t, 'a>, Stop> {
     let frame = declared.frame;
     match of {
         None if is_table(e) => {
@@ -203,11 +203,11 @@ fn value<'a>(
 }
 
 /// A new array of a shape that says how many elements it has.
-fn variable_array<'a>(
-    checker: &mut Checker<'a>,
+fn variable_array<'t, 'a>(
+    checker: &mut Checker<'t, 'a>,
     name: Name<'a>,
     shape: Shape,
-) -> Result<Made<'a>, Stop> {
+) -> Result<Made<'t, 'a>, Stop> {
     let Some(elements) = shape.elements else {
         return checker.fault(name.span, FaultKind::NoSize);
     };
@@ -224,11 +224,11 @@ fn variable_array<'a>(
 }
 
 /// A new variable.
-fn variable<'a>(
-    checker: &mut Checker<'a>,
+fn variable<'t, 'a>(
+    checker: &mut Checker<'t, 'a>,
     name: Name<'a>,
     of: Primitive,
-) -> Result<Made<'a>, Stop> {
+) -> Result<Made<'t, 'a>, Stop> {
     let variable = checker.cells.add(name)?;
     Ok(Made {
         meaning: Meaning::Variable { of, variable },
@@ -244,10 +244,10 @@ enum Kept {
 }
 
 /// What variables or arrays of a type are.
-fn kept_of<'a>(
-    checker: &mut Checker<'a>,
+fn kept_of<'t, 'a>(
+    checker: &mut Checker<'t, 'a>,
     frame: Frame,
-    of: &'a Type<'a>,
+    of: &'t Type<'a>,
     names: &Names<'a>,
 ) -> Kept {
     match (size_of(of), first_of(names)) {
@@ -258,25 +258,28 @@ fn kept_of<'a>(
 }
 
 /// A variable or an array.
-fn made_of<'a>(
-    checker: &mut Checker<'a>,
+fn made_of<'t, 'a>(
+    checker: &mut Checker<'t, 'a>,
     name: Name<'a>,
     kept: Kept,
     level: Level,
-) -> Result<Made<'a>, Stop> {
+) -> Result<Made<'t, 'a>, Stop> {
     match (level, kept) {
-        (Level::Text, _) => checker.fault(name.span, FaultKind::OutsideProc),
+        (Level::Text, _) => {
+            checker.fault::<()>(name.span, FaultKind::OutsideProc)?;
+            Err(Stop::Reported)
+        }
         (_, Kept::Variable(of)) => variable(checker, name, of),
         (_, Kept::Array(shape)) => variable_array(checker, name, shape?),
     }
 }
 
 /// Variables or arrays of a type.
-fn variables<'a>(
-    checker: &mut Checker<'a>,
+fn variables<'t, 'a>(
+    checker: &mut Checker<'t, 'a>,
     declared: Declared,
-    of: &'a Type<'a>,
-    names: &'a Names<'a>,
+    of: &'t Type<'a>,
+    names: &'t Names<'a>,
     level: Level,
 ) -> Result<Declared, Stop> {
     let before = checker.per_call.point();
@@ -294,13 +297,13 @@ fn variables<'a>(
 }
 
 /// The array of another, seen as words or bytes.
-fn retyped<'a>(
-    checker: &mut Checker<'a>,
+fn retyped<'t, 'a>(
+    checker: &mut Checker<'t, 'a>,
     frame: Frame,
-    of: &'a Type<'a>,
+    of: &'t Type<'a>,
     name: Name<'a>,
     array: Name<'a>,
-) -> Result<Made<'a>, Stop> {
+) -> Result<Made<'t, 'a>, Stop> {
     let view = checker.view_of(frame.scope, array)?;
     let shape = checker.shape(frame, of, name.span)?;
     let bytes = bytes_of(view.kind, view.elements);
@@ -319,12 +322,12 @@ fn retyped<'a>(
 }
 
 /// A PROC: its parameters, its body and its scope.
-fn procedure<'a>(
-    checker: &mut Checker<'a>,
+fn procedure<'t, 'a>(
+    checker: &mut Checker<'t, 'a>,
     frame: Frame,
-    parameters: &'a Parameters<'a>,
-    body: &'a Process<'a>,
-) -> Result<Made<'a>, Stop> {
+    parameters: &'t Parameters<'a>,
+    body: &'t Process<'a>,
+) -> Result<Made<'t, 'a>, Stop> {
     let signature = checker.signature(frame, parameters, Callee::Procedure)?;
     Ok(unbound(Meaning::Procedure {
         signature,
@@ -334,13 +337,13 @@ fn procedure<'a>(
 }
 
 /// A FUNCTION: its parameters, which are VAL.
-fn function<'a>(
-    checker: &mut Checker<'a>,
+fn function<'t, 'a>(
+    checker: &mut Checker<'t, 'a>,
     frame: Frame,
     of: Primitive,
-    parameters: &'a Parameters<'a>,
-    value: &'a Tree<'a>,
-) -> Result<Made<'a>, Stop> {
+    parameters: &'t Parameters<'a>,
+    value: &'t Tree<'a>,
+) -> Result<Made<'t, 'a>, Stop> {
     checker.check_values(parameters)?;
     let signature = checker.signature(frame, parameters, Callee::Function)?;
     Ok(unbound(Meaning::Function {
@@ -352,10 +355,10 @@ fn function<'a>(
 }
 
 /// Names whose declaration was not read.
-fn wrong<'a>(
-    checker: &mut Checker<'a>,
+fn wrong<'t, 'a>(
+    checker: &mut Checker<'t, 'a>,
     declared: Declared,
-    names: &'a Names<'a>,
+    names: &'t Names<'a>,
 ) -> Result<Declared, Stop> {
     let mut declared = declared;
     let mut rest = names;
@@ -367,10 +370,10 @@ fn wrong<'a>(
 }
 
 /// A declaration. A name whose declaration is wrong is known to be.
-pub(crate) fn declare<'a>(
-    checker: &mut Checker<'a>,
+pub(crate) fn declare<'t, 'a>(
+    checker: &mut Checker<'t, 'a>,
     declared: Declared,
-    declaration: &'a Declaration<'a>,
+    declaration: &'t Declaration<'a>,
     level: Level,
 ) -> Result<Declared, Stop> {
     let frame = declared.frame;

@@ -13,11 +13,11 @@ pub(crate) enum Message {
 }
 
 /// What a channel sends.
-pub(crate) fn sent_by<'a>(
-    checker: &mut Checker<'a>,
+pub(crate) fn sent_by<'t, 'a>(
+    checker: &mut Checker<'t, 'a>,
     frame: Frame,
     protocol: Protocol,
-    e: &'a Tree<'a>,
+    e: &'t Tree<'a>,
     depth: u32,
 ) -> Result<Message, Stop> {
     match protocol {
@@ -38,11 +38,11 @@ pub(crate) fn sent_by<'a>(
 }
 
 /// `trace ! x`.
-pub(crate) fn trace<'a>(
-    checker: &mut Checker<'a>,
+pub(crate) fn trace<'t, 'a>(
+    checker: &mut Checker<'t, 'a>,
     frame: Frame,
     name: Name<'a>,
-    e: &'a Tree<'a>,
+    e: &'t Tree<'a>,
     depth: u32,
 ) -> Result<(), Stop> {
     let (channel, protocol) = checker.channel_of(frame.scope, name)?;

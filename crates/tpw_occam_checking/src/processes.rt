@@ -23,11 +23,11 @@ fn is_beyond(first: u32, turns: u32) -> bool {
 }
 
 /// The turns of a replicated SEQ, whose last index is an INT.
-fn check_turns<'a>(
-    checker: &mut Checker<'a>,
+fn check_turns<'t, 'a>(
+    checker: &mut Checker<'t, 'a>,
     frame: Frame,
-    start: &'a Tree<'a>,
-    count: &'a Tree<'a>,
+    start: &'t Tree<'a>,
+    count: &'t Tree<'a>,
 ) -> Result<(), Stop> {
     let first = checker.constant(frame, start, Primitive::Int);
     let turns = checker.constant(frame, count, Primitive::Int);
@@ -45,10 +45,10 @@ fn check_turns<'a>(
 }
 
 /// A process whose simple form is at hand.
-fn simple<'a>(
-    checker: &mut Checker<'a>,
+fn simple<'t, 'a>(
+    checker: &mut Checker<'t, 'a>,
     frame: Frame,
-    p: &'a Written<'a>,
+    p: &'t Written<'a>,
     depth: u32,
 ) -> Result<(), Stop> {
     match p {
@@ -67,10 +67,10 @@ fn simple<'a>(
 
 /// So many processes one after another. Where one is wrong, those behind it are looked at all the same.
 #[cycle(process)]
-pub(crate) fn steps<'a>(
-    checker: &mut Checker<'a>,
+pub(crate) fn steps<'t, 'a>(
+    checker: &mut Checker<'t, 'a>,
     frame: Frame,
-    list: &'a Processes<'a>,
+    list: &'t Processes<'a>,
     many: usize,
     depth: u32,
 ) -> Result<(), Stop> {
@@ -94,12 +94,12 @@ pub(crate) fn steps<'a>(
 
 /// `SEQ i = s FOR n`.
 #[cycle(process)]
-fn replicated<'a>(
-    checker: &mut Checker<'a>,
+fn replicated<'t, 'a>(
+    checker: &mut Checker<'t, 'a>,
     frame: Frame,
     index: Name<'a>,
     turns: Result<(), Stop>,
-    list: &'a Processes<'a>,
+    list: &'t Processes<'a>,
     depth: u32,
 ) -> Result<(), Stop> {
     let meaning = Meaning::Value {
@@ -115,10 +115,10 @@ fn replicated<'a>(
 
 /// IF.
 #[cycle(process)]
-fn choice<'a>(
-    checker: &mut Checker<'a>,
+fn choice<'t, 'a>(
+    checker: &mut Checker<'t, 'a>,
     frame: Frame,
-    choices: &'a Choices<'a>,
+    choices: &'t Choices<'a>,
     span: Span,
     depth: u32,
 ) -> Result<(), Stop> {
@@ -150,11 +150,11 @@ fn choice<'a>(
 
 /// The choices of a CASE, each tried within those before it. ELSE, wherever it stands, is within all of them.
 #[cycle(process)]
-fn all_cases<'a>(
-    checker: &mut Checker<'a>,
+fn all_cases<'t, 'a>(
+    checker: &mut Checker<'t, 'a>,
     frame: Frame,
     selector: Option<Selector>,
-    cases: &'a Cases<'a>,
+    cases: &'t Cases<'a>,
     depth: u32,
 ) -> Result<(), Stop> {
     let many = cases_of(cases);
@@ -189,11 +189,11 @@ fn all_cases<'a>(
 }
 
 /// Whether the constants of a choice are without a fault, where it is known what is chosen by.
-fn constants_of<'a>(
-    checker: &mut Checker<'a>,
+fn constants_of<'t, 'a>(
+    checker: &mut Checker<'t, 'a>,
     frame: Frame,
     selector: Option<Selector>,
-    constants: &'a Expressions<'a>,
+    constants: &'t Expressions<'a>,
     seen: &mut Vec<Seen>,
     depth: u32,
 ) -> Result<bool, Stop> {
@@ -206,11 +206,11 @@ fn constants_of<'a>(
 
 /// CASE.
 #[cycle(process)]
-fn case<'a>(
-    checker: &mut Checker<'a>,
+fn case<'t, 'a>(
+    checker: &mut Checker<'t, 'a>,
     frame: Frame,
-    e: &'a Tree<'a>,
-    cases: &'a Cases<'a>,
+    e: &'t Tree<'a>,
+    cases: &'t Cases<'a>,
     depth: u32,
 ) -> Result<(), Stop> {
     let selected = chosen_by(checker, frame, e, depth);
@@ -222,11 +222,11 @@ fn case<'a>(
 
 /// `p (e, ..)`: the PROC's body, with its parameters bound.
 #[cycle(process)]
-fn procedure_call<'a>(
-    checker: &mut Checker<'a>,
+fn procedure_call<'t, 'a>(
+    checker: &mut Checker<'t, 'a>,
     frame: Frame,
     name: Name<'a>,
-    arguments: &'a Expressions<'a>,
+    arguments: &'t Expressions<'a>,
     depth: u32,
 ) -> Result<(), Stop> {
     let entry = checker.find(frame.scope, name)?;
@@ -253,10 +253,10 @@ fn procedure_call<'a>(
 
 /// Declarations, and the process that they are for.
 #[cycle(process)]
-fn scoped<'a>(
-    checker: &mut Checker<'a>,
+fn scoped<'t, 'a>(
+    checker: &mut Checker<'t, 'a>,
     frame: Frame,
-    p: &'a Written<'a>,
+    p: &'t Written<'a>,
     depth: u32,
 ) -> Result<(), Stop> {
     let mut declared = Declared::new(frame, depth);
@@ -275,10 +275,10 @@ fn scoped<'a>(
 
 /// A process.
 #[cycle(process)]
-pub(crate) fn process<'a>(
-    checker: &mut Checker<'a>,
+pub(crate) fn process<'t, 'a>(
+    checker: &mut Checker<'t, 'a>,
     frame: Frame,
-    p: &'a Written<'a>,
+    p: &'t Written<'a>,
     depth: u32,
 ) -> Result<(), Stop> {
     let Some(span) = place_of(p) else {

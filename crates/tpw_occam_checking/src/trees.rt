@@ -44,7 +44,7 @@ pub(crate) fn place_of(p: &Process<'_>) -> Option<Span> {
 }
 
 /// The process behind all declarations in front of it.
-pub(crate) fn behind<'a>(p: &'a Process<'a>) -> &'a Process<'a> {
+pub(crate) fn behind<'t, 'a>(p: &'t Process<'a>) -> &'t Process<'a> {
     match p {
         Process::Declared { process, .. } => behind(process),
         other => other,
@@ -52,7 +52,7 @@ pub(crate) fn behind<'a>(p: &'a Process<'a>) -> &'a Process<'a> {
 }
 
 /// The one expression of a list.
-pub(crate) fn only<'a>(list: &'a Expressions<'a>) -> Option<&'a Expression<'a>> {
+pub(crate) fn only<'t, 'a>(list: &'t Expressions<'a>) -> Option<&'t Expression<'a>> {
     match list {
         Expressions::More(e, more) if matches!(**more, Expressions::End) => Some(e),
         _ => None,
@@ -71,8 +71,8 @@ pub(crate) fn steps_of(steps: &Processes<'_>) -> usize {
 }
 
 /// The last step of a SEQ.
-pub(crate) fn last_step<'a>(steps: &'a Processes<'a>) -> Option<&'a Process<'a>> {
-    let mut last: Option<&'a Process<'a>> = None;
+pub(crate) fn last_step<'t, 'a>(steps: &'t Processes<'a>) -> Option<&'t Process<'a>> {
+    let mut last: Option<&'t Process<'a>> = None;
     let mut rest = steps;
     while let Processes::More(step, more) = rest {
         last = Some(step);
@@ -107,8 +107,8 @@ pub(crate) fn cases_of(cases: &Cases<'_>) -> usize {
 }
 
 /// The last declaration of a text.
-pub(crate) fn last_declaration<'a>(list: &'a Declarations<'a>) -> Option<&'a Declaration<'a>> {
-    let mut last: Option<&'a Declaration<'a>> = None;
+pub(crate) fn last_declaration<'t, 'a>(list: &'t Declarations<'a>) -> Option<&'t Declaration<'a>> {
+    let mut last: Option<&'t Declaration<'a>> = None;
     let mut rest = list;
     while let Declarations::More(declaration, more) = rest {
         last = Some(declaration);

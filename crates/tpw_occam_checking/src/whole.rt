@@ -32,7 +32,7 @@ impl From<AllocError> for CheckError<'_> {
 }
 
 /// Reports what is wrong with how a text is written.
-fn report_misread<'a>(checker: &mut Checker<'a>, misread: &[Misread]) -> Result<(), Stop> {
+fn report_misread<'t, 'a>(checker: &mut Checker<'t, 'a>, misread: &[Misread]) -> Result<(), Stop> {
     for fault in misread {
         checker
             .findings
@@ -42,7 +42,10 @@ fn report_misread<'a>(checker: &mut Checker<'a>, misread: &[Misread]) -> Result<
 }
 
 /// What is in scope behind all declarations but the last.
-fn others<'a>(checker: &mut Checker<'a>, list: &'a Declarations<'a>) -> Result<Frame, Stop> {
+fn others<'t, 'a>(
+    checker: &mut Checker<'t, 'a>,
+    list: &'t Declarations<'a>,
+) -> Result<Frame, Stop> {
     let mut declared = Declared::new(Frame::OUTERMOST, MAX_DEPTH);
     let mut rest = list;
     while let Declarations::More(declaration, more) = rest {
@@ -57,9 +60,9 @@ fn others<'a>(checker: &mut Checker<'a>, list: &'a Declarations<'a>) -> Result<F
 
 /// Reports all that is wrong with a text. Its worker is its last declaration. Where the indentation is wrong, no more is
 /// looked for.
-fn check_text<'a>(
-    checker: &mut Checker<'a>,
-    source: Option<&'a Source<'a>>,
+fn check_text<'t, 'a>(
+    checker: &mut Checker<'t, 'a>,
+    source: Option<&'t Source<'a>>,
     misread: &[Misread],
 ) -> Result<(), Stop>
     ensures { IfOk result (λ u. is_some source.entry ≡ true) }
@@ -87,10 +90,10 @@ fn check_text<'a>(
 
 /// What may not be meant in a text, by places; or all that is wrong with it: with how it is written, `misread`, or with what
 /// it says. It is read as `source`; where its indentation is wrong, as nothing.
-pub fn check<'a>(
+pub fn check<'t, 'a>(
     alloc: Global,
     text: &str,
-    source: Option<&'a Source<'a>>,
+    source: Option<&'t Source<'a>>,
     misread: &[Misread],
 ) -> Result<Vec<Note<'a>>, CheckError<'a>>
     ensures checked { IsChecked text.now result }

@@ -23,14 +23,14 @@ struct Channels {
 
 /// The steps of the worker's SEQ, and its line.
 #[derive(Clone, Copy)]
-struct Steps<'a> {
-    list: &'a Processes<'a>,
+struct Steps<'t, 'a> {
+    list: &'t Processes<'a>,
     span: Span,
 }
 
 /// What one of the worker's channels carries, declared as such.
-fn channel<'a>(
-    checker: &mut Checker<'a>,
+fn channel<'t, 'a>(
+    checker: &mut Checker<'t, 'a>,
     worker: Name<'a>,
     scope: Scope,
     parameter: Parameter<'a>,
@@ -48,11 +48,11 @@ fn channel<'a>(
 }
 
 /// The worker's channels.
-fn channels_of<'a>(
-    checker: &mut Checker<'a>,
+fn channels_of<'t, 'a>(
+    checker: &mut Checker<'t, 'a>,
     frame: Frame,
     worker: Name<'a>,
-    list: &'a Parameters<'a>,
+    list: &'t Parameters<'a>,
 ) -> Result<Channels, Stop> {
     let signature = checker.signature(frame, list, Callee::Procedure)?;
     let packet = checker.parameter(signature, 0);
@@ -77,18 +77,18 @@ fn channels_of<'a>(
 }
 
 /// A packet that is a number.
-fn received_value<'a>(
-    checker: &mut Checker<'a>,
+fn received_value<'t, 'a>(
+    checker: &mut Checker<'t, 'a>,
     frame: Frame,
-    e: &'a Tree<'a>,
+    e: &'t Tree<'a>,
 ) -> Result<(), Stop> {
     let found = target(checker, frame, e, MAX_DEPTH)?;
     checker.check_type(name_of(e), found, Primitive::Int, span_of(e))
 }
 
 /// A packet that is an array.
-fn received_array<'a>(
-    checker: &mut Checker<'a>,
+fn received_array<'t, 'a>(
+    checker: &mut Checker<'t, 'a>,
     frame: Frame,
     e: &Tree<'a>,
     shape: Shape,
@@ -103,10 +103,10 @@ fn received_array<'a>(
 }
 
 /// `packet ? x`, the worker's first step.
-fn received<'a>(
-    checker: &mut Checker<'a>,
+fn received<'t, 'a>(
+    checker: &mut Checker<'t, 'a>,
     frame: Frame,
-    step: &'a Written<'a>,
+    step: &'t Written<'a>,
     line: Span,
     protocol: Protocol,
 ) -> Result<(), Stop> {
@@ -136,7 +136,11 @@ fn received<'a>(
 }
 
 /// Notes a result that nothing is assigned to.
-fn note_result<'a>(checker: &mut Checker<'a>, message: Message, e: &Tree<'a>) -> Result<(), Stop> {
+fn note_result<'t, 'a>(
+    checker: &mut Checker<'t, 'a>,
+    message: Message,
+    e: &Tree<'a>,
+) -> Result<(), Stop> {
     let is_assigned = match message {
         Message::Value(Root::Variable(x)) => checker.cells.is_written(x),
         Message::Value(Root::Named) => false,
@@ -152,10 +156,10 @@ fn note_result<'a>(checker: &mut Checker<'a>, message: Message, e: &Tree<'a>) ->
 }
 
 /// `result ! x`, the worker's last step.
-fn sent<'a>(
-    checker: &mut Checker<'a>,
+fn sent<'t, 'a>(
+    checker: &mut Checker<'t, 'a>,
     frame: Frame,
-    step: &'a Written<'a>,
+    step: &'t Written<'a>,
     line: Span,
     protocol: Protocol,
 ) -> Result<(), Stop> {
@@ -173,7 +177,7 @@ fn sent<'a>(
 }
 
 /// Reports a SEQ of at most one step, which does not both begin with the packet and end with the result.
-fn check_few<'a>(checker: &mut Checker<'a>, steps: Steps<'a>) -> Result<(), Stop> {
+fn check_few<'t, 'a>(checker: &mut Checker<'t, 'a>, steps: Steps<'t, 'a>) -> Result<(), Stop> {
     match steps.list {
         Processes::More(step, _) => match **step {
             Written::Wrong => Err(Stop::Reported),
@@ -185,10 +189,10 @@ fn check_few<'a>(checker: &mut Checker<'a>, steps: Steps<'a>) -> Result<(), Stop
 }
 
 /// The worker's steps, once its channels and declarations are known.
-fn check_steps<'a>(
-    checker: &mut Checker<'a>,
+fn check_steps<'t, 'a>(
+    checker: &mut Checker<'t, 'a>,
     frame: Frame,
-    whole: Steps<'a>,
+    whole: Steps<'t, 'a>,
     channels: Channels,
 ) -> Result<(), Stop> {
     let Processes::More(first, rest) = whole.list else {
@@ -206,10 +210,10 @@ fn check_steps<'a>(
 }
 
 /// The frame behind the worker's declarations.
-fn declared<'a>(
-    checker: &mut Checker<'a>,
+fn declared<'t, 'a>(
+    checker: &mut Checker<'t, 'a>,
     frame: Frame,
-    body: &'a Written<'a>,
+    body: &'t Written<'a>,
 ) -> Result<Frame, Stop> {
     let mut declared = Declared::new(frame, MAX_DEPTH);
     let mut rest = body;
@@ -225,12 +229,12 @@ fn declared<'a>(
 }
 
 /// The worker of a PROC.
-pub(crate) fn worker<'a>(
-    checker: &mut Checker<'a>,
+pub(crate) fn worker<'t, 'a>(
+    checker: &mut Checker<'t, 'a>,
     frame: Frame,
     name: Name<'a>,
-    list: &'a Parameters<'a>,
-    body: &'a Written<'a>,
+    list: &'t Parameters<'a>,
+    body: &'t Written<'a>,
 ) -> Result<(), Stop> {
     let channels = channels_of(checker, frame, name, list)?;
     let whole = match behind(body) {

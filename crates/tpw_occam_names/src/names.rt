@@ -12,7 +12,7 @@ use tpw_occam_meaning::{Dyadic, Expression, Monadic};
 use tpw_occam_terms::{Name, Primitive};
 
 /// The array that an expression names.
-pub fn named<'s>(scope: &Scope<'s, '_>, e: &Expression<'_>) -> Option<View<'s>>
+pub fn named<'s>(scope: &Scope<'s, '_, '_>, e: &Expression<'_>) -> Option<View<'s>>
     ensures { MatchOption result (text.named e.now (names_of scope.now) ≡ None)
         (λ v. text.named e.now (names_of scope.now) ≡ Some (view_of v)) }
 {
@@ -37,7 +37,7 @@ pub fn element_type(kind: Kind) -> Primitive
 }
 
 /// The type of what a name stands for.
-fn type_in(scope: &Scope<'_, '_>, name: Name<'_>) -> Option<Primitive>
+fn type_in(scope: &Scope<'_, '_, '_>, name: Name<'_>) -> Option<Primitive>
     ensures { result ≡ text.type_in (found name.entry (names_of scope.now)) }
 {
     match look_up(scope, name) {
@@ -79,7 +79,7 @@ pub fn type_of_two(operator: Dyadic) -> Primitive
 }
 
 /// The type of an expression by itself.
-pub fn type_of(scope: &Scope<'_, '_>, e: &Expression<'_>) -> Option<Primitive>
+pub fn type_of(scope: &Scope<'_, '_, '_>, e: &Expression<'_>) -> Option<Primitive>
     ensures { result ≡ text.type_of e.now (names_of scope.now) }
 {
     match e {

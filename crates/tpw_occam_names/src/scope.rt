@@ -64,7 +64,7 @@ pub enum Form {
 
 /// What a name stands for.
 #[derive(Clone, Copy)]
-pub enum Meaning<'s, 'a> {
+pub enum Meaning<'s, 't, 'a> {
     /// A value that is only read.
     Fixed(Primitive, Word),
     Variable(Primitive, usize),
@@ -72,22 +72,22 @@ pub enum Meaning<'s, 'a> {
     Element(View<'s>, Word),
     Whole(View<'s>),
     Carrier(Channel, Protocol),
-    Procedure(&'s [Form], &'a Parameters<'a>, &'a Process<'a>),
-    Function(Primitive, &'s [Form], &'a Parameters<'a>, &'a Expression<'a>),
+    Procedure(&'s [Form], &'t Parameters<'a>, &'t Process<'a>),
+    Function(Primitive, &'s [Form], &'t Parameters<'a>, &'t Expression<'a>),
 }
 
 /// The names that are in scope, from the innermost on.
 #[derive(Clone, Copy)]
-pub enum Scope<'s, 'a> {
+pub enum Scope<'s, 't, 'a> {
     Empty,
-    Within(&'a str, Meaning<'s, 'a>, &'s Scope<'s, 'a>),
+    Within(&'a str, Meaning<'s, 't, 'a>, &'s Scope<'s, 't, 'a>),
 }
 
 /// What a name stands for, and the names that were declared before it.
-pub fn look_up<'r, 's, 'a>(
-    scope: &'r Scope<'s, 'a>,
+pub fn look_up<'t, 'r, 's, 'a>(
+    scope: &'r Scope<'s, 't, 'a>,
     name: Name<'_>,
-) -> Option<(Meaning<'s, 'a>, &'r Scope<'s, 'a>)>
+) -> Option<(Meaning<'s, 't, 'a>, &'r Scope<'s, 't, 'a>)>
     ensures { MatchOption result (found name.entry (names_of scope.now) ≡ Nothing)
         (λ r. found name.entry (names_of scope.now) ≡ entry_of r.0 (names_of r.1.now)) }
 {

@@ -38,7 +38,7 @@ pub(crate) struct Lent<'s> {
 }
 
 /// What the parameter stands for.
-pub(crate) fn meaning_of<'r, 'a>(lent: &'r Lent<'r>) -> Meaning<'r, 'a>
+pub(crate) fn meaning_of<'t, 'r, 'a>(lent: &'r Lent<'r>) -> Meaning<'r, 't, 'a>
     ensures { (names : Names) → entry_of result names ≡ Is (place_of lent.now.place) }
 {
     match lent.place {
@@ -49,7 +49,7 @@ pub(crate) fn meaning_of<'r, 'a>(lent: &'r Lent<'r>) -> Meaning<'r, 'a>
 
 /// A name that is passed.
 fn lent_by_name<'s>(
-    scope: &Scope<'s, '_>,
+    scope: &Scope<'s, '_, '_>,
     name: Name<'_>,
     of: Primitive,
 ) -> Result<Place<'s>, Fault>
@@ -69,9 +69,9 @@ fn lent_by_name<'s>(
 }
 
 /// An argument that is another name for a variable or an element, whose subscript is worked out at the call.
-pub(crate) fn referred<'s, 'a>(
+pub(crate) fn referred<'t, 's, 'a>(
     alloc: Global,
-    scope: &Scope<'s, 'a>,
+    scope: &Scope<'s, 't, 'a>,
     d: usize,
     e: &Expression<'a>,
     of: Primitive,
@@ -122,7 +122,7 @@ pub(crate) fn same_protocol(one: Protocol, other: Protocol) -> bool
 }
 
 /// What the traces' channel carries, where a name is that.
-pub(crate) fn traces(scope: &Scope<'_, '_>, name: Name<'_>) -> Result<Protocol, Fault>
+pub(crate) fn traces(scope: &Scope<'_, '_, '_>, name: Name<'_>) -> Result<Protocol, Fault>
     ensures { IfOk result (λ p.
         messages.carried Traces (found name.entry (names_of scope.now)) ≡ Some (protocol_of p)) }
 {
@@ -133,7 +133,7 @@ pub(crate) fn traces(scope: &Scope<'_, '_>, name: Name<'_>) -> Result<Protocol, 
 }
 
 /// What an argument carries that is the traces' channel.
-pub(crate) fn traces_of(scope: &Scope<'_, '_>, e: &Expression<'_>) -> Result<Protocol, Fault>
+pub(crate) fn traces_of(scope: &Scope<'_, '_, '_>, e: &Expression<'_>) -> Result<Protocol, Fault>
     ensures { IfOk result (λ p. text.traces_of e.now (names_of scope.now) ≡ Some (protocol_of p)) }
 {
     match e {

@@ -21,7 +21,7 @@ use tpw_occam_scoped::{Expression as Made, Process, Value};
 use tpw_occam_terms::Primitive;
 
 /// The type of what is selected by: an INT or a BYTE.
-pub(crate) fn cased_type(scope: &Scope<'_, '_>, e: &Expression<'_>) -> Result<Primitive, Fault>
+pub(crate) fn cased_type(scope: &Scope<'_, '_, '_>, e: &Expression<'_>) -> Result<Primitive, Fault>
     ensures of { IfOk result (λ of. type_of e.now (names_of scope.now) ≡ Some of) }
     ensures cased { IfOk result (λ of. text.is_cased of ≡ true) }
 {
@@ -33,9 +33,9 @@ pub(crate) fn cased_type(scope: &Scope<'_, '_>, e: &Expression<'_>) -> Result<Pr
 }
 
 /// Constants of a type.
-pub(crate) fn constants_of<'a>(
+pub(crate) fn constants_of<'t, 'a>(
     alloc: Global,
-    scope: &Scope<'_, 'a>,
+    scope: &Scope<'_, 't, 'a>,
     list: &Expressions<'a>,
     of: Primitive,
     room: u32,
@@ -54,9 +54,9 @@ pub(crate) fn constants_of<'a>(
 }
 
 /// The constants of all choices.
-pub(crate) fn all_constants<'a>(
+pub(crate) fn all_constants<'t, 'a>(
     alloc: Global,
-    scope: &Scope<'_, 'a>,
+    scope: &Scope<'_, 't, 'a>,
     cases: &Cases<'a>,
     of: Primitive,
     room: u32,

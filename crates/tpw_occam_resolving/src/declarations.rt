@@ -33,8 +33,8 @@ pub fn is_table(e: &Expression<'_>) -> bool
 }
 
 /// The type of a value, where it is said, or else its own.
-pub fn type_of_value<'a>(
-    scope: &Scope<'_, 'a>,
+pub fn type_of_value<'t, 'a>(
+    scope: &Scope<'_, 't, 'a>,
     of: &Option<Type<'a>>,
     e: &Expression<'a>,
 ) -> Result<Primitive, Fault>
@@ -74,9 +74,9 @@ fn is_message(bytes: u32) -> bool
 }
 
 /// What a channel carries.
-fn protocol<'a>(
+fn protocol<'t, 'a>(
     alloc: Global,
-    scope: &Scope<'_, 'a>,
+    scope: &Scope<'_, 't, 'a>,
     of: &Type<'a>,
     room: u32,
 ) -> Result<Protocol, Fault>
@@ -102,9 +102,9 @@ fn protocol<'a>(
 }
 
 /// What an argument of a type has to be.
-fn form<'a>(
+fn form<'t, 'a>(
     alloc: Global,
-    scope: &Scope<'_, 'a>,
+    scope: &Scope<'_, 't, 'a>,
     passing: Passing,
     of: &Type<'a>,
     room: u32,
@@ -140,9 +140,9 @@ fn with_form(form: Form, forms: Vec<Form>) -> Result<Vec<Form>, Fault>
 }
 
 /// What the arguments of a call have to be, where the parameter before these has such a form.
-fn forms_behind<'a>(
+fn forms_behind<'t, 'a>(
     alloc: Global,
-    scope: &Scope<'_, 'a>,
+    scope: &Scope<'_, 't, 'a>,
     before: Option<Form>,
     takes: &Parameters<'a>,
     room: u32,
@@ -173,9 +173,9 @@ fn forms_behind<'a>(
 }
 
 /// What the arguments of a call have to be.
-pub fn forms_of<'a>(
+pub fn forms_of<'t, 'a>(
     alloc: Global,
-    scope: &Scope<'_, 'a>,
+    scope: &Scope<'_, 't, 'a>,
     takes: &Parameters<'a>,
     room: u32,
 ) -> Result<Vec<Form>, Fault>
@@ -206,7 +206,7 @@ pub fn are_values(forms: &[Form]) -> bool
 }
 
 /// The type of what a table has, where none is said.
-fn type_in_table(scope: &Scope<'_, '_>, e: &Expression<'_>) -> Option<Primitive>
+fn type_in_table(scope: &Scope<'_, '_, '_>, e: &Expression<'_>) -> Option<Primitive>
     ensures { result ≡ text.type_in_table e.now (names_of scope.now) }
 {
     match e {
@@ -220,9 +220,9 @@ fn type_in_table(scope: &Scope<'_, '_>, e: &Expression<'_>) -> Option<Primitive>
 }
 
 /// What a table has to be that is declared.
-fn shape_of_table<'a>(
+fn shape_of_table<'t, 'a>(
     alloc: Global,
-    scope: &Scope<'_, 'a>,
+    scope: &Scope<'_, 't, 'a>,
     of: &Option<Type<'a>>,
     e: &Expression<'a>,
     room: u32,
@@ -248,9 +248,9 @@ fn shape_of_table<'a>(
 }
 
 /// A table that is declared.
-pub fn table_declared<'s, 'a>(
+pub fn table_declared<'t, 's, 'a>(
     alloc: Global,
-    scope: &Scope<'s, 'a>,
+    scope: &Scope<'s, 't, 'a>,
     of: &Option<Type<'a>>,
     e: &Expression<'a>,
     room: u32,
@@ -289,9 +289,9 @@ fn seen_as(kind: Kind, view: View<'_>) -> Result<View<'_>, Fault>
 }
 
 /// Another name for the bytes or the words of an array.
-pub fn retyped<'s, 'a>(
+pub fn retyped<'t, 's, 'a>(
     alloc: Global,
-    scope: &Scope<'s, 'a>,
+    scope: &Scope<'s, 't, 'a>,
     of: &Type<'a>,
     array: Name<'a>,
     room: u32,

@@ -27,9 +27,9 @@ use tpw_occam_terms::{Name, Primitive};
 
 /// What is made of an expression of a type, where `d` things are declared.
 #[cycle(value)]
-pub fn value<'a>(
+pub fn value<'t, 'a>(
     alloc: Global,
-    scope: &Scope<'_, 'a>,
+    scope: &Scope<'_, 't, 'a>,
     d: usize,
     e: &Expression<'a>,
     of: Primitive,
@@ -132,9 +132,9 @@ pub fn value<'a>(
 
 /// What is made of an operand of a type, which is that of the whole.
 #[cycle(value)]
-fn operand<'a>(
+fn operand<'t, 'a>(
     alloc: Global,
-    scope: &Scope<'_, 'a>,
+    scope: &Scope<'_, 't, 'a>,
     d: usize,
     e: &Expression<'a>,
     of: Primitive,
@@ -153,9 +153,9 @@ fn operand<'a>(
 
 /// What is made of a FUNCTION's expression, with what is passed.
 #[cycle(value)]
-fn called<'a>(
+fn called<'t, 'a>(
     alloc: Global,
-    scope: &Scope<'_, 'a>,
+    scope: &Scope<'_, 't, 'a>,
     d: usize,
     name: Name<'a>,
     arguments: &Expressions<'a>,
@@ -190,10 +190,10 @@ fn called<'a>(
 
 /// What is made of a FUNCTION's expression, with the rest of what is passed.
 #[cycle(value)]
-fn passed<'a>(
+fn passed<'t, 'a>(
     alloc: Global,
-    scope: &Scope<'_, 'a>,
-    own: &Scope<'_, 'a>,
+    scope: &Scope<'_, 't, 'a>,
+    own: &Scope<'_, 't, 'a>,
     forms: &[Form],
     takes: &Parameters<'a>,
     arguments: &Expressions<'a>,
@@ -262,9 +262,9 @@ fn passed<'a>(
 
 /// The array that an expression is: a name, a text of BYTEs, or a table of constants.
 #[cycle(value)]
-pub fn array<'s, 'a>(
+pub fn array<'t, 's, 'a>(
     alloc: Global,
-    scope: &Scope<'s, 'a>,
+    scope: &Scope<'s, 't, 'a>,
     e: &Expression<'a>,
     shape: Shape,
     room: u32,
@@ -294,9 +294,9 @@ pub fn array<'s, 'a>(
 
 /// The bytes of constants.
 #[cycle(value)]
-fn elements_of<'a>(
+fn elements_of<'t, 'a>(
     alloc: Global,
-    scope: &Scope<'_, 'a>,
+    scope: &Scope<'_, 't, 'a>,
     items: &Expressions<'a>,
     kind: Kind,
     room: u32,

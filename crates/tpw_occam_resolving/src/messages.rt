@@ -17,9 +17,9 @@ use tpw_occam_scoped::{Message, Process};
 use tpw_occam_terms::{Name, Primitive};
 
 /// What is sent.
-pub fn message<'a>(
+pub fn message<'t, 'a>(
     alloc: Global,
-    scope: &Scope<'_, 'a>,
+    scope: &Scope<'_, 't, 'a>,
     d: usize,
     protocol: Protocol,
     e: &Expression<'a>,
@@ -45,9 +45,9 @@ pub fn message<'a>(
 }
 
 /// A message to the traces.
-pub(crate) fn traced<'a>(
+pub(crate) fn traced<'t, 'a>(
     alloc: Global,
-    scope: &Scope<'_, 'a>,
+    scope: &Scope<'_, 't, 'a>,
     d: usize,
     channel: Name<'a>,
     e: &Expression<'a>,

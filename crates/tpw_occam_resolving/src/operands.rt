@@ -22,7 +22,7 @@ fn is_number(e: &Expression<'_>) -> bool
 
 /// The type of two operands that are compared.
 pub(crate) fn compared(
-    scope: &Scope<'_, '_>,
+    scope: &Scope<'_, '_, '_>,
     left: &Expression<'_>,
     right: &Expression<'_>,
 ) -> Option<Primitive>

@@ -37,11 +37,11 @@ use tpw_occam_terms::{Name, Primitive};
 
 /// The process that is made of one of the text, where `d` things are declared, with its line.
 #[cycle(process)]
-pub fn process<'a>(
+pub fn process<'t, 'a>(
     alloc: Global,
-    scope: &Scope<'_, 'a>,
+    scope: &Scope<'_, 't, 'a>,
     d: usize,
-    p: &'a Tree<'a>,
+    p: &'t Tree<'a>,
     room: u32,
 ) -> Result<Process, Fault>
     ensures { IfOk result (λ made. effect_of made ≡ text.run p.now (names_of scope.now) d) }
@@ -55,11 +55,11 @@ pub fn process<'a>(
 
 /// .. without its own line.
 #[cycle(process)]
-fn without_line<'a>(
+fn without_line<'t, 'a>(
     alloc: Global,
-    scope: &Scope<'_, 'a>,
+    scope: &Scope<'_, 't, 'a>,
     d: usize,
-    p: &'a Tree<'a>,
+    p: &'t Tree<'a>,
     room: u32,
 ) -> Result<Process, Fault>
     ensures { IfOk result (λ made. effect_of made ≡ text.run p.now (names_of scope.now) d) }
@@ -119,11 +119,11 @@ fn without_line<'a>(
 
 /// One process after another.
 #[cycle(process)]
-fn all<'a>(
+fn all<'t, 'a>(
     alloc: Global,
-    scope: &Scope<'_, 'a>,
+    scope: &Scope<'_, 't, 'a>,
     d: usize,
-    steps: &'a Processes<'a>,
+    steps: &'t Processes<'a>,
     room: u32,
 ) -> Result<Process, Fault>
     ensures { IfOk result (λ made. effect_of made ≡ text.all_run steps.now (names_of scope.now) d) }
@@ -148,14 +148,14 @@ fn how_many(steps: &Processes<'_>) -> usize {
 
 /// So many of some processes as a balanced tree, and those behind them.
 #[cycle(process)]
-fn some<'a>(
+fn some<'t, 'a>(
     alloc: Global,
-    scope: &Scope<'_, 'a>,
+    scope: &Scope<'_, 't, 'a>,
     d: usize,
-    steps: &'a Processes<'a>,
+    steps: &'t Processes<'a>,
     count: usize,
     room: u32,
-) -> Result<(Process, &'a Processes<'a>), Fault>
+) -> Result<(Process, &'t Processes<'a>), Fault>
     ensures { IfOk result (λ r. text.all_run steps.now (names_of scope.now) d
         ≡ followed_by (effect_of r.0) (text.all_run r.1.now (names_of scope.now) d)) }
 {
@@ -178,11 +178,11 @@ fn some<'a>(
 
 /// What is behind the first guard that is TRUE.
 #[cycle(process)]
-fn first_true<'a>(
+fn first_true<'t, 'a>(
     alloc: Global,
-    scope: &Scope<'_, 'a>,
+    scope: &Scope<'_, 't, 'a>,
     d: usize,
-    choices: &'a Choices<'a>,
+    choices: &'t Choices<'a>,
     room: u32,
 ) -> Result<Process, Fault>
     ensures { IfOk result (λ made. effect_of made ≡ text.first_true choices.now (names_of scope.now) d) }
@@ -205,12 +205,12 @@ fn first_true<'a>(
 
 /// What stands behind a declaration, with the names and the numbers that it takes.
 #[cycle(process)]
-fn declared<'a>(
+fn declared<'t, 'a>(
     alloc: Global,
-    scope: &Scope<'_, 'a>,
+    scope: &Scope<'_, 't, 'a>,
     d: usize,
-    declaration: &'a Declaration<'a>,
-    rest: &'a Tree<'a>,
+    declaration: &'t Declaration<'a>,
+    rest: &'t Tree<'a>,
     room: u32,
 ) -> Result<Process, Fault>
     ensures { IfOk result (λ made.
@@ -296,13 +296,13 @@ fn declared<'a>(
 
 /// What stands behind another name for an array, or one for a table.
 #[cycle(process)]
-fn array_declared<'a>(
+fn array_declared<'t, 'a>(
     alloc: Global,
-    scope: &Scope<'_, 'a>,
+    scope: &Scope<'_, 't, 'a>,
     d: usize,
     name: Name<'a>,
     array: &Array<'_>,
-    rest: &'a Tree<'a>,
+    rest: &'t Tree<'a>,
     room: u32,
 ) -> Result<Process, Fault>
     ensures { IfOk result (λ made. effect_of made ≡ text.run rest.now
@@ -317,15 +317,15 @@ fn array_declared<'a>(
 
 /// What stands behind the declaration of a PROC.
 #[cycle(process)]
-fn procedure_declared<'a>(
+fn procedure_declared<'t, 'a>(
     alloc: Global,
-    scope: &Scope<'_, 'a>,
+    scope: &Scope<'_, 't, 'a>,
     d: usize,
     name: Name<'a>,
     forms: &[Form],
-    takes: &'a Parameters<'a>,
-    body: &'a Tree<'a>,
-    rest: &'a Tree<'a>,
+    takes: &'t Parameters<'a>,
+    body: &'t Tree<'a>,
+    rest: &'t Tree<'a>,
     room: u32,
 ) -> Result<Process, Fault>
     ensures { IfOk result (λ made. effect_of made ≡ text.run rest.now (with_name name.entry
@@ -341,16 +341,16 @@ fn procedure_declared<'a>(
 
 /// What stands behind the declaration of a FUNCTION.
 #[cycle(process)]
-fn function_declared<'a>(
+fn function_declared<'t, 'a>(
     alloc: Global,
-    scope: &Scope<'_, 'a>,
+    scope: &Scope<'_, 't, 'a>,
     d: usize,
     of: Primitive,
     name: Name<'a>,
     forms: &[Form],
-    takes: &'a Parameters<'a>,
-    e: &'a Expression<'a>,
-    rest: &'a Tree<'a>,
+    takes: &'t Parameters<'a>,
+    e: &'t Expression<'a>,
+    rest: &'t Tree<'a>,
     room: u32,
 ) -> Result<Process, Fault>
     ensures { IfOk result (λ made. effect_of made ≡ text.run rest.now (with_name name.entry
@@ -366,13 +366,13 @@ fn function_declared<'a>(
 
 /// Variables, which are 0 at first.
 #[cycle(process)]
-fn variables<'a>(
+fn variables<'t, 'a>(
     alloc: Global,
-    scope: &Scope<'_, 'a>,
+    scope: &Scope<'_, 't, 'a>,
     d: usize,
     of: Primitive,
-    names: &'a Names<'a>,
-    rest: &'a Tree<'a>,
+    names: &'t Names<'a>,
+    rest: &'t Tree<'a>,
     room: u32,
 ) -> Result<Process, Fault>
     ensures { IfOk result (λ made.
@@ -393,14 +393,14 @@ fn variables<'a>(
 
 /// Arrays, whose elements are 0 at first.
 #[cycle(process)]
-fn arrays<'a>(
+fn arrays<'t, 'a>(
     alloc: Global,
-    scope: &Scope<'_, 'a>,
+    scope: &Scope<'_, 't, 'a>,
     d: usize,
     kind: Kind,
     size: usize,
-    names: &'a Names<'a>,
-    rest: &'a Tree<'a>,
+    names: &'t Names<'a>,
+    rest: &'t Tree<'a>,
     room: u32,
 ) -> Result<Process, Fault>
     ensures { IfOk result (λ made.
@@ -427,9 +427,9 @@ fn arrays<'a>(
 
 /// A PROC's body, with what is passed.
 #[cycle(process)]
-fn called<'a>(
+fn called<'t, 'a>(
     alloc: Global,
-    scope: &Scope<'_, 'a>,
+    scope: &Scope<'_, 't, 'a>,
     d: usize,
     name: Name<'a>,
     arguments: &Expressions<'a>,
@@ -461,14 +461,14 @@ fn called<'a>(
 
 /// A PROC's body, with the rest of what is passed.
 #[cycle(process)]
-fn entered<'a>(
+fn entered<'t, 'a>(
     alloc: Global,
-    scope: &Scope<'_, 'a>,
-    own: &Scope<'_, 'a>,
+    scope: &Scope<'_, 't, 'a>,
+    own: &Scope<'_, 't, 'a>,
     forms: &[Form],
     takes: &Parameters<'a>,
     arguments: &Expressions<'a>,
-    body: &'a Tree<'a>,
+    body: &'t Tree<'a>,
     d: usize,
     room: u32,
 ) -> Result<Process, Fault>
@@ -528,12 +528,12 @@ fn entered<'a>(
 
 /// What is behind the constants that a word is one of, or behind ELSE.
 #[cycle(process)]
-fn case<'a>(
+fn case<'t, 'a>(
     alloc: Global,
-    scope: &Scope<'_, 'a>,
+    scope: &Scope<'_, 't, 'a>,
     d: usize,
     selector: &Expression<'a>,
-    cases: &'a Cases<'a>,
+    cases: &'t Cases<'a>,
     room: u32,
 ) -> Result<Process, Fault>
     ensures { IfOk result (λ made. effect_of made ≡ cased selector.now cases.now (names_of scope.now) d) }
@@ -556,11 +556,11 @@ fn case<'a>(
 
 /// What is behind ELSE, or STOP.
 #[cycle(process)]
-fn otherwise<'a>(
+fn otherwise<'t, 'a>(
     alloc: Global,
-    scope: &Scope<'_, 'a>,
+    scope: &Scope<'_, 't, 'a>,
     d: usize,
-    cases: &'a Cases<'a>,
+    cases: &'t Cases<'a>,
     room: u32,
 ) -> Result<Process, Fault>
     ensures { IfOk result (λ made. effect_of made ≡ text.otherwise cases.now (names_of scope.now) d) }
@@ -582,11 +582,11 @@ fn otherwise<'a>(
 
 /// What is behind the constants that a word is one of, or the other.
 #[cycle(process)]
-fn selected<'a>(
+fn selected<'t, 'a>(
     alloc: Global,
-    scope: &Scope<'_, 'a>,
+    scope: &Scope<'_, 't, 'a>,
     d: usize,
-    cases: &'a Cases<'a>,
+    cases: &'t Cases<'a>,
     of: Primitive,
     word: Word,
     other: Process,

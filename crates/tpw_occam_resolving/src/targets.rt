@@ -78,7 +78,7 @@ fn variable_target(of: Primitive, cell: usize) -> Typed
 }
 
 /// What a name is that is assigned to.
-fn target_in(alloc: Global, scope: &Scope<'_, '_>, name: Name<'_>) -> Result<Typed, Fault>
+fn target_in(alloc: Global, scope: &Scope<'_, '_, '_>, name: Name<'_>) -> Result<Typed, Fault>
     ensures { IfOk result (λ t.
         text.target_in (found name.entry (names_of scope.now)) ≡ Some (target_made t.of t.target)) }
 {
@@ -90,9 +90,9 @@ fn target_in(alloc: Global, scope: &Scope<'_, '_>, name: Name<'_>) -> Result<Typ
 }
 
 /// A variable or an element.
-pub fn target_of<'a>(
+pub fn target_of<'t, 'a>(
     alloc: Global,
-    scope: &Scope<'_, 'a>,
+    scope: &Scope<'_, 't, 'a>,
     d: usize,
     e: &Expression<'a>,
     room: u32,
@@ -118,9 +118,9 @@ pub fn target_of<'a>(
 }
 
 /// Targets and their values, of which the last is written first.
-pub(crate) fn assignments<'a>(
+pub(crate) fn assignments<'t, 'a>(
     alloc: Global,
-    scope: &Scope<'_, 'a>,
+    scope: &Scope<'_, 't, 'a>,
     d: usize,
     targets: &Expressions<'a>,
     values: &Expressions<'a>,
@@ -147,9 +147,9 @@ pub(crate) fn assignments<'a>(
 }
 
 /// An assignment of values.
-pub(crate) fn assignment<'a>(
+pub(crate) fn assignment<'t, 'a>(
     alloc: Global,
-    scope: &Scope<'_, 'a>,
+    scope: &Scope<'_, 't, 'a>,
     d: usize,
     targets: &Expressions<'a>,
     values: &Expressions<'a>,
@@ -171,7 +171,10 @@ pub(crate) fn assignment<'a>(
 }
 
 /// The array that is the one target.
-fn whole_target<'s, 'a>(scope: &Scope<'s, 'a>, targets: &Expressions<'a>) -> Option<View<'s>>
+fn whole_target<'t, 's, 'a>(
+    scope: &Scope<'s, 't, 'a>,
+    targets: &Expressions<'a>,
+) -> Option<View<'s>>
     ensures { MatchOption result (text.whole_target targets.now (names_of scope.now) ≡ None)
         (λ view. text.whole_target targets.now (names_of scope.now) ≡ Some (view_of view)) }
 {
@@ -188,9 +191,9 @@ fn whole_target<'s, 'a>(scope: &Scope<'s, 'a>, targets: &Expressions<'a>) -> Opt
 }
 
 /// An array takes the bytes of an array or a table of its kind and size.
-fn copied<'a>(
+fn copied<'t, 'a>(
     alloc: Global,
-    scope: &Scope<'_, 'a>,
+    scope: &Scope<'_, 't, 'a>,
     to: View<'_>,
     e: &Expression<'a>,
     room: u32,

@@ -15,9 +15,9 @@ use tpw_occam_names::{Fault, Scope, Shape};
 use tpw_occam_terms::Primitive;
 
 /// The constant of a type that an expression is.
-pub(crate) fn constant<'a>(
+pub(crate) fn constant<'t, 'a>(
     alloc: Global,
-    scope: &Scope<'_, 'a>,
+    scope: &Scope<'_, 't, 'a>,
     e: &Expression<'a>,
     of: Primitive,
     room: u32,
@@ -32,9 +32,9 @@ pub(crate) fn constant<'a>(
 }
 
 /// The size of an array, where one is said.
-fn size_in<'a>(
+fn size_in<'t, 'a>(
     alloc: Global,
-    scope: &Scope<'_, 'a>,
+    scope: &Scope<'_, 't, 'a>,
     sizes: &Sizes<'a>,
     room: u32,
 ) -> Result<Option<usize>, Fault>
@@ -72,9 +72,9 @@ pub(crate) fn kind_of(of: Primitive) -> Option<Kind>
 }
 
 /// What an array of a type has to be.
-pub fn shape<'a>(
+pub fn shape<'t, 'a>(
     alloc: Global,
-    scope: &Scope<'_, 'a>,
+    scope: &Scope<'_, 't, 'a>,
     of: &Type<'a>,
     is_variable: bool,
     room: u32,

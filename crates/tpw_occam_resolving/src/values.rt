@@ -123,7 +123,7 @@ pub(crate) fn checked(alloc: Global, size: usize, i: Value) -> Result<Value, Fau
 /// The value of a name, as of a type.
 pub(crate) fn named_value(
     alloc: Global,
-    scope: &Scope<'_, '_>,
+    scope: &Scope<'_, '_, '_>,
     name: Name<'_>,
     of: Primitive,
 ) -> Result<Value, Fault>
@@ -141,7 +141,7 @@ pub(crate) fn named_value(
 }
 
 /// How many elements the array has that an expression names.
-pub(crate) fn size_value(scope: &Scope<'_, '_>, e: &Tree<'_>) -> Result<Value, Fault>
+pub(crate) fn size_value(scope: &Scope<'_, '_, '_>, e: &Tree<'_>) -> Result<Value, Fault>
     ensures { IfOk result (λ r. and_then (text.named e.now (names_of scope.now))
         (λ view. Some (types.Known view.size false)) ≡ Some (value_made r)) }
 {

@@ -14,8 +14,8 @@ use tpw_occam_terms::{Name, Primitive, Span};
 
 /// What a parameter stands for, and whether a name is bound around the body for it.
 #[derive(Clone, Copy)]
-pub(crate) struct Passed<'a> {
-    meaning: Meaning<'a>,
+pub(crate) struct Passed<'t, 'a> {
+    meaning: Meaning<'t, 'a>,
     is_bound: bool,
 }
 
@@ -29,7 +29,7 @@ pub struct Bound {
 }
 
 /// A parameter for which nothing is bound.
-fn alias<'a>(meaning: Meaning<'a>) -> Passed<'a> {
+fn alias<'t, 'a>(meaning: Meaning<'t, 'a>) -> Passed<'t, 'a> {
     Passed {
         meaning,
         is_bound: false,
@@ -37,7 +37,7 @@ fn alias<'a>(meaning: Meaning<'a>) -> Passed<'a> {
 }
 
 /// A parameter that stands for a value: a constant, a name that has it already, or a name that is bound to it.
-fn passed_value<'a>(value: Value, fixed: Option<Meaning<'a>>) -> Passed<'a> {
+fn passed_value<'t, 'a>(value: Value, fixed: Option<Meaning<'t, 'a>>) -> Passed<'t, 'a> {
     let of = value.of;
     match (value.worth, fixed) {
         (Worth::Constant(word), _) => alias(Meaning::Constant { of, word }),
@@ -52,12 +52,12 @@ fn passed_value<'a>(value: Value, fixed: Option<Meaning<'a>>) -> Passed<'a> {
     }
 }
 
-impl<'a> Checker<'a> {
+impl<'t, 'a> Checker<'t, 'a> {
     /// Reports a call with another number of arguments than there are parameters.
     pub fn check_count(
         &mut self,
         name: Name<'a>,
-        entry: Entry<'a>,
+        entry: Entry<'t, 'a>,
         signature: Signature,
         found: usize,
     ) -> Result<(), Stop> {
@@ -75,7 +75,7 @@ impl<'a> Checker<'a> {
 
     /// What a parameter stands for whose argument is a name with a value that stays the same while the body is
     /// evaluated: one that is given its value once, or a variable where the body is an expression.
-    fn fixed(&self, scope: Scope, e: &Tree<'a>, callee: Callee) -> Option<Meaning<'a>> {
+    fn fixed(&self, scope: Scope, e: &Tree<'a>, callee: Callee) -> Option<Meaning<'t, 'a>> {
         let name = name_alone(e)?;
         match self.environment.find(scope, name.text)?.meaning {
             Meaning::Value { of, root } => Some(Meaning::Value { of, root }),
@@ -90,7 +90,7 @@ impl<'a> Checker<'a> {
     }
 
     /// A parameter that is another name for an array.
-    fn passed_array(&mut self, view: View, access: Access) -> Passed<'a> {
+    fn passed_array(&mut self, view: View, access: Access) -> Passed<'t, 'a> {
         self.cells.read_array(view.storage);
         alias(Meaning::Array(View { access, ..view }))
     }
@@ -101,7 +101,7 @@ impl<'a> Checker<'a> {
         scope: Scope,
         e: &Tree<'a>,
         view: View,
-    ) -> Result<Passed<'a>, Stop> {
+    ) -> Result<Passed<'t, 'a>, Stop> {
         let Some(name) = name_alone(e) else {
             return self.fault(span_of(e), FaultKind::VariableWanted);
         };
@@ -116,7 +116,7 @@ impl<'a> Checker<'a> {
         scope: Scope,
         name: Name<'a>,
         wanted: Protocol,
-    ) -> Result<Passed<'a>, Stop> {
+    ) -> Result<Passed<'t, 'a>, Stop> {
         let (channel, protocol) = self.channel_of(scope, name)?;
         if channel != Channel::Traces {
             return self.fault(name.span, FaultKind::NoTraces);
@@ -136,13 +136,16 @@ impl<'a> Checker<'a> {
     fn passed_channel(
         &mut self,
         scope: Scope,
-        e: &'a Tree<'a>,
+        e: &'t Tree<'a>,
         wanted: Protocol,
-    ) -> Result<Passed<'a>, Stop> {
+    ) -> Result<Passed<'t, 'a>, Stop> {
         match bare(e) {
             Tree::Name(name) => self.traces(scope, *name, wanted),
             Tree::Channel { name, .. } => self.traces(scope, *name, wanted),
-            other => self.fault(span_of(other), FaultKind::NoTraces),
+            other => {
+                self.fault::<()>(span_of(other), FaultKind::NoTraces)?;
+                Err(Stop::Reported)
+            }
         }
     }
 
@@ -171,7 +174,7 @@ impl<'a> Checker<'a> {
         scope: Scope,
         name: Name<'a>,
         wanted: Primitive,
-    ) -> Result<Passed<'a>, Stop> {
+    ) -> Result<Passed<'t, 'a>, Stop> {
         let entry = self.find(scope, name)?;
         let found = match entry.meaning {
             Meaning::Variable { of, variable } => {
@@ -186,7 +189,7 @@ impl<'a> Checker<'a> {
     }
 
     /// A parameter that is another name for an element, whose subscript is worked out at the call.
-    fn passed_element(&mut self, view: View, subscript: Worth, span: Span) -> Passed<'a> {
+    fn passed_element(&mut self, view: View, subscript: Worth, span: Span) -> Passed<'t, 'a> {
         self.cells.write_array(view.storage);
         let subscript = checked(view.elements, subscript, span);
         Passed {
@@ -205,9 +208,9 @@ impl<'a> Checker<'a> {
         frame: Frame,
         of: Primitive,
         array: Name<'a>,
-        subscript: &'a Tree<'a>,
+        subscript: &'t Tree<'a>,
         depth: u32,
-    ) -> Result<Passed<'a>, Stop> {
+    ) -> Result<Passed<'t, 'a>, Stop> {
         let place = self.subscript_at(subscript);
         let view = self.written_view(frame.scope, array);
         let subscript = self.expression(frame, subscript, Some(Primitive::Int), depth);
@@ -223,9 +226,9 @@ impl<'a> Checker<'a> {
         &mut self,
         frame: Frame,
         of: Primitive,
-        e: &'a Tree<'a>,
+        e: &'t Tree<'a>,
         depth: u32,
-    ) -> Result<Passed<'a>, Stop> {
+    ) -> Result<Passed<'t, 'a>, Stop> {
         match bare(e) {
             Tree::Name(name) => self.passed_variable(frame.scope, *name, of),
             Tree::Element {
@@ -236,8 +239,14 @@ impl<'a> Checker<'a> {
                 let array = self.array_name(array)?;
                 self.element_reference(frame, of, array, subscript, depth)
             }
-            Tree::Channel { name, .. } => self.no_channel(frame.scope, *name, Role::Variable),
-            other => self.fault(span_of(other), FaultKind::VariableWanted),
+            Tree::Channel { name, .. } => {
+                self.no_channel::<()>(frame.scope, *name, Role::Variable)?;
+                Err(Stop::Reported)
+            }
+            other => {
+                self.fault::<()>(span_of(other), FaultKind::VariableWanted)?;
+                Err(Stop::Reported)
+            }
         }
     }
 
@@ -247,10 +256,10 @@ impl<'a> Checker<'a> {
         &mut self,
         frame: Frame,
         form: Form,
-        e: &'a Tree<'a>,
+        e: &'t Tree<'a>,
         callee: Callee,
         depth: u32,
-    ) -> Result<Passed<'a>, Stop> {
+    ) -> Result<Passed<'t, 'a>, Stop> {
         match form {
             Form::Value(of) => {
                 let value = self.expression(frame, e, Some(of), depth)?;
@@ -274,7 +283,7 @@ impl<'a> Checker<'a> {
     fn with_argument(
         &mut self,
         name: Name<'a>,
-        passed: Result<Passed<'a>, Stop>,
+        passed: Result<Passed<'t, 'a>, Stop>,
         bound: Bound,
     ) -> Result<Bound, Stop> {
         let (passed, is_right) = match passed {
@@ -295,7 +304,7 @@ impl<'a> Checker<'a> {
         &mut self,
         frame: Frame,
         signature: Signature,
-        arguments: &'a Expressions<'a>,
+        arguments: &'t Expressions<'a>,
         scope: Scope,
         depth: u32,
     ) -> Result<Bound, Stop> {

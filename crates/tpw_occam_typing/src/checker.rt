@@ -34,12 +34,12 @@ impl Frame {
 
 /// A text that is checked: its names, and what was found.
 #[derive(Drop)]
-pub struct Checker<'a> {
+pub struct Checker<'t, 'a> {
     pub alloc: Global,
     pub findings: Findings<'a>,
     pub cells: Cells<'a>,
     pub per_call: PerCall,
-    pub(crate) environment: Environment<'a>,
+    pub(crate) environment: Environment<'t, 'a>,
     /// The parameters of all PROCs and FUNCTIONs.
     pub(crate) parameters: Vec<Parameter<'a>>,
     /// The bytes of each table that is written out.
@@ -48,8 +48,8 @@ pub struct Checker<'a> {
     left: u32,
 }
 
-impl<'a> Checker<'a> {
-    pub fn new(alloc: Global) -> Checker<'a> {
+impl<'t, 'a> Checker<'t, 'a> {
+    pub fn new(alloc: Global) -> Checker<'t, 'a> {
         Checker {
             alloc,
             findings: Findings::new(alloc),
@@ -82,7 +82,7 @@ impl<'a> Checker<'a> {
         &mut self,
         before: Scope,
         name: Name<'a>,
-        meaning: Meaning<'a>,
+        meaning: Meaning<'t, 'a>,
     ) -> Result<Scope, AllocError> {
         self.environment.declare(before, name, meaning)
     }

@@ -8,7 +8,7 @@ use tpw_occam_faults::{FaultKind, Stop};
 use tpw_occam_meaning::Expression;
 use tpw_occam_terms::{Primitive, Span};
 
-impl<'a> Checker<'a> {
+impl<'t, 'a> Checker<'t, 'a> {
     /// The constant that a value at a place is.
     pub(crate) fn constant_of(&mut self, value: Value, span: Span) -> Result<u32, Stop> {
         match value.worth {
@@ -22,7 +22,7 @@ impl<'a> Checker<'a> {
     pub fn constant(
         &mut self,
         frame: Frame,
-        e: &'a Expression<'a>,
+        e: &'t Expression<'a>,
         of: Primitive,
     ) -> Result<u32, Stop> {
         let value = self.expression(frame, e, Some(of), MAX_DEPTH)?;

@@ -15,7 +15,7 @@ use tpw_occam_meaning::{Dyadic, Expression as Tree, Expressions, Monadic};
 use tpw_occam_names::{character, element_at, element_type, number};
 use tpw_occam_terms::{FaultKind as Misread, Name, Primitive, Span};
 
-impl<'a> Checker<'a> {
+impl<'t, 'a> Checker<'t, 'a> {
     /// A number, which is a BYTE where one is wanted.
     fn number(
         &mut self,
@@ -45,7 +45,7 @@ impl<'a> Checker<'a> {
     fn leaf(
         &mut self,
         scope: Scope,
-        e: &'a Tree<'a>,
+        e: &'t Tree<'a>,
         wanted: Option<Primitive>,
     ) -> Result<Value, Stop> {
         match e {
@@ -70,7 +70,7 @@ impl<'a> Checker<'a> {
     pub fn expression(
         &mut self,
         frame: Frame,
-        e: &'a Tree<'a>,
+        e: &'t Tree<'a>,
         wanted: Option<Primitive>,
         depth: u32,
     ) -> Result<Value, Stop> {
@@ -91,7 +91,7 @@ impl<'a> Checker<'a> {
     fn made(
         &mut self,
         frame: Frame,
-        e: &'a Tree<'a>,
+        e: &'t Tree<'a>,
         wanted: Option<Primitive>,
         depth: u32,
     ) -> Result<Value, Stop> {
@@ -152,7 +152,7 @@ impl<'a> Checker<'a> {
         &mut self,
         frame: Frame,
         operator: Dyadic,
-        operands: (&'a Tree<'a>, &'a Tree<'a>),
+        operands: (&'t Tree<'a>, &'t Tree<'a>),
         span: Span,
         depth: u32,
     ) -> Result<Value, Stop> {
@@ -172,8 +172,8 @@ impl<'a> Checker<'a> {
         &mut self,
         frame: Frame,
         operator: Dyadic,
-        one: &'a Tree<'a>,
-        other: &'a Tree<'a>,
+        one: &'t Tree<'a>,
+        other: &'t Tree<'a>,
         depth: u32,
     ) -> Result<(Value, Value), Stop> {
         let wanted = operands_of(operator);
@@ -239,7 +239,7 @@ impl<'a> Checker<'a> {
         &mut self,
         frame: Frame,
         name: Name<'a>,
-        subscript: &'a Tree<'a>,
+        subscript: &'t Tree<'a>,
         depth: u32,
     ) -> Result<Value, Stop> {
         let place = self.subscript_at(subscript);
@@ -255,7 +255,7 @@ impl<'a> Checker<'a> {
         &mut self,
         frame: Frame,
         name: Name<'a>,
-        arguments: &'a Expressions<'a>,
+        arguments: &'t Expressions<'a>,
         depth: u32,
     ) -> Result<Value, Stop> {
         let entry = self.find(frame.scope, name)?;

@@ -9,9 +9,9 @@ use tpw_occam_lexing::Keyword;
 use tpw_occam_meaning::Expression;
 use tpw_occam_terms::{Name, Primitive};
 
-impl<'a> Checker<'a> {
+impl<'t, 'a> Checker<'t, 'a> {
     /// What a name in scope stands for.
-    pub fn find(&mut self, scope: Scope, name: Name<'a>) -> Result<Entry<'a>, Stop> {
+    pub fn find(&mut self, scope: Scope, name: Name<'a>) -> Result<Entry<'t, 'a>, Stop> {
         if let Some(entry) = self.environment.find(scope, name.text) {
             self.per_call.look_up(entry.name.span);
             return Ok(entry);
@@ -35,7 +35,12 @@ impl<'a> Checker<'a> {
     }
 
     /// Reports that a name is used as what it is not, unless its declaration is wrong.
-    pub fn not_a<T>(&mut self, name: Name<'a>, entry: Entry<'a>, wanted: Role) -> Result<T, Stop> {
+    pub fn not_a<T>(
+        &mut self,
+        name: Name<'a>,
+        entry: Entry<'t, 'a>,
+        wanted: Role,
+    ) -> Result<T, Stop> {
         let Some(found) = entry.meaning.sort() else {
             return Err(Stop::Reported);
         };

@@ -8,12 +8,12 @@ use tpw_occam_faults::{FaultKind, Stop};
 use tpw_occam_meaning::{Parameters, Type};
 use tpw_occam_terms::{Name, Passing, Primitive, Span};
 
-impl<'a> Checker<'a> {
+impl<'t, 'a> Checker<'t, 'a> {
     /// What a channel of a type carries.
     fn protocol_of(
         &mut self,
         frame: Frame,
-        of: &'a Type<'a>,
+        of: &'t Type<'a>,
         span: Span,
     ) -> Result<Protocol, Stop> {
         if matches!(size_of(of), Size::One) {
@@ -36,7 +36,7 @@ impl<'a> Checker<'a> {
     fn array_form(
         &mut self,
         frame: Frame,
-        of: &'a Type<'a>,
+        of: &'t Type<'a>,
         access: Access,
         span: Span,
     ) -> Result<Form, Stop> {
@@ -49,7 +49,7 @@ impl<'a> Checker<'a> {
         &mut self,
         frame: Frame,
         passing: Passing,
-        of: &'a Type<'a>,
+        of: &'t Type<'a>,
         span: Span,
     ) -> Result<Form, Stop> {
         match (passing, size_of(of)) {
@@ -75,7 +75,7 @@ impl<'a> Checker<'a> {
     pub fn signature(
         &mut self,
         frame: Frame,
-        list: &'a Parameters<'a>,
+        list: &'t Parameters<'a>,
         callee: Callee,
     ) -> Result<Signature, Stop> {
         let first = self.parameters.len();
@@ -114,7 +114,7 @@ impl<'a> Checker<'a> {
     }
 
     /// Reports each parameter of a FUNCTION that is not VAL.
-    pub fn check_values(&mut self, list: &'a Parameters<'a>) -> Result<(), Stop> {
+    pub fn check_values(&mut self, list: &'t Parameters<'a>) -> Result<(), Stop> {
         let mut rest = list;
         loop {
             match rest {

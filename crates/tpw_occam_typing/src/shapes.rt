@@ -11,7 +11,7 @@ use tpw_occam_meaning::Type;
 use tpw_occam_names::element_type;
 use tpw_occam_terms::{FaultKind as Misread, Primitive, Span, Wanted};
 
-impl<'a> Checker<'a> {
+impl<'t, 'a> Checker<'t, 'a> {
     /// The number of elements of an array that is declared, where it may have so many.
     pub(crate) fn elements(&mut self, kind: Kind, word: u32, span: Span) -> Result<u32, Stop> {
         if word > 0 && word.cast_signed() > 0 && bytes_of(kind, word) <= MAX_ARRAY_BYTES {
@@ -31,7 +31,7 @@ impl<'a> Checker<'a> {
     }
 
     /// The shape of a type that is an array.
-    pub fn shape(&mut self, frame: Frame, of: &'a Type<'a>, span: Span) -> Result<Shape, Stop> {
+    pub fn shape(&mut self, frame: Frame, of: &'t Type<'a>, span: Span) -> Result<Shape, Stop> {
         let kind = self.kind_of(of.of, span)?;
         match size_of(of) {
             Size::One => self.fault(span, FaultKind::ArrayWanted),

@@ -17,7 +17,7 @@ pub struct Subscript {
     before: Point,
 }
 
-impl<'a> Checker<'a> {
+impl<'t, 'a> Checker<'t, 'a> {
     /// Where a subscript stands whose array is not looked up yet.
     pub fn subscript_at(&self, subscript: &Tree<'a>) -> Subscript {
         Subscript {

@@ -24,7 +24,7 @@ fn put_element(bytes: &mut Vec<u8>, kind: Kind, word: u32) -> Result<(), AllocEr
     Ok(())
 }
 
-impl<'a> Checker<'a> {
+impl<'t, 'a> Checker<'t, 'a> {
     /// The table of these bytes.
     fn table(&mut self, kind: Kind, bytes: Vec<u8>, span: Span) -> Result<View, Stop> {
         let count = match kind {
@@ -75,7 +75,7 @@ impl<'a> Checker<'a> {
     fn list(
         &mut self,
         frame: Frame,
-        items: &'a Expressions<'a>,
+        items: &'t Expressions<'a>,
         kind: Kind,
         depth: u32,
     ) -> Result<Vec<u8>, Stop> {
@@ -99,7 +99,7 @@ impl<'a> Checker<'a> {
     pub fn array(
         &mut self,
         frame: Frame,
-        e: &'a Tree<'a>,
+        e: &'t Tree<'a>,
         shape: Shape,
         depth: u32,
     ) -> Result<View, Stop> {

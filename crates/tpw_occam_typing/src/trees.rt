@@ -5,7 +5,7 @@ use tpw_occam_meaning::{Expression, Expressions, Sizes, Type};
 use tpw_occam_terms::{Name, Primitive, Span};
 
 /// An expression without the brackets around it.
-pub fn bare<'a>(e: &'a Expression<'a>) -> &'a Expression<'a> {
+pub fn bare<'t, 'a>(e: &'t Expression<'a>) -> &'t Expression<'a> {
     match e {
         Expression::Bracketed { within, .. } => bare(within),
         other => other,
@@ -83,19 +83,19 @@ pub fn count_of(list: &Expressions<'_>) -> usize {
 
 /// How many elements there are.
 #[derive(Clone, Copy)]
-pub enum Size<'a> {
+pub enum Size<'t, 'a> {
     /// One value, no array.
     One,
     /// `[]`: as many as there are.
     Open,
     /// `[k]`
-    Of(&'a Expression<'a>),
+    Of(&'t Expression<'a>),
     /// Arrays of arrays, which are none.
     Several,
 }
 
 /// How many elements a type has.
-pub fn size_of<'a>(of: &'a Type<'a>) -> Size<'a> {
+pub fn size_of<'t, 'a>(of: &'t Type<'a>) -> Size<'t, 'a> {
     match &of.sizes {
         Sizes::End => Size::One,
         Sizes::Open(more) if matches!(**more, Sizes::End) => Size::Open,

@@ -44,7 +44,7 @@ pub(crate) fn channels_of(forms: &[Form]) -> Result<Channels, Fault>
 }
 
 /// What the packet's channel carries, where a name is that.
-pub(crate) fn packet(scope: &Scope<'_, '_>, name: Name<'_>) -> Result<Protocol, Fault>
+pub(crate) fn packet(scope: &Scope<'_, '_, '_>, name: Name<'_>) -> Result<Protocol, Fault>
     ensures { IfOk result (λ p.
         messages.carried Packet (found name.entry (names_of scope.now)) ≡ Some (protocol_of p)) }
 {
@@ -55,7 +55,7 @@ pub(crate) fn packet(scope: &Scope<'_, '_>, name: Name<'_>) -> Result<Protocol, 
 }
 
 /// What the result's channel carries, where a name is that.
-pub(crate) fn output(scope: &Scope<'_, '_>, name: Name<'_>) -> Result<Protocol, Fault>
+pub(crate) fn output(scope: &Scope<'_, '_, '_>, name: Name<'_>) -> Result<Protocol, Fault>
     ensures { IfOk result (λ p.
         messages.carried Output (found name.entry (names_of scope.now)) ≡ Some (protocol_of p)) }
 {

@@ -4,7 +4,7 @@ use tpw_occam_meaning::{Declarations, Process};
 
 /// What stands behind a declaration: in a worker its process, and in a text further declarations.
 #[derive(Clone, Copy)]
-pub(crate) enum Rest<'a> {
-    Body(&'a Process<'a>),
-    Text(&'a Declarations<'a>),
+pub(crate) enum Rest<'t, 'a> {
+    Body(&'t Process<'a>),
+    Text(&'t Declarations<'a>),
 }

@@ -21,9 +21,9 @@ use tpw_occam_scoped::Process;
 use tpw_occam_terms::{Name, Primitive, Span};
 
 /// The packet goes to a variable or an element, or to an array.
-fn received<'a>(
+fn received<'t, 'a>(
     alloc: Global,
-    scope: &Scope<'_, 'a>,
+    scope: &Scope<'_, 't, 'a>,
     d: usize,
     protocol: Protocol,
     e: &Expression<'a>,
@@ -54,9 +54,9 @@ fn received<'a>(
 }
 
 /// The packet, from its channel.
-pub(crate) fn first<'a>(
+pub(crate) fn first<'t, 'a>(
     alloc: Global,
-    scope: &Scope<'_, 'a>,
+    scope: &Scope<'_, 't, 'a>,
     d: usize,
     channel: Name<'a>,
     e: &Expression<'a>,
@@ -73,9 +73,9 @@ pub(crate) fn first<'a>(
 }
 
 /// The result, to its channel.
-fn last<'a>(
+fn last<'t, 'a>(
     alloc: Global,
-    scope: &Scope<'_, 'a>,
+    scope: &Scope<'_, 't, 'a>,
     d: usize,
     channel: Name<'a>,
     e: &Expression<'a>,
@@ -92,11 +92,11 @@ fn last<'a>(
 }
 
 /// The steps behind the packet, of which the last sends the result.
-pub(crate) fn finished<'a>(
+pub(crate) fn finished<'t, 'a>(
     alloc: Global,
-    scope: &Scope<'_, 'a>,
+    scope: &Scope<'_, 't, 'a>,
     d: usize,
-    steps: &'a Processes<'a>,
+    steps: &'t Processes<'a>,
     room: u32,
 ) -> Result<Process, Fault>
     ensures { IfOk result (λ made. effect_of made ≡ text.finished steps.now (names_of scope.now) d) }

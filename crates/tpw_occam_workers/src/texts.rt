@@ -32,7 +32,7 @@ use tpw_occam_scoped::Process;
 use tpw_occam_terms::{Name, Primitive};
 
 /// The scoped core that is made of a text: it receives the packet, and sends the result.
-pub fn resolve<'a>(alloc: Global, source: &'a Source<'a>, room: u32) -> Result<Process, Fault>
+pub fn resolve<'t, 'a>(alloc: Global, source: &'t Source<'a>, room: u32) -> Result<Process, Fault>
     ensures { IfOk result (λ made. MeansText source.now (meaning made)) }
 {
     declarations(alloc, &Scope::Empty, 0, &source.declarations, room)
@@ -40,11 +40,11 @@ pub fn resolve<'a>(alloc: Global, source: &'a Source<'a>, room: u32) -> Result<P
 
 /// What stands behind declarations.
 #[cycle(rest)]
-fn behind<'a>(
+fn behind<'t, 'a>(
     alloc: Global,
-    scope: &Scope<'_, 'a>,
+    scope: &Scope<'_, 't, 'a>,
     d: usize,
-    rest: Rest<'a>,
+    rest: Rest<'t, 'a>,
     room: u32,
 ) -> Result<Process, Fault>
     ensures { IfOk result (λ made. effect_of made ≡ after_of rest.entry (names_of scope.now) d) }
@@ -60,11 +60,11 @@ fn behind<'a>(
 
 /// The declarations of a text, of which the last is the worker's PROC.
 #[cycle(rest)]
-fn declarations<'a>(
+fn declarations<'t, 'a>(
     alloc: Global,
-    scope: &Scope<'_, 'a>,
+    scope: &Scope<'_, 't, 'a>,
     d: usize,
-    list: &'a Declarations<'a>,
+    list: &'t Declarations<'a>,
     room: u32,
 ) -> Result<Process, Fault>
     ensures { IfOk result (λ made. effect_of made ≡ text.text_effect list.now (names_of scope.now) d) }
@@ -92,11 +92,11 @@ fn declarations<'a>(
 
 /// A worker, with its channels.
 #[cycle(rest)]
-fn worker<'a>(
+fn worker<'t, 'a>(
     alloc: Global,
-    scope: &Scope<'_, 'a>,
-    takes: &'a Parameters<'a>,
-    body: &'a Tree<'a>,
+    scope: &Scope<'_, 't, 'a>,
+    takes: &'t Parameters<'a>,
+    body: &'t Tree<'a>,
     room: u32,
 ) -> Result<Process, Fault>
     ensures { IfOk result (λ made. effect_of made ≡ text.worker takes.now body.now (names_of scope.now)) }
@@ -127,12 +127,12 @@ fn worker<'a>(
 
 /// A worker, with its traces' channel where there is one.
 #[cycle(rest)]
-fn traced<'a>(
+fn traced<'t, 'a>(
     alloc: Global,
-    scope: &Scope<'_, 'a>,
+    scope: &Scope<'_, 't, 'a>,
     traces: Option<Protocol>,
-    takes: &'a Parameters<'a>,
-    p: &'a Tree<'a>,
+    takes: &'t Parameters<'a>,
+    p: &'t Tree<'a>,
     room: u32,
 ) -> Result<Process, Fault>
     ensures { IfOk result (λ made. effect_of made
@@ -160,11 +160,11 @@ fn traced<'a>(
 
 /// Declarations, and a SEQ that begins with the packet.
 #[cycle(rest)]
-fn body<'a>(
+fn body<'t, 'a>(
     alloc: Global,
-    scope: &Scope<'_, 'a>,
+    scope: &Scope<'_, 't, 'a>,
     d: usize,
-    p: &'a Tree<'a>,
+    p: &'t Tree<'a>,
     room: u32,
 ) -> Result<Process, Fault>
     ensures { IfOk result (λ made. effect_of made ≡ text.worker_body p.now (names_of scope.now) d) }
@@ -198,12 +198,12 @@ fn body<'a>(
 
 /// What stands behind a declaration, with the names and the numbers that it takes.
 #[cycle(rest)]
-fn declared<'a>(
+fn declared<'t, 'a>(
     alloc: Global,
-    scope: &Scope<'_, 'a>,
+    scope: &Scope<'_, 't, 'a>,
     d: usize,
-    declaration: &'a Declaration<'a>,
-    rest: Rest<'a>,
+    declaration: &'t Declaration<'a>,
+    rest: Rest<'t, 'a>,
     room: u32,
 ) -> Result<Process, Fault>
     ensures { IfOk result (λ made.
@@ -289,13 +289,13 @@ fn declared<'a>(
 
 /// What stands behind another name for an array, or one for a table.
 #[cycle(rest)]
-fn array_declared<'a>(
+fn array_declared<'t, 'a>(
     alloc: Global,
-    scope: &Scope<'_, 'a>,
+    scope: &Scope<'_, 't, 'a>,
     d: usize,
     name: Name<'a>,
     array: &Array<'_>,
-    rest: Rest<'a>,
+    rest: Rest<'t, 'a>,
     room: u32,
 ) -> Result<Process, Fault>
     ensures { IfOk result (λ made. effect_of made ≡ after_of rest.entry
@@ -310,15 +310,15 @@ fn array_declared<'a>(
 
 /// What stands behind the declaration of a PROC.
 #[cycle(rest)]
-fn procedure_declared<'a>(
+fn procedure_declared<'t, 'a>(
     alloc: Global,
-    scope: &Scope<'_, 'a>,
+    scope: &Scope<'_, 't, 'a>,
     d: usize,
     name: Name<'a>,
     forms: &[Form],
-    takes: &'a Parameters<'a>,
-    body: &'a Tree<'a>,
-    rest: Rest<'a>,
+    takes: &'t Parameters<'a>,
+    body: &'t Tree<'a>,
+    rest: Rest<'t, 'a>,
     room: u32,
 ) -> Result<Process, Fault>
     ensures { IfOk result (λ made. effect_of made ≡ after_of rest.entry (with_name name.entry
@@ -334,16 +334,16 @@ fn procedure_declared<'a>(
 
 /// What stands behind the declaration of a FUNCTION.
 #[cycle(rest)]
-fn function_declared<'a>(
+fn function_declared<'t, 'a>(
     alloc: Global,
-    scope: &Scope<'_, 'a>,
+    scope: &Scope<'_, 't, 'a>,
     d: usize,
     of: Primitive,
     name: Name<'a>,
     forms: &[Form],
-    takes: &'a Parameters<'a>,
-    e: &'a Expression<'a>,
-    rest: Rest<'a>,
+    takes: &'t Parameters<'a>,
+    e: &'t Expression<'a>,
+    rest: Rest<'t, 'a>,
     room: u32,
 ) -> Result<Process, Fault>
     ensures { IfOk result (λ made. effect_of made ≡ after_of rest.entry (with_name name.entry
@@ -359,13 +359,13 @@ fn function_declared<'a>(
 
 /// Variables, which are 0 at first.
 #[cycle(rest)]
-fn variables<'a>(
+fn variables<'t, 'a>(
     alloc: Global,
-    scope: &Scope<'_, 'a>,
+    scope: &Scope<'_, 't, 'a>,
     d: usize,
     of: Primitive,
-    names: &'a Names<'a>,
-    rest: Rest<'a>,
+    names: &'t Names<'a>,
+    rest: Rest<'t, 'a>,
     room: u32,
 ) -> Result<Process, Fault>
     ensures { IfOk result (λ made.
@@ -386,14 +386,14 @@ fn variables<'a>(
 
 /// Arrays, whose elements are 0 at first.
 #[cycle(rest)]
-fn arrays<'a>(
+fn arrays<'t, 'a>(
     alloc: Global,
-    scope: &Scope<'_, 'a>,
+    scope: &Scope<'_, 't, 'a>,
     d: usize,
     kind: Kind,
     size: usize,
-    names: &'a Names<'a>,
-    rest: Rest<'a>,
+    names: &'t Names<'a>,
+    rest: Rest<'t, 'a>,
     room: u32,
 ) -> Result<Process, Fault>
     ensures { IfOk result (λ made. effect_of made
