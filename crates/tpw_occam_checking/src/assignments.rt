@@ -25,7 +25,7 @@ fn named_target<'t, 'a>(
             checker.cells.write_array(storage);
             Ok(of)
         }
-        _ => checker.not_a(name, entry, Role::Variable),
+        _ => Err(checker.not_a(name, entry, Role::Variable)),
     }
 }
 
@@ -64,7 +64,7 @@ pub(crate) fn target<'t, 'a>(
             element_target(checker, frame, array, subscript, depth)
         }
         Tree::Wrong { .. } => Err(Stop::Reported),
-        other => checker.fault(span_of(other), FaultKind::VariableWanted),
+        other => Err(checker.fault(span_of(other), FaultKind::VariableWanted)),
     }
 }
 

@@ -44,7 +44,7 @@ pub(crate) fn chosen_by<'t, 'a>(
     let value = checker.expression(frame, e, None, depth)?;
     let of = value.of;
     if of == Primitive::Bool {
-        return checker.fault(span_of(e), FaultKind::CaseOfBools);
+        return Err(checker.fault(span_of(e), FaultKind::CaseOfBools));
     }
     let is_bound = match (value.worth, value.root) {
         (Worth::Constant(_), _) => false,
@@ -66,10 +66,10 @@ fn case_constant<'t, 'a>(
     let word = checker.constant(frame, e, of)?;
     let span = span_of(e);
     if seen.len() >= MAX_GUARDS {
-        return checker.fault(span, FaultKind::Limit(Limit::Guards));
+        return Err(checker.fault(span, FaultKind::Limit(Limit::Guards)));
     }
     if let Some(first) = seen.iter().find(|other| other.word == word).copied() {
-        return checker.fault(span, FaultKind::CaseTwice { first: first.span });
+        return Err(checker.fault(span, FaultKind::CaseTwice { first: first.span }));
     }
     seen.push(Seen { word, span })?;
     Ok(())
@@ -110,7 +110,7 @@ pub(crate) fn case_guard<'t, 'a>(
         return Err(Stop::Reported);
     };
     if levels_within(depth, count) == 0 {
-        return checker.fault(span_of(first), FaultKind::Limit(Limit::Depth));
+        return Err(checker.fault(span_of(first), FaultKind::Limit(Limit::Depth)));
     }
     Ok(())
 }

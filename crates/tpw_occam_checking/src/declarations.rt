@@ -105,8 +105,8 @@ fn named_value<'t, 'a>(
     let of = value.of;
     match (value.worth, level) {
         (Worth::Constant(word), _) => Ok(unbound(Meaning::Constant { of, word })),
-        (Worth::Flagged(span), _) => checker.fault(span, FaultKind::SetsFlag),
-        (Worth::Computed, Level::Text) => checker.fault(span_of(e), FaultKind::NotConstant),
+        (Worth::Flagged(span), _) => Err(checker.fault(span, FaultKind::SetsFlag)),
+        (Worth::Computed, Level::Text) => Err(checker.fault(span_of(e), FaultKind::NotConstant)),
         (Worth::Computed, Level::Worker) => Ok(unbound(Meaning::Value {
             of,
             root: Root::Made,
@@ -129,7 +129,7 @@ fn named_table<'t, 'a>(
     shape: Shape,
 ) -> Result<Made<'t, 'a>, Stop> {
     if !is_table(e) {
-        return checker.fault(span_of(e), FaultKind::TableWanted);
+        return Err(checker.fault(span_of(e), FaultKind::TableWanted));
     }
     let view = checker.array(frame, e, shape, MAX_DEPTH)?;
     Ok(unbound(Meaning::Array(view)))
@@ -209,7 +209,7 @@ fn variable_array<'t, 'a>(
     shape: Shape,
 ) -> Result<Made<'t, 'a>, Stop> {
     let Some(elements) = shape.elements else {
-        return checker.fault(name.span, FaultKind::NoSize);
+        return Err(checker.fault(name.span, FaultKind::NoSize));
     };
     let array = checker.cells.add(name)?;
     Ok(Made {
@@ -265,10 +265,7 @@ fn made_of<'t, 'a>(
     level: Level,
 ) -> Result<Made<'t, 'a>, Stop> {
     match (level, kept) {
-        (Level::Text, _) => {
-            checker.fault::<()>(name.span, FaultKind::OutsideProc)?;
-            Err(Stop::Reported)
-        }
+        (Level::Text, _) => { Err(checker.fault(name.span, FaultKind::OutsideProc)) }
         (_, Kept::Variable(of)) => variable(checker, name, of),
         (_, Kept::Array(shape)) => variable_array(checker, name, shape?),
     }
@@ -309,7 +306,7 @@ fn retyped<'t, 'a>(
     let bytes = bytes_of(view.kind, view.elements);
     let elements = match shape.kind {
         Kind::Word if bytes % 4 == 0 => bytes / 4,
-        Kind::Word => return checker.fault(array.span, FaultKind::NoWords { bytes }),
+        Kind::Word => return Err(checker.fault(array.span, FaultKind::NoWords { bytes })),
         Kind::Byte => bytes,
     };
     let view = View {

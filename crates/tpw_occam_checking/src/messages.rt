@@ -51,7 +51,7 @@ pub(crate) fn trace<'t, 'a>(
             sent_by(checker, frame, protocol, e, depth)?;
             Ok(())
         }
-        Channel::Packet => checker.fault(name.span, FaultKind::SendsPacket),
-        Channel::Output => checker.fault(name.span, FaultKind::Send),
+        Channel::Packet => Err(checker.fault(name.span, FaultKind::SendsPacket)),
+        Channel::Output => Err(checker.fault(name.span, FaultKind::Send)),
     }
 }

@@ -36,10 +36,10 @@ fn check_turns<'t, 'a>(
         let kind = FaultKind::Turns {
             count: i64::from(turns.cast_signed()),
         };
-        return checker.fault(span_of(count), kind);
+        return Err(checker.fault(span_of(count), kind));
     }
     if is_beyond(first, turns) {
-        return checker.fault(span_of(count), FaultKind::LastIndex);
+        return Err(checker.fault(span_of(count), FaultKind::LastIndex));
     }
     Ok(())
 }
@@ -60,7 +60,7 @@ fn simple<'t, 'a>(
             ..
         } => assignment(checker, frame, targets, values, depth),
         Written::Send { channel, value, .. } => trace(checker, frame, *channel, value, depth),
-        Written::Receive { channel, .. } => checker.fault(channel.span, FaultKind::Receive),
+        Written::Receive { channel, .. } => Err(checker.fault(channel.span, FaultKind::Receive)),
         _ => Err(Stop::Reported),
     }
 }
@@ -123,7 +123,7 @@ fn choice<'t, 'a>(
     depth: u32,
 ) -> Result<(), Stop> {
     if guards_of(choices) > MAX_GUARDS {
-        return checker.fault(span, FaultKind::Limit(Limit::Guards));
+        return Err(checker.fault(span, FaultKind::Limit(Limit::Guards)));
     }
     let mut has_true = false;
     let mut is_whole = true;
@@ -236,10 +236,10 @@ fn procedure_call<'t, 'a>(
         scope,
     } = entry.meaning
     else {
-        return checker.not_a(name, entry, Role::Procedure);
+        return Err(checker.not_a(name, entry, Role::Procedure));
     };
     if frame.calls == 0 {
-        return checker.fault(name.span, FaultKind::Limit(Limit::Calls));
+        return Err(checker.fault(name.span, FaultKind::Limit(Limit::Calls)));
     }
     checker.check_count(name, entry, signature, count_of(arguments))?;
     let bound = checker.bound(frame, signature, arguments, scope, depth)?;
@@ -286,7 +286,7 @@ pub(crate) fn process<'t, 'a>(
     };
     checker.count(span)?;
     if depth == 0 {
-        return checker.fault(span, FaultKind::Limit(Limit::Depth));
+        return Err(checker.fault(span, FaultKind::Limit(Limit::Depth)));
     }
     match p {
         Written::Sequence { steps: list, .. } => {

@@ -72,7 +72,7 @@ fn check_text<'t, 'a>(
         return Err(Stop::Ended);
     };
     let Some(last) = last_declaration(&source.declarations) else {
-        return checker.fault(FIRST, FaultKind::NoWorker);
+        return Err(checker.fault(FIRST, FaultKind::NoWorker));
     };
     let frame = others(checker, &source.declarations)?;
     match last {
@@ -83,7 +83,7 @@ fn check_text<'t, 'a>(
         } => worker(checker, frame, *name, parameters, body),
         other => {
             let place = declared_place(other).unwrap_or(FIRST);
-            checker.fault(place, FaultKind::NoWorker)
+            Err(checker.fault(place, FaultKind::NoWorker))
         }
     }
 }

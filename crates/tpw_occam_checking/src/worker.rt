@@ -43,7 +43,7 @@ fn channel<'t, 'a>(
             Ok((scope, protocol))
         }
         Form::Wrong => Err(Stop::Reported),
-        _ => checker.fault(worker.span, FaultKind::WorkerParameters),
+        _ => Err(checker.fault(worker.span, FaultKind::WorkerParameters)),
     }
 }
 
@@ -58,10 +58,10 @@ fn channels_of<'t, 'a>(
     let packet = checker.parameter(signature, 0);
     let output = checker.parameter(signature, 1);
     let (Some(packet), Some(output)) = (packet, output) else {
-        return checker.fault(worker.span, FaultKind::WorkerParameters);
+        return Err(checker.fault(worker.span, FaultKind::WorkerParameters));
     };
     if signature.count > 3 {
-        return checker.fault(worker.span, FaultKind::WorkerParameters);
+        return Err(checker.fault(worker.span, FaultKind::WorkerParameters));
     }
     let (scope, packet) = channel(checker, worker, frame.scope, packet, Channel::Packet)?;
     let (scope, output) = channel(checker, worker, scope, output, Channel::Output)?;
@@ -94,7 +94,7 @@ fn received_array<'t, 'a>(
     shape: Shape,
 ) -> Result<(), Stop> {
     let Some(name) = name_alone(e) else {
-        return checker.fault(span_of(e), FaultKind::ArrayWanted);
+        return Err(checker.fault(span_of(e), FaultKind::ArrayWanted));
     };
     let view = checker.written_view(frame.scope, name)?;
     let view = checker.of_shape(view, shape, name.span)?;
@@ -117,11 +117,11 @@ fn received<'t, 'a>(
             ..
         } => (*channel, target),
         Written::Wrong => return Err(Stop::Reported),
-        _ => return checker.fault(line, FaultKind::NoReceive),
+        _ => return Err(checker.fault(line, FaultKind::NoReceive)),
     };
     let (found, _) = checker.channel_of(frame.scope, channel)?;
     if found != Channel::Packet {
-        return checker.fault(channel.span, FaultKind::NoReceive);
+        return Err(checker.fault(channel.span, FaultKind::NoReceive));
     }
     match protocol {
         Protocol::Value => received_value(checker, frame, target),
@@ -166,11 +166,11 @@ fn sent<'t, 'a>(
     let (channel, value) = match step {
         Written::Send { channel, value, .. } => (*channel, value),
         Written::Wrong => return Err(Stop::Reported),
-        _ => return checker.fault(line, FaultKind::NoSend),
+        _ => return Err(checker.fault(line, FaultKind::NoSend)),
     };
     let (found, _) = checker.channel_of(frame.scope, channel)?;
     if found != Channel::Output {
-        return checker.fault(channel.span, FaultKind::NoSend);
+        return Err(checker.fault(channel.span, FaultKind::NoSend));
     }
     let message = sent_by(checker, frame, protocol, value, MAX_DEPTH)?;
     note_result(checker, message, value)
@@ -181,10 +181,10 @@ fn check_few<'t, 'a>(checker: &mut Checker<'t, 'a>, steps: Steps<'t, 'a>) -> Res
     match steps.list {
         Processes::More(step, _) => match **step {
             Written::Wrong => Err(Stop::Reported),
-            Written::Receive { .. } => checker.fault(steps.span, FaultKind::NoSend),
-            _ => checker.fault(steps.span, FaultKind::NoReceive),
+            Written::Receive { .. } => Err(checker.fault(steps.span, FaultKind::NoSend)),
+            _ => Err(checker.fault(steps.span, FaultKind::NoReceive)),
         },
-        Processes::End => checker.fault(steps.span, FaultKind::NoReceive),
+        Processes::End => Err(checker.fault(steps.span, FaultKind::NoReceive)),
     }
 }
 
@@ -243,7 +243,7 @@ pub(crate) fn worker<'t, 'a>(
             list: steps,
             span: *span,
         },
-        _ => return checker.fault(name.span, FaultKind::WorkerBody),
+        _ => return Err(checker.fault(name.span, FaultKind::WorkerBody)),
     };
     let frame = frame.with_scope(channels.scope);
     let frame = declared(checker, frame, body)?;

@@ -1,7 +1,5 @@
 //! What is found while a text is looked at.
 
-ghost use Rattle.std.specs.Prelude.{IfOk};
-
 use crate::fault::{Fault, FaultKind};
 use crate::note::{Note, NoteKind};
 use std::alloc::{AllocError, AllocFailed, Global};
@@ -56,14 +54,6 @@ impl<'a> Findings<'a> {
             return Err(Stop::Ended);
         }
         Ok(())
-    }
-
-    /// Reports what is wrong, and fails.
-    pub fn fault<T>(&mut self, span: Span, kind: FaultKind<'a>) -> Result<T, Stop>
-        ensures { IfOk result (λ t. ⊥) }
-    {
-        self.report(span, kind)?;
-        Err(Stop::Reported)
     }
 
     /// Notes what may not be meant, once for each place.

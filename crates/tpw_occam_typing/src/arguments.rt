@@ -70,7 +70,7 @@ impl<'t, 'a> Checker<'t, 'a> {
             wanted: signature.count,
             found,
         };
-        self.fault(name.span, kind)
+        Err(self.fault(name.span, kind))
     }
 
     /// What a parameter stands for whose argument is a name with a value that stays the same while the body is
@@ -103,7 +103,7 @@ impl<'t, 'a> Checker<'t, 'a> {
         view: View,
     ) -> Result<Passed<'t, 'a>, Stop> {
         let Some(name) = name_alone(e) else {
-            return self.fault(span_of(e), FaultKind::VariableWanted);
+            return Err(self.fault(span_of(e), FaultKind::VariableWanted));
         };
         self.written_view(scope, name)?;
         self.cells.write_array(view.storage);
@@ -119,7 +119,7 @@ impl<'t, 'a> Checker<'t, 'a> {
     ) -> Result<Passed<'t, 'a>, Stop> {
         let (channel, protocol) = self.channel_of(scope, name)?;
         if channel != Channel::Traces {
-            return self.fault(name.span, FaultKind::NoTraces);
+            return Err(self.fault(name.span, FaultKind::NoTraces));
         }
         if protocol != wanted {
             let declared = self.find(scope, name)?.name.span;
@@ -127,7 +127,7 @@ impl<'t, 'a> Checker<'t, 'a> {
                 name: name.text,
                 declared,
             };
-            return self.fault(name.span, kind);
+            return Err(self.fault(name.span, kind));
         }
         Ok(alias(Meaning::Channel { channel, protocol }))
     }
@@ -142,10 +142,7 @@ impl<'t, 'a> Checker<'t, 'a> {
         match bare(e) {
             Tree::Name(name) => self.traces(scope, *name, wanted),
             Tree::Channel { name, .. } => self.traces(scope, *name, wanted),
-            other => {
-                self.fault::<()>(span_of(other), FaultKind::NoTraces)?;
-                Err(Stop::Reported)
-            }
+            other => { Err(self.fault(span_of(other), FaultKind::NoTraces)) }
         }
     }
 
@@ -165,7 +162,7 @@ impl<'t, 'a> Checker<'t, 'a> {
             wanted,
             found,
         };
-        self.fault(span, kind)
+        Err(self.fault(span, kind))
     }
 
     /// A parameter that is another name for a variable.
@@ -182,7 +179,7 @@ impl<'t, 'a> Checker<'t, 'a> {
                 of
             }
             Meaning::Element { of, .. } => of,
-            _ => return self.not_a(name, entry, Role::Variable),
+            _ => return Err(self.not_a(name, entry, Role::Variable)),
         };
         self.check_type(Some(name.text), found, wanted, name.span)?;
         Ok(alias(entry.meaning))
@@ -240,13 +237,9 @@ impl<'t, 'a> Checker<'t, 'a> {
                 self.element_reference(frame, of, array, subscript, depth)
             }
             Tree::Channel { name, .. } => {
-                self.no_channel::<()>(frame.scope, *name, Role::Variable)?;
-                Err(Stop::Reported)
+                Err(self.no_channel(frame.scope, *name, Role::Variable))
             }
-            other => {
-                self.fault::<()>(span_of(other), FaultKind::VariableWanted)?;
-                Err(Stop::Reported)
-            }
+            other => { Err(self.fault(span_of(other), FaultKind::VariableWanted)) }
         }
     }
 

@@ -62,9 +62,12 @@ impl<'t, 'a> Checker<'t, 'a> {
         }
     }
 
-    /// Reports what is wrong, and fails.
-    pub fn fault<T>(&mut self, span: Span, kind: FaultKind<'a>) -> Result<T, Stop> {
-        self.findings.fault(span, kind)
+    /// Reports what is wrong; returns why no more is made of it.
+    pub fn fault(&mut self, span: Span, kind: FaultKind<'a>) -> Stop {
+        match self.findings.report(span, kind) {
+            Ok(()) => Stop::Reported,
+            Err(stop) => stop,
+        }
     }
 
     /// Counts an expression or a process.

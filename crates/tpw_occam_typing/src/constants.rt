@@ -13,8 +13,8 @@ impl<'t, 'a> Checker<'t, 'a> {
     pub(crate) fn constant_of(&mut self, value: Value, span: Span) -> Result<u32, Stop> {
         match value.worth {
             Worth::Constant(word) => Ok(word),
-            Worth::Flagged(at) => self.fault(at, FaultKind::SetsFlag),
-            Worth::Computed => self.fault(span, FaultKind::NotConstant),
+            Worth::Flagged(at) => Err(self.fault(at, FaultKind::SetsFlag)),
+            Worth::Computed => Err(self.fault(span, FaultKind::NotConstant)),
         }
     }
 

@@ -24,11 +24,11 @@ impl<'t, 'a> Checker<'t, 'a> {
         span: Span,
     ) -> Result<Value, Stop> {
         let Some(value) = number(spelled) else {
-            return self.fault(span, FaultKind::Syntax(Misread::BigNumber));
+            return Err(self.fault(span, FaultKind::Syntax(Misread::BigNumber)));
         };
         match wanted {
             Some(Primitive::Byte) if value < 256 => Ok(constant(Primitive::Byte, value)),
-            Some(Primitive::Byte) => self.fault(span, FaultKind::NoByte { value }),
+            Some(Primitive::Byte) => Err(self.fault(span, FaultKind::NoByte { value })),
             _ => Ok(constant(Primitive::Int, value)),
         }
     }
@@ -37,7 +37,7 @@ impl<'t, 'a> Checker<'t, 'a> {
     fn character(&mut self, spelled: &str, span: Span) -> Result<Value, Stop> {
         match character(spelled) {
             Some(value) => Ok(constant(Primitive::Byte, value)),
-            None => self.fault(span, FaultKind::Syntax(Misread::BadCharacter)),
+            None => Err(self.fault(span, FaultKind::Syntax(Misread::BadCharacter))),
         }
     }
 
@@ -57,10 +57,10 @@ impl<'t, 'a> Checker<'t, 'a> {
                 ..
             } => Ok(constant(Primitive::Int, MOST_NEGATIVE)),
             Tree::Most { .. } => Ok(constant(Primitive::Int, MOST_POSITIVE)),
-            Tree::Text { span, .. } => self.fault(*span, FaultKind::TableHere),
-            Tree::Table { span, .. } => self.fault(*span, FaultKind::TableHere),
+            Tree::Text { span, .. } => Err(self.fault(*span, FaultKind::TableHere)),
+            Tree::Table { span, .. } => Err(self.fault(*span, FaultKind::TableHere)),
             Tree::Name(name) => self.value_of(scope, *name),
-            Tree::Channel { name, .. } => self.no_channel(scope, *name, Role::Value),
+            Tree::Channel { name, .. } => Err(self.no_channel(scope, *name, Role::Value)),
             _ => Err(Stop::Reported),
         }
     }
@@ -77,7 +77,7 @@ impl<'t, 'a> Checker<'t, 'a> {
         let e = bare(e);
         self.count(span_of(e))?;
         if depth == 0 {
-            return self.fault(span_of(e), FaultKind::Limit(Limit::Depth));
+            return Err(self.fault(span_of(e), FaultKind::Limit(Limit::Depth)));
         }
         let value = self.made(frame, e, wanted, depth - 1)?;
         if let Some(wanted) = wanted {
@@ -142,7 +142,7 @@ impl<'t, 'a> Checker<'t, 'a> {
             (Primitive::Bool, Primitive::Int | Primitive::Byte) => Ok(Value { of: to, ..e }),
             (Primitive::Byte, Primitive::Int) => Ok(Value { of: to, ..e }),
             (Primitive::Int, Primitive::Byte) => Ok(low_byte(e, span)),
-            (from, to) => self.fault(span, FaultKind::Conversion { from, to }),
+            (from, to) => Err(self.fault(span, FaultKind::Conversion { from, to })),
         }
     }
 
@@ -199,7 +199,7 @@ impl<'t, 'a> Checker<'t, 'a> {
         span: Span,
     ) -> Result<Value, Stop> {
         if is_order(operator) && left.of == Primitive::Bool {
-            return self.fault(span, FaultKind::NoOrder);
+            return Err(self.fault(span, FaultKind::NoOrder));
         }
         Ok(of_two(operator, left, right, span))
     }
@@ -266,10 +266,10 @@ impl<'t, 'a> Checker<'t, 'a> {
             scope,
         } = entry.meaning
         else {
-            return self.not_a(name, entry, Role::Function);
+            return Err(self.not_a(name, entry, Role::Function));
         };
         if frame.calls == 0 {
-            return self.fault(name.span, FaultKind::Limit(Limit::Calls));
+            return Err(self.fault(name.span, FaultKind::Limit(Limit::Calls)));
         }
         self.check_count(name, entry, signature, count_of(arguments))?;
         let bound = self.bound(frame, signature, arguments, scope, depth)?;

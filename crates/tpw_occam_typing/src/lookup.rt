@@ -21,7 +21,7 @@ impl<'t, 'a> Checker<'t, 'a> {
                 name: name.text,
                 declared,
             };
-            return self.fault(name.span, kind);
+            return Err(self.fault(name.span, kind));
         }
         let near = match Keyword::in_capitals(name.text) {
             Some(keyword) => Some(keyword.spelling()),
@@ -31,18 +31,13 @@ impl<'t, 'a> Checker<'t, 'a> {
             name: name.text,
             near,
         };
-        self.fault(name.span, kind)
+        Err(self.fault(name.span, kind))
     }
 
     /// Reports that a name is used as what it is not, unless its declaration is wrong.
-    pub fn not_a<T>(
-        &mut self,
-        name: Name<'a>,
-        entry: Entry<'t, 'a>,
-        wanted: Role,
-    ) -> Result<T, Stop> {
+    pub fn not_a(&mut self, name: Name<'a>, entry: Entry<'t, 'a>, wanted: Role) -> Stop {
         let Some(found) = entry.meaning.sort() else {
-            return Err(Stop::Reported);
+            return Stop::Reported;
         };
         let kind = FaultKind::NotA {
             name: name.text,
@@ -67,7 +62,7 @@ impl<'t, 'a> Checker<'t, 'a> {
                 self.cells.read_array(storage);
                 Ok(computed(of, Root::Made))
             }
-            _ => self.not_a(name, entry, Role::Value),
+            _ => Err(self.not_a(name, entry, Role::Value)),
         }
     }
 
@@ -76,7 +71,7 @@ impl<'t, 'a> Checker<'t, 'a> {
         let entry = self.find(scope, name)?;
         match entry.meaning {
             Meaning::Array(view) => Ok(view),
-            _ => self.not_a(name, entry, Role::Array),
+            _ => Err(self.not_a(name, entry, Role::Array)),
         }
     }
 
@@ -85,7 +80,7 @@ impl<'t, 'a> Checker<'t, 'a> {
         let entry = self.find(scope, name)?;
         match entry.meaning {
             Meaning::Array(view) if view.access == Access::ReadAndWrite => Ok(view),
-            _ => self.not_a(name, entry, Role::WrittenArray),
+            _ => Err(self.not_a(name, entry, Role::WrittenArray)),
         }
     }
 
@@ -98,21 +93,18 @@ impl<'t, 'a> Checker<'t, 'a> {
         let entry = self.find(scope, name)?;
         match entry.meaning {
             Meaning::Channel { channel, protocol } => Ok((channel, protocol)),
-            _ => self.not_a(name, entry, Role::Channel),
+            _ => Err(self.not_a(name, entry, Role::Channel)),
         }
     }
 
     /// Reports a channel, with its direction, where something else is wanted.
-    pub(crate) fn no_channel<T>(
-        &mut self,
-        scope: Scope,
-        name: Name<'a>,
-        wanted: Role,
-    ) -> Result<T, Stop> {
-        let entry = self.find(scope, name)?;
-        match entry.meaning {
-            Meaning::Channel { .. } => self.not_a(name, entry, wanted),
-            _ => self.not_a(name, entry, Role::Channel),
+    pub(crate) fn no_channel(&mut self, scope: Scope, name: Name<'a>, wanted: Role) -> Stop {
+        match self.find(scope, name) {
+            Ok(entry) => match entry.meaning {
+                Meaning::Channel { .. } => self.not_a(name, entry, wanted),
+                _ => self.not_a(name, entry, Role::Channel),
+            },
+            Err(stop) => stop,
         }
     }
 
@@ -136,7 +128,7 @@ impl<'t, 'a> Checker<'t, 'a> {
                 let view = self.view_of(scope, name)?;
                 Ok(constant(Primitive::Int, view.elements))
             }
-            None => self.fault(span_of(operand), FaultKind::ArrayWanted),
+            None => Err(self.fault(span_of(operand), FaultKind::ArrayWanted)),
         }
     }
 }

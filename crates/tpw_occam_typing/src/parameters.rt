@@ -19,7 +19,7 @@ impl<'t, 'a> Checker<'t, 'a> {
         if matches!(size_of(of), Size::One) {
             return match of.of {
                 Primitive::Int => Ok(Protocol::Value),
-                _ => self.fault(span, FaultKind::Protocol),
+                _ => Err(self.fault(span, FaultKind::Protocol)),
             };
         }
         let shape = self.shape(frame, of, span)?;
@@ -28,7 +28,7 @@ impl<'t, 'a> Checker<'t, 'a> {
                 kind: shape.kind,
                 elements,
             }),
-            _ => self.fault(span, FaultKind::Protocol),
+            _ => Err(self.fault(span, FaultKind::Protocol)),
         }
     }
 

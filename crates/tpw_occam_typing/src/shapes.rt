@@ -18,7 +18,7 @@ impl<'t, 'a> Checker<'t, 'a> {
             Ok(word)
         } else {
             let elements = i64::from(word.cast_signed());
-            self.fault(span, FaultKind::ArraySize { elements })
+            Err(self.fault(span, FaultKind::ArraySize { elements }))
         }
     }
 
@@ -26,7 +26,7 @@ impl<'t, 'a> Checker<'t, 'a> {
     pub fn kind_of(&mut self, of: Primitive, span: Span) -> Result<Kind, Stop> {
         match element_kind(of) {
             Some(kind) => Ok(kind),
-            None => self.fault(span, FaultKind::BoolElements),
+            None => Err(self.fault(span, FaultKind::BoolElements)),
         }
     }
 
@@ -34,8 +34,11 @@ impl<'t, 'a> Checker<'t, 'a> {
     pub fn shape(&mut self, frame: Frame, of: &'t Type<'a>, span: Span) -> Result<Shape, Stop> {
         let kind = self.kind_of(of.of, span)?;
         match size_of(of) {
-            Size::One => self.fault(span, FaultKind::ArrayWanted),
-            Size::Several => self.fault(span, FaultKind::Syntax(Misread::Wanted(Wanted::Type))),
+            Size::One => Err(self.fault(span, FaultKind::ArrayWanted)),
+            Size::Several => Err(self.fault(
+                span,
+                FaultKind::Syntax(Misread::Wanted(Wanted::Type)),
+            )),
             Size::Open => Ok(Shape {
                 kind,
                 elements: None,
@@ -58,12 +61,12 @@ impl<'t, 'a> Checker<'t, 'a> {
                 wanted: element_type(shape.kind),
                 found: element_type(view.kind),
             };
-            return self.fault(span, kind);
+            return Err(self.fault(span, kind));
         }
         match shape.elements {
             Some(wanted) if wanted != view.elements => {
                 let found = view.elements;
-                self.fault(span, FaultKind::Size { wanted, found })
+                Err(self.fault(span, FaultKind::Size { wanted, found }))
             }
             _ => Ok(view),
         }

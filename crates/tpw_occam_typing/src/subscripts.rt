@@ -30,7 +30,7 @@ impl<'t, 'a> Checker<'t, 'a> {
     pub fn array_name(&mut self, array: &Tree<'a>) -> Result<Name<'a>, Stop> {
         match name_alone(array) {
             Some(name) => Ok(name),
-            None => self.fault(span_of(array), FaultKind::ArrayWanted),
+            None => Err(self.fault(span_of(array), FaultKind::ArrayWanted)),
         }
     }
 
@@ -51,7 +51,7 @@ impl<'t, 'a> Checker<'t, 'a> {
         }
         let (name, at, elements) = (name.text, word.cast_signed(), view.elements);
         if self.per_call.point() == place.before {
-            return self.fault(place.span, FaultKind::Subscript { name, at, elements });
+            return Err(self.fault(place.span, FaultKind::Subscript { name, at, elements }));
         }
         let kind = NoteKind::Subscript { name, at, elements };
         Ok(self.findings.note(place.span, kind)?)

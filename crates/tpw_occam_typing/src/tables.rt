@@ -116,8 +116,8 @@ impl<'t, 'a> Checker<'t, 'a> {
                 let view = self.table(shape.kind, bytes, *span)?;
                 self.of_shape(view, shape, *span)
             }
-            Tree::Channel { name, .. } => self.no_channel(frame.scope, *name, Role::Array),
-            other => self.fault(span_of(other), FaultKind::ArrayWanted),
+            Tree::Channel { name, .. } => Err(self.no_channel(frame.scope, *name, Role::Array)),
+            other => Err(self.fault(span_of(other), FaultKind::ArrayWanted)),
         }
     }
 }
