@@ -142,6 +142,12 @@ def parameters():
            declared=['INT FUNCTION first (VAL INT a, VAL INT b) IS a:'])
     worker('sizes of open arrays', ['r := (count (p) TIMES 100) PLUS count ([1, 2, 3, 4, 5])'], pairs()[:2],
            declared=['INT FUNCTION count (VAL []INT a) IS SIZE a:'])
+    worker('the arguments of a PROC', ['put (p[0], p[1])', 'r := y'], pairs(),
+           declared=['INT y:', 'PROC put (VAL INT a, VAL INT b)', '  y := a MINUS (b TIMES 3)', ':'])
+    worker('a value in a process is one', ['x := p[0]', 'VAL INT v IS x:', 'SEQ', '  x := p[1]', '  r := (v TIMES 3) PLUS x'], pairs(),
+           declared=['INT x:'])
+    worker('a variable that hides another', ['x := p[0]', 'INT x:', 'SEQ', '  x := p[1]', '  r := x', 'r := (r TIMES 3) PLUS x'], pairs(),
+           declared=['INT x:'])
     worker('names of where it is declared', ['p[0] := f (p[1])', 'r := p[0]'], pairs(),
            declared=['VAL INT n IS 3:', 'INT FUNCTION f (VAL INT x) IS x PLUS n:', 'VAL INT n IS 4:'])
     worker('names of where a PROC is declared', ['put (p[1])', 'r := y'], pairs()[::3],
