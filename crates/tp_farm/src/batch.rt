@@ -20,7 +20,7 @@ use crate::gate::Gate;
 use crate::gathering::{MemberResults, gather_all, take_hands};
 use crate::job::Job;
 use crate::members::run_members;
-use crate::worker::{Returned, Shared};
+use crate::thread::{Returned, Shared};
 use std::alloc::{AllocError, Global};
 use std::sync::Wait;
 use std::thread::Threads;

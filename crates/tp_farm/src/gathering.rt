@@ -10,7 +10,7 @@ ghost use Rattle.tp_farm.specs.MemberResults.{member_results, filings_of};
 
 use crate::fault::FarmFault;
 use crate::member::{End, Filed};
-use crate::worker::Returned;
+use crate::thread::Returned;
 use tp_collect::Collector;
 use tp_link::{LinkDevice, Links};
 use tp_stream::StreamHand;

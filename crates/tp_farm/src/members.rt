@@ -11,7 +11,7 @@ ghost use Rattle.tp_farm.specs.Working.{IsSet, IsFresh, HasWorkedOn, HaveWorkedO
 
 use crate::fault::FarmFault;
 use crate::gate::Gate;
-use crate::worker::{Returned, Shared, work_as};
+use crate::thread::{Returned, Shared, work_as};
 use std::alloc::{AllocError, Global};
 use std::snapshot::Snapshot;
 use std::sync::Wait;

@@ -5,7 +5,7 @@ use Rattle.std.proofs.Common.{refl, ap, sym, ◌∙◌, arith, length-append}
 use Rattle.std.proofs.lemmas.Option.{same_Some}
 use Rattle.std.proofs.lemmas.Int.{ints}
 use Rattle.std.proofs.lemmas.Bool.Decides.{nat_tests}
-use Rattle.tp_prefix.specs.Words.{signed}
+use Rattle.tp_words.specs.Words.{signed}
 use Rattle.tp_prefix.specs.Spelling.{digit_of, is_pfix, is_nfix, is_prefix, shifted, shifted_complement, spelled, IsSpelling}
 use Rattle.tp_prefix.specs.Canonical.{natural_spelling, canonical}
 use Rattle.tp_prefix.proofs.SpellingLemmas.{last_byte}

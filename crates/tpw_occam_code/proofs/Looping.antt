@@ -8,8 +8,8 @@ use Rattle.std.proofs.lemmas.Bool.Decides.{nat_tests}
 use Rattle.std.proofs.lemmas.Int.{ints}
 use Rattle.std.proofs.lemmas.Nat.{from_le_bytes-to_le_bytes_4}
 use Rattle.tp_state.proofs.WordLemmas.{signed_low, signed_low_word, low_word_alike, low_word_lt, unsigned_is}
-use Rattle.tp_decode.specs.Words.{signed, low_word}
-use Rattle.tp_step.specs.Numbers.{overflows}
+use Rattle.tp_words.specs.Words.{signed, low_word}
+use Rattle.tp_words.specs.Numbers.{overflows}
 use Rattle.tp_decode.specs.declared.instr.Instr.TheVariants.{Lend}
 use Rattle.tpw_occam_core.specs.declared.worker.Storage.{Storage}
 use Rattle.tpw_occam_core.specs.declared.scope.Entry.{Entry}

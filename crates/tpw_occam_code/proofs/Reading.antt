@@ -10,8 +10,8 @@ use Rattle.tpw_occam_core.specs.declared.expression.Expression.TheVariants.{Cons
 use Rattle.tpw_occam_core.specs.declared.process.Target.{Target}
 use Rattle.tpw_occam_core.specs.declared.process.Target.TheVariants as target
 use Rattle.tpw_occam_core.specs.declared.process.Assignment.{Assignment}
-use Rattle.tp_decode.specs.Words.{complement}
-use Rattle.tp_step.specs.Numbers.{truth}
+use Rattle.tp_words.specs.Words.{complement}
+use Rattle.tp_words.specs.Numbers.{truth}
 use Rattle.tpw_occam_core.specs.Arithmetic.{answer, plain, subscript, low_byte, applied}
 use Rattle.tpw_occam_core.specs.Arrays.{size}
 use Rattle.tpw_occam_core.specs.Meaning.{Store, value_of, followed, element_at, both, either, array_of, with_value, subscript_of, stored, flagged, assigned}

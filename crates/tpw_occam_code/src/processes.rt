@@ -1,7 +1,7 @@
 //! Code of processes. No register is in use between processes, and no word is kept.
 
 ghost use Rattle.std.specs.Prelude.{◌≡◌, ◌≤◌, ◌*◌, ◌^◌, ◌<◌, ℕ, pos, ◌+ℤ◌, ◌-ℤ◌, ◌≤ℤ◌, OnOk};
-ghost use Rattle.tp_decode.specs.Words.{signed};
+ghost use Rattle.tp_words.specs.Words.{signed};
 ghost use Rattle.tpw_occam_expressions.specs.Ranges.{Contains};
 ghost use Rattle.std.specs.Global.{Global};
 ghost use Rattle.tpw_occam_core.specs.declared.expression.Expression.TheVariants as expression;

@@ -1,5 +1,5 @@
 //! What operators make of words.
-#![tactic(auto, using(tp_outcome::proofs::Casts::casts))]
+#![tactic(auto, using(tp_words::proofs::Casts::casts))]
 
 ghost use Rattle.std.specs.Prelude.{◌≡◌};
 ghost use Rattle.tpw_occam_core.specs.Arithmetic.{answer, plain, subscript, quotient_answer, shifted_left};
@@ -7,7 +7,7 @@ ghost use Rattle.tpw_occam_core.specs.Arithmetic.{shifted_right, applied, low_by
 ghost use Rattle.tpw_occam_core.specs.Meaning.{followed};
 
 use crate::expression::Operator;
-use tp_outcome::words::{
+use tp_words::{
     checked_difference, checked_product, checked_sum, difference, is_less, quotient, remainder, sum,
 };
 

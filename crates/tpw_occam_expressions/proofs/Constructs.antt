@@ -6,7 +6,7 @@ use Rattle.std.specs.Option.{option_map_or}
 use Rattle.std.proofs.Math.Bool.{or-false}
 use Rattle.std.proofs.Math.Pow.{mod-mod-pow}
 use Rattle.std.proofs.lemmas.Bool.{cases_lt, lt-ltb, le-ltb, eqb-true}
-use Rattle.tp_decode.specs.Words.{complement}
+use Rattle.tp_words.specs.Words.{complement}
 use Rattle.tp_decode.specs.declared.instr.Instr.TheVariants.{BitNot}
 use Rattle.tpw_occam_core.specs.declared.arithmetic.Answer.{Answer}
 use Rattle.tpw_occam_core.specs.declared.worker.Storage.{Storage}
@@ -19,8 +19,8 @@ use Rattle.tpw_occam_core.specs.declared.expression.Expression.TheVariants.{Cons
 use Rattle.std.proofs.lemmas.Int.{ints, to_z_pos}
 use Rattle.std.proofs.lemmas.Bool.Decides.{nat_tests}
 use Rattle.std.specs.Prelude.{◌+ℤ◌}
-use Rattle.tp_decode.specs.Words.{signed}
-use Rattle.tp_step.specs.Numbers.{overflows}
+use Rattle.tp_words.specs.Words.{signed}
+use Rattle.tp_words.specs.Numbers.{overflows}
 use Rattle.tpw_occam_core.specs.declared.expression.Operator.TheVariants as operators
 use Rattle.tpw_occam_core.specs.Arithmetic.{answer, plain, checked, wrapped, applied, subscript, low_byte}
 use Rattle.tpw_occam_core.specs.Arrays.{size, element}

@@ -4,9 +4,9 @@ use Rattle.std.specs.Prelude.{◌||◌, pos, ◌-ℤ◌}
 use Rattle.std.proofs.Math.Bool.{or-false}
 use Rattle.std.proofs.lemmas.Bool.Decides.{nat_tests}
 use Rattle.tp_state.proofs.WordLemmas.{low_word_lt}
-use Rattle.tp_decode.specs.Words.{low_word}
+use Rattle.tp_words.specs.Words.{low_word}
 use Rattle.tp_decode.specs.declared.instr.Instr.TheVariants.{Diff}
-use Rattle.tp_step.specs.Numbers.{truth}
+use Rattle.tp_words.specs.Numbers.{truth}
 use Rattle.tpw_occam_core.specs.declared.expression.Operator.{Operator}
 use Rattle.tpw_occam_core.specs.declared.expression.Operator.TheVariants as operators
 use Rattle.tpw_occam_core.specs.declared.expression.Expression.{Expression}

@@ -9,7 +9,7 @@ use Rattle.std.proofs.lemmas.Bool.Decides.{nat_tests, Decides-int_eq}
 use Rattle.std.proofs.Math.Pow.{mod-mod-pow}
 use Rattle.std.proofs.lemmas.Nat.{and_mask}
 use Rattle.tpw_occam_expressions.specs.Ranges.{from_to, Contains}
-use Rattle.tp_decode.specs.Words.{signed}
+use Rattle.tp_words.specs.Words.{signed}
 use Rattle.tpw_occam_core.specs.declared.expression.Operator.TheVariants.{Remainder}
 use Rattle.tpw_occam_core.specs.Arithmetic.{answer, plain, applied, subscript, divided}
 

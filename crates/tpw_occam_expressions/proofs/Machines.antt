@@ -11,8 +11,8 @@ use Rattle.tpw_occam_expressions.specs.Values.{HasOperands, HasNumber, answered,
 use Rattle.tpw_occam_core.specs.Arithmetic.{plain, applied}
 use Rattle.tpw_occam_core.specs.declared.expression.Operator.{Operator}
 use Rattle.tpw_occam_core.specs.declared.expression.Operator.TheVariants as operator
-use Rattle.tp_step.specs.Numbers.{truth}
-use Rattle.tp_decode.specs.Words.{signed}
+use Rattle.tp_words.specs.Numbers.{truth}
+use Rattle.tp_words.specs.Words.{signed}
 use Rattle.std.specs.Ordering.{int_eq}
 use Rattle.std.specs.Prelude.{ℤ, pos, ◌^◌}
 use Rattle.tpw_occam_symbolic.proofs.Leading.{does_step, makes_both}

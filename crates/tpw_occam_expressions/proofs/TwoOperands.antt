@@ -21,8 +21,8 @@ use Rattle.std.proofs.Math.IntN.{+ℤ_comm, *ℤ_comm}
 use Rattle.std.proofs.lemmas.Nat.{and_comm, or_comm as bits_or_comm, xor_comm}
 use Rattle.std.proofs.Common.{nat_eq}
 use Rattle.std.proofs.lemmas.Bool.Decides.{nat_tests}
-use Rattle.tp_decode.specs.Words.{signed, low_word}
-use Rattle.tp_step.specs.Numbers.{truth}
+use Rattle.tp_words.specs.Words.{signed, low_word}
+use Rattle.tp_words.specs.Numbers.{truth}
 use Rattle.tpw_occam_core.specs.declared.expression.Operator.TheVariants as operators
 use Rattle.tpw_occam_core.specs.Arithmetic.{answer, plain, checked, wrapped, applied, subscript}
 use Rattle.tpw_occam_core.specs.Meaning.{Store, followed, value_of}

@@ -16,7 +16,7 @@ use Rattle.tpw_occam_core.specs.declared.expression.Expression.{Expression}
 use Rattle.tpw_occam_core.specs.declared.expression.Expression.TheVariants.{Constant, Variable, Element', Checked'}
 use Rattle.tpw_occam_core.specs.declared.expression.Expression.TheVariants.{Binary', Complement', Not', LowByte', And'}
 use Rattle.tpw_occam_core.specs.declared.expression.Expression.TheVariants.{Or', Let'}
-use Rattle.tp_step.specs.Numbers.{truth}
+use Rattle.tp_words.specs.Numbers.{truth}
 use Rattle.tpw_occam_core.specs.Arithmetic.{plain, subscript, applied}
 use Rattle.tpw_occam_core.specs.Meaning.{Store, value_of, followed, with_value}
 use Rattle.tpw_occam_expressions.specs.Ranges.{from_to, Contains, ContainsAllOf}

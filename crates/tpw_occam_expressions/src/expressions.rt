@@ -6,7 +6,7 @@
 ghost use Rattle.std.specs.Prelude.{◌≡◌, ◌≤◌, ℕ, ◌+◌, IfOk, OnOk, IfSome};
 ghost use Rattle.tpw_occam_core.specs.declared.expression.Expression.TheVariants as expression;
 ghost use Rattle.tpw_occam_expressions.specs.declared.emitter.Fact.{Fact};
-ghost use Rattle.tp_decode.specs.Words.{complement};
+ghost use Rattle.tp_words.specs.Words.{complement};
 ghost use Rattle.tpw_occam_expressions.specs.Agreement.{with_fact};
 ghost use Rattle.tpw_occam_expressions.specs.Values.{Holds};
 ghost use Rattle.tpw_occam_expressions.specs.Computing.{Binds, ComputesBinding, Computes, ComputesTo, IsKnown, IsKnownOf};

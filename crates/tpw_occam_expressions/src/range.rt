@@ -6,7 +6,7 @@
 ghost use Rattle.std.specs.Prelude.{◌≡◌, ◌≢◌, ℕ, ◌<◌, ◌≤◌, ◌^◌, ◌↔◌, IsTrue, IfSome, FitsSigned};
 ghost use Rattle.std.specs.Prelude.{pos, negsuc, ◌≤ℤ◌, ◌+ℤ◌, ◌-ℤ◌, ◌*ℤ◌};
 ghost use Rattle.std.specs.Int.{w32, int_min, int_max};
-ghost use Rattle.tp_decode.specs.Words.{signed, complement};
+ghost use Rattle.tp_words.specs.Words.{signed, complement};
 ghost use Rattle.tpw_occam_expressions.specs.Ranges.{from_to, full, between, hull, Contains, ContainsAllOf, ContainsResults};
 ghost use Rattle.tpw_occam_expressions.specs.Ranges.{AreWords, AlwaysFits, TwinsAgree};
 

@@ -7,7 +7,7 @@ ghost use Rattle.tpw_occam_interpreter.specs.Memories.{state_in};
 
 use crate::arrays::element_at;
 use crate::memory::{Cells, bytes, word};
-use tp_outcome::words::complement;
+use tp_words::complement;
 use tpw_occam_core::{Answer, applied, checked_subscript, followed, low_byte, plain};
 use tpw_occam_scoped::Expression;
 

@@ -1,17 +1,17 @@
 //! What operators make of values.
 
 ghost use Rattle.std.specs.Prelude.{◌≡◌, int_le};
-ghost use Rattle.tp_decode.specs.Words.{signed};
-ghost use Rattle.tp_step.specs.Numbers.{truth};
+ghost use Rattle.tp_words.specs.Words.{signed};
+ghost use Rattle.tp_words.specs.Numbers.{truth};
 ghost use Rattle.tpw_occam_core.specs.Meaning as core;
 ghost use Rattle.tpw_occam_meaning.specs.Values as text;
 
-use tp_outcome::words::{complement, difference, is_less, is_positive};
+use tp_words::{complement, difference, is_less, is_positive};
 use tpw_occam_core::{Answer, Operator, applied, followed, plain};
 use tpw_occam_meaning::{Dyadic, Monadic};
 
 /// Whether a word is at most another, both read signed, as a word.
-#[tactic(auto, using(tp_outcome::proofs::Casts::casts))]
+#[tactic(auto, using(tp_words::proofs::Casts::casts))]
 fn is_at_most(a: u32, b: u32) -> u32
     ensures { result ≡ truth (int_le (signed a) (signed b)) }
 {

@@ -19,8 +19,8 @@ use Rattle.tpw_occam_core.specs.declared.worker.Place.{Place}
 use Rattle.tpw_occam_core.specs.declared.worker.Place.TheVariants as place
 use Rattle.tpw_occam_core.specs.declared.worker.Storage.{Storage}
 use Rattle.tpw_occam_core.specs.declared.worker.Storage.TheVariants.{Zeros, Table}
-use Rattle.tp_decode.specs.Words.{complement}
-use Rattle.tp_step.specs.Numbers.{truth}
+use Rattle.tp_words.specs.Words.{complement}
+use Rattle.tp_words.specs.Numbers.{truth}
 use Rattle.tpw_occam_core.specs.Arithmetic.{plain, subscript, low_byte, applied}
 use Rattle.tpw_occam_core.specs.Arrays.{element}
 use Rattle.tpw_occam_core.specs.Meaning.{Store, with_value, with_array, first_bytes, most_traced, received, followed, both, either, element_at}

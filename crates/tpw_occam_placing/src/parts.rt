@@ -1,8 +1,8 @@
 //! Expressions of a worker, built of their parts. Each contract says what is built, by what the parts mean.
 
 ghost use Rattle.std.specs.Prelude.{◌≡◌, ◌==◌, IfOk};
-ghost use Rattle.tp_decode.specs.Words.{complement};
-ghost use Rattle.tp_step.specs.Numbers.{truth};
+ghost use Rattle.tp_words.specs.Words.{complement};
+ghost use Rattle.tp_words.specs.Numbers.{truth};
 ghost use Rattle.tpw_occam_core.specs.Arithmetic.{plain, subscript, low_byte, applied};
 ghost use Rattle.tpw_occam_core.specs.Meaning.{Store, value_of, followed, both, either, element_at, array_of, with_value};
 

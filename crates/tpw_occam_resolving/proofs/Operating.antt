@@ -1,8 +1,8 @@
 -- What is made of operators that the core lacks.
 use Rattle.std.proofs.Common.{◌≡◌, ℕ, ◌==◌, Bool, true, false, not, ◌||◌, ℤ, pos, negsuc, ◌-ℤ◌, int_lt, int_le, refl, sym, ap, ◌∙◌, arith}
 use Rattle.std.proofs.lemmas.Bool.Decides.{nat_tests}
-use Rattle.tp_decode.specs.Words.{signed, low_word}
-use Rattle.tp_step.specs.Numbers.{truth}
+use Rattle.tp_words.specs.Words.{signed, low_word}
+use Rattle.tp_words.specs.Numbers.{truth}
 use Rattle.tpw_occam_core.specs.declared.arithmetic.Answer.{Answer}
 use Rattle.tpw_occam_core.specs.declared.expression.Operator.TheVariants.{Minus, Equal, Greater}
 use Rattle.tpw_occam_core.specs.Arithmetic.{answer, plain, applied}

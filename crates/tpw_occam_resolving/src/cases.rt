@@ -2,7 +2,7 @@
 
 ghost use Rattle.std.specs.Prelude.{◌≡◌, ◌==◌, true, not, Some, IfOk};
 ghost use Rattle.std.specs.List.{list_any};
-ghost use Rattle.tp_step.specs.Numbers.{truth};
+ghost use Rattle.tp_words.specs.Numbers.{truth};
 ghost use Rattle.tpw_occam_core.specs.Arithmetic.{plain};
 ghost use Rattle.tpw_occam_meaning.specs.Effects.{selected_by};
 ghost use Rattle.tpw_occam_meaning.specs.Expressions.{type_of};

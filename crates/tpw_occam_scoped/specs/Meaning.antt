@@ -1,8 +1,8 @@
 -- What a scoped core does to the state, on which a text means what it does too.
 use Rattle.std.specs.Prelude.{ℕ, Bool, false, true, not, ◌||◌, ◌==◌, List, [], ◌∷◌, replicate, Option}
 use Rattle.std.specs.Int.{w32, to_le_bytes}
-use Rattle.tp_decode.specs.Words.{complement}
-use Rattle.tp_step.specs.Numbers.{truth}
+use Rattle.tp_words.specs.Words.{complement}
+use Rattle.tp_words.specs.Numbers.{truth}
 use Rattle.tpw_occam_core.specs.declared.arithmetic.Answer.{Answer}
 use Rattle.tpw_occam_core.specs.declared.kind.Kind.TheVariants.{Word}
 use Rattle.tpw_occam_core.specs.Arithmetic.{plain, subscript, low_byte, applied}

@@ -1,8 +1,8 @@
 //! Expressions, built of their parts. Each contract says what value is built, by those of the parts, in each state.
 
 ghost use Rattle.std.specs.Prelude.{◌≡◌, ◌==◌, IfOk};
-ghost use Rattle.tp_decode.specs.Words.{complement};
-ghost use Rattle.tp_step.specs.Numbers.{truth};
+ghost use Rattle.tp_words.specs.Words.{complement};
+ghost use Rattle.tp_words.specs.Numbers.{truth};
 ghost use Rattle.tpw_occam_core.specs.Arithmetic.{plain, subscript, low_byte, applied};
 ghost use Rattle.tpw_occam_core.specs.Meaning.{followed, both, either, element_at};
 ghost use Rattle.tpw_occam_meaning.specs.States.{with_cell};

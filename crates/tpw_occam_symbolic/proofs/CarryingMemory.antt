@@ -4,11 +4,11 @@ use Rattle.std.proofs.Common.{ℤ, pos, List, [], ◌∷◌, length, Option, Som
 use Rattle.std.specs.Prelude.{option_and_then, ◌+ℤ◌}
 use Rattle.std.proofs.lemmas.Bool.Decides.{nat_tests}
 use Rattle.std.proofs.lemmas.Option.{same_Some}
-use Rattle.tp_decode.specs.Words.{low_word}
+use Rattle.tp_words.specs.Words.{low_word}
 use Rattle.tp_decode.specs.declared.instr.Instr.TheVariants.{Ldl, Stl, Ldlp, Ldnl, Stnl, Lb, Sb, Bsub, Wsub, MoveBytes}
 use Rattle.tp_image.specs.Image.{ImageValue}
 use Rattle.tp_step.specs.Maybe.{◌>>◌, only_if}
-use Rattle.tp_step.specs.Numbers.{words_on}
+use Rattle.tp_words.specs.Numbers.{words_on}
 use Rattle.tp_step.specs.Memory.{undefined, with_bytes as with_bytes_at, bytes_at as bytes_from, word_at as word_from, with_word as with_word_at}
 use Rattle.tp_step.specs.State.{State, is_word, in_workspace, local, load, store, descheduled, no_registers, replace_pair as replace_pair_in, push as push_in, pop as pop_in, pop_two as pop_two_in, set_areg as set_areg_in}
 use Rattle.tp_step.specs.Effects.{effect as effect_in, has_move, may_move}

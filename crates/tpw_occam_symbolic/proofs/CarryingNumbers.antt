@@ -5,13 +5,13 @@ use Rattle.std.specs.Prelude.{int_div, int_rem, ◌+ℤ◌}
 use Rattle.std.specs.Ordering.{int_eq}
 use Rattle.std.proofs.Math.Bool.{or-false}
 use Rattle.std.proofs.lemmas.Option.{same_Some}
-use Rattle.tp_decode.specs.Words.{signed, low_word, complement}
+use Rattle.tp_words.specs.Words.{signed, low_word, complement}
 use Rattle.tp_decode.specs.declared.instr.Instr.{Instr}
 use Rattle.tp_decode.specs.declared.instr.Instr.TheVariants.{Ldc, Adc, Eqc, Rev, Diff, Add, Prod, Gt, Sub, Seterr, Csub0, Rem}
 use Rattle.tp_decode.specs.declared.instr.Instr.TheVariants.{Div, BitNot, BitXor, Shr, Shl, BitAnd, BitOr, Sum, Mul}
 use Rattle.tp_image.specs.Image.{ImageValue}
 use Rattle.tp_step.specs.Maybe.{◌>>=◌, ◌>>◌, only_if}
-use Rattle.tp_step.specs.Numbers.{least_integer, minus_one, overflows, truth}
+use Rattle.tp_words.specs.Numbers.{least_integer, minus_one, overflows, truth}
 use Rattle.tp_step.specs.State.{State, replace_pair as replace_pair_in, push as push_in, pop as pop_in, set_areg as set_areg_in}
 use Rattle.tp_step.specs.Effects.{effect as effect_in, divided as divided_in, is_shift_count}
 use Rattle.tpw_occam_core.specs.declared.arithmetic.Answer.{Answer}

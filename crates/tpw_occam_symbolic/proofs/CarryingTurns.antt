@@ -5,11 +5,11 @@ use Rattle.std.specs.Prelude.{◌+ℤ◌, ◌-ℤ◌, int_lt}
 use Rattle.std.proofs.lemmas.Bool.Decides.{nat_tests}
 use Rattle.std.proofs.lemmas.Int.{to_z_pos}
 use Rattle.std.proofs.lemmas.Option.{same_Some}
-use Rattle.tp_decode.specs.Words.{signed, low_word}
+use Rattle.tp_words.specs.Words.{signed, low_word}
 use Rattle.tp_decode.specs.declared.instr.Instr.TheVariants.{Lend}
 use Rattle.tp_image.specs.Image.{ImageValue}
 use Rattle.tp_step.specs.Maybe.{◌>>=◌}
-use Rattle.tp_step.specs.Numbers.{words_on}
+use Rattle.tp_words.specs.Numbers.{words_on}
 use Rattle.tp_step.specs.Memory.{undefined, with_word as with_word_at}
 use Rattle.tp_step.specs.State.{State, load, store, descheduled, no_registers}
 use Rattle.tp_step.specs.Effects.{effect as effect_in, go, turn_ended as turn_ended_in}

@@ -3,7 +3,7 @@ use Rattle.std.specs.Prelude.{◌≡◌, ℕ, ◌+◌, ◌*◌, ◌<◌, ◌≤�
 use Rattle.std.specs.Prelude.{slice_index_or, None, IsTrue, pos, ◌+ℤ◌, ◌-ℤ◌, ◌≤ℤ◌}
 use Rattle.std.specs.Int.{w32, to_le_bytes}
 use mir.Val.{SFits}
-use Rattle.tp_decode.specs.Words.{signed}
+use Rattle.tp_words.specs.Words.{signed}
 use Rattle.tp_decode.specs.Table.{entry}
 use Rattle.tp_flow.specs.Limits.{most_turns, greatest_index}
 use Rattle.tpw_asm.specs.declared.program.Spot.TheVariants.{Place}

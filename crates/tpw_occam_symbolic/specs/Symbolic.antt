@@ -8,14 +8,14 @@ use Rattle.std.specs.Prelude.{if◌then◌else◌, pos, ◌+ℤ◌, ◌-ℤ◌, 
 use Rattle.std.specs.Prelude.{slice_get}
 use Rattle.std.specs.Prelude.{Option, Some, None}
 use Rattle.std.specs.Ordering.{int_eq}
-use Rattle.tp_decode.specs.Words.{signed, low_word, complement}
+use Rattle.tp_words.specs.Words.{signed, low_word, complement}
 use Rattle.tp_decode.specs.declared.instr.Instr.{Instr}
 use Rattle.tp_decode.specs.declared.instr.Instr.TheVariants.{Ldnl, Ldc, Adc, Eqc, Stnl, Rev, Lb, Bsub, Diff, Add, Input}
 use Rattle.tp_decode.specs.declared.instr.Instr.TheVariants.{Prod, Gt, Wsub, Output, Sub, Seterr, Csub0, Stopp, Rem}
 use Rattle.tp_decode.specs.declared.instr.Instr.TheVariants.{Lend, Div, BitNot, BitXor, Sb, Shr, Shl, BitAnd, MoveBytes}
 use Rattle.tp_decode.specs.declared.instr.Instr.TheVariants.{BitOr, Sum, Mul}
 use Rattle.tp_step.specs.Maybe.{◌>>=◌, ◌>>◌, only_if}
-use Rattle.tp_step.specs.Numbers.{truth}
+use Rattle.tp_words.specs.Numbers.{truth}
 use Rattle.tp_step.specs.Effects.{link0_output, link1_output, link0_input}
 use Rattle.tpw_occam_core.specs.declared.arithmetic.Answer.{Answer}
 use Rattle.tpw_occam_core.specs.declared.expression.Operator.TheVariants as operator

@@ -1,6 +1,6 @@
 use Rattle.std.proofs.Common.{◌==◌, ◌∙◌}
 use Rattle.std.proofs.lemmas.Result.{IfOk-weaker}
-use Rattle.tp_step.specs.Numbers.{truth}
+use Rattle.tp_words.specs.Numbers.{truth}
 use Rattle.tpw_occam_core.specs.Arithmetic.{plain}
 use Rattle.tpw_occam_core.specs.Meaning.{followed}
 use Rattle.tpw_occam_scoped.specs.Meaning.{value_of}

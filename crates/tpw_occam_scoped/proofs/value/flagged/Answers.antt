@@ -1,6 +1,6 @@
 use Rattle.std.proofs.Common.{◌≡◌, ℕ, ◌+◌, ◌<◌, ◌^◌, true, pos, ◌+ℤ◌, ◌∙◌, arith}
 use Rattle.std.proofs.lemmas.Result.{IfOk-weaker}
-use Rattle.tp_decode.specs.Words.{low_word}
+use Rattle.tp_words.specs.Words.{low_word}
 use Rattle.tpw_occam_core.specs.declared.expression.Operator.TheVariants.{Plus}
 use Rattle.tpw_occam_core.specs.Arithmetic.{answer, plain, applied}
 use Rattle.tpw_occam_core.specs.Meaning.{followed}

@@ -1,12 +1,11 @@
-//! Arithmetic on words.
+//! Arithmetic on words: numbers below 2^32, read unsigned as they are and signed in two's complement.
 #![tactic(auto, using(crate::proofs::Casts::casts))]
 
 ghost use Rattle.std.specs.Prelude.{◌≡◌, ◌*◌, ◌%◌, ◌/◌, ◌^◌, ◌<◌, ◌||◌, ◌&&◌, ◌+ℤ◌, ◌-ℤ◌, ◌*ℤ◌, pos, negsuc, int_lt};
 ghost use Rattle.std.specs.Prelude.{int_div, int_rem, if◌then◌else◌, Some, None};
 ghost use Rattle.std.specs.Ordering.{int_eq};
-ghost use Rattle.tp_decode.specs.Words.{signed, low_word, complement};
-ghost use Rattle.tp_decode.specs.Spelling.{shifted, shifted_complement};
-ghost use Rattle.tp_step.specs.Numbers.{overflows, words_on, truth, least_integer, minus_one};
+ghost use Rattle.tp_words.specs.Words.{signed, low_word, complement};
+ghost use Rattle.tp_words.specs.Numbers.{overflows, words_on, truth, least_integer, minus_one};
 
 /// The low 32 bits of a sum, and whether it overflows, read signed.
 #[inline(always)]
@@ -142,22 +141,4 @@ pub fn is_equal(a: u32, b: u32) -> u32
     ensures { result ≡ truth (int_eq (signed a) (signed b)) }
 {
     u32::from(a.cast_signed() == b.cast_signed())
-}
-
-/// What pfix makes of Oreg.
-#[inline(always)]
-pub fn shifted(oreg: u32) -> u32
-    ensures value { result ≡ shifted oreg }
-    ensures shifted { result % 16 ≡ 0 }
-{
-    oreg.wrapping_mul(16)
-}
-
-/// What nfix makes of Oreg.
-#[inline(always)]
-pub fn shifted_complement(oreg: u32) -> u32
-    ensures value { result ≡ shifted_complement oreg }
-    ensures shifted { result % 16 ≡ 0 }
-{
-    (!oreg).wrapping_mul(16)
 }

@@ -1,8 +1,8 @@
 use Rattle.std.proofs.Common.{◌≡◌, ◌∙◌, ◌*ℤ◌, ◌^◌, ◌%◌, ℤ, pos, negsuc, ap, arith, rules, SFits, w32, to_z-of_z}
 use Rattle.std.specs.Int.{cast_unsigned, int_wrap}
 use Rattle.std.proofs.lemmas.Int.{wrapping_mul_is, SFits-int_wrap, of_z-to_z}
-use Rattle.tp_decode.specs.Words.{signed, low_word}
-use Rattle.tp_outcome.proofs.words.checked_product.Goals as goal
+use Rattle.tp_words.specs.Words.{signed, low_word}
+use Rattle.tp_words.proofs.checked_product.Goals as goal
 
 low_wrap : (z : ℤ) → cast_unsigned w32 (int_wrap w32 z) ≡ low_word z
 unfolding int_wrap
