@@ -1,4 +1,4 @@
-//! How many instructions a second the verifier's rules take in place: `State::go_on` over ldl, adc, stl. And how long
+//! How many instructions a second the verifier's rules take in place: `State::transfer` over ldl, adc, stl. And how long
 //! `State::join` and `State::is_below` take for two states of 512 words, all known and alike.
 //!
 //! Makes a thousand rounds; timed, millions, with the time that they took.
@@ -154,7 +154,7 @@ fn passes(state: &mut State, at: u8, instr: Instr, image: &Image, nest: &Nest) -
 {
     let at = usize::from(at);
     state
-        .go_on(at, at + 1, instr, Edge::Next, image, nest)
+        .transfer(at, at + 1, instr, Edge::Next, image, nest)
         .is_ok()
 }
 

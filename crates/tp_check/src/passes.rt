@@ -344,7 +344,7 @@ impl Passes {
         ensures moves { IfOk result (λ moved. Moves image.now moved self.old.states.items self.new.states.items) }
     {
         let Placed { at, instr, next } = place;
-        if let Err(code) = self.carried.go_on(at, next, instr, edge, image, nest) {
+        if let Err(code) = self.carried.transfer(at, next, instr, edge, image, nest) {
             return Err(StateFault::Refused { code, place: at });
         }
         match nest.target(at, next, instr, edge) {

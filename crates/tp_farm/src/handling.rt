@@ -33,7 +33,7 @@ fn of_link<T>(link: Link, answer: Result<T, DeviceFault>) -> Result<T, LinkFault
 
 /// Receives all that a device holds, and throws it away.
 #[inline(never)]
-fn throw_away<D: LinkDevice>(device: &mut D) -> Result<(), DeviceFault>
+fn drain<D: LinkDevice>(device: &mut D) -> Result<(), DeviceFault>
     ensures settings { SameDevice (D.state device.old) (D.state device.new) }
     ensures rises { (D.state device.new).faults ≡ (D.state device.old).faults + failures result }
     ensures emptied { OnOk result ((D.state device.new).held ≡ []) }
@@ -57,7 +57,7 @@ fn empty<D: LinkDevice>(device: &mut D) -> Result<(), DeviceFault>
     if device.held() == 0 {
         return Ok(());
     }
-    throw_away(device)
+    drain(device)
 }
 
 /// Empties the three devices, and sends a packet to the source.

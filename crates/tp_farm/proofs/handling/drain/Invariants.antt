@@ -1,6 +1,6 @@
 use Rattle.std.proofs.Common.{◌≡◌, length}
 use Rattle.tp_farm.specs.Settings.{SameDevice}
-use Rattle.tp_farm.proofs.handling.throw_away.Given as goal
+use Rattle.tp_farm.proofs.handling.drain.Given as goal
 
 abbrev pub invariant-loop-scratch : goal.invariant-loop-scratch
 invariant-loop-scratch g l =

@@ -2,7 +2,7 @@ use Rattle.std.proofs.Common.{rules, refl, FitsSigned, w32}
 use Rattle.tp_decode.specs.declared.instr.Instr.TheVariants.{Jump, Ldlp, Ldnl, Ldc, Ldnlp, Ldl, Adc, Cj, Ajw, Eqc, Stl, Stnl}
 use Rattle.tp_state.specs.Rules.{rule}
 use Rattle.tp_state.proofs.Casts.{passed}
-use Rattle.tp_state.proofs.state.State.obey.Goals as goal
+use Rattle.tp_state.proofs.state.State.apply_rule.Goals as goal
 
 pub returns-in-Jump-clause-value : goal.returns-in-Jump-clause-value
 returns-in-Jump-clause-value c =
