@@ -15,7 +15,7 @@ use Rattle.tpw_occam_core.specs.declared.expression.Expression.TheVariants.{Or',
 use Rattle.tpw_occam_core.specs.declared.process.Target.{Target}
 use Rattle.tpw_occam_core.specs.declared.process.Target.TheVariants as target
 use Rattle.tpw_occam_core.specs.declared.process.Assignment.{Assignment}
-use Rattle.tpw_occam_core.specs.Arithmetic.{answer, plain}
+use Rattle.tpw_occam_core.specs.Arithmetic.{answer, pure}
 use Rattle.tpw_occam_core.specs.Arrays.{size, kept}
 use Rattle.tpw_occam_core.specs.Meaning.{Store, value_of, kind_of, subscript_of, stored, flagged, assigned}
 use Rattle.tpw_occam_core.specs.Sound.{is_seen, is_sound_target, is_sound_assignment}
@@ -194,7 +194,7 @@ pub record LeavesKept (scope : List Entry) (temporaries : ℕ) (m end : Machine)
 
 -- the value of an assignment: kept already, or evaluated
 abbrev pub source_of : Assignment → (is_kept : Bool) → ℕ → Store → Answer
-source_of a true word s = plain word
+source_of a true word s = pure word
 source_of a false word s = value_of a.value s
 
 -- the state after an assignment with a value that is given

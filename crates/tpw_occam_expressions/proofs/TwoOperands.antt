@@ -24,8 +24,8 @@ use Rattle.std.proofs.lemmas.Bool.Decides.{nat_tests}
 use Rattle.tp_words.specs.Words.{signed, low_word}
 use Rattle.tp_words.specs.Numbers.{truth}
 use Rattle.tpw_occam_core.specs.declared.expression.Operator.TheVariants as operators
-use Rattle.tpw_occam_core.specs.Arithmetic.{answer, plain, checked, wrapped, applied, subscript}
-use Rattle.tpw_occam_core.specs.Meaning.{Store, followed, value_of}
+use Rattle.tpw_occam_core.specs.Arithmetic.{answer, pure, checked, wrapped, applied, subscript}
+use Rattle.tpw_occam_core.specs.Meaning.{Store, bind, value_of}
 use Rattle.tpw_occam_symbolic.specs.declared.items.Item.{Item}
 use Rattle.tpw_occam_symbolic.specs.declared.items.Item.TheVariants as item
 use Rattle.tpw_occam_symbolic.specs.declared.code.Step.TheVariants.{Plain, Load, Store as StoreTo}
@@ -396,10 +396,10 @@ applied_commutes operators.Add b a e = ap checked (+ℤ_comm (signed b) (signed 
 applied_commutes operators.Multiply b a e = ap checked (*ℤ_comm (signed b) (signed a))
 applied_commutes operators.Plus b a e = ap wrapped (+ℤ_comm (pos b) (pos a))
 applied_commutes operators.Times b a e = ap wrapped (*ℤ_comm (signed b) (signed a))
-applied_commutes operators.BitAnd b a e = ap plain (and_comm b a)
-applied_commutes operators.BitOr b a e = ap plain (bits_or_comm b a)
-applied_commutes operators.BitXor b a e = ap plain (xor_comm b a)
-applied_commutes operators.Equal b a e = ap (λ t. plain (truth t)) (nat_eq_comm b a)
+applied_commutes operators.BitAnd b a e = ap pure (and_comm b a)
+applied_commutes operators.BitOr b a e = ap pure (bits_or_comm b a)
+applied_commutes operators.BitXor b a e = ap pure (xor_comm b a)
+applied_commutes operators.Equal b a e = ap (λ t. pure (truth t)) (nat_eq_comm b a)
 applied_commutes operator b a e = cc
 
 -- two operands, and what an operator makes of them
@@ -435,10 +435,10 @@ applied_known k operator left right b a made left_known right_known holds storag
 
 does_constant : (k : Knowledge) (scope : List Entry) (unset : ℕ → Bool) (s : Store) (old new : Lines) (c registers kept : ℕ) → 1 ≤ registers
     → Makes old new HasConstants (push (number c))
-    → Does k.arrays old new (Agrees k scope unset s) (λ m end. Pushes registers (plain c) m end × LeavesItems scope kept m end)
+    → Does k.arrays old new (Agrees k scope unset s) (λ m end. Pushes registers (pure c) m end × LeavesItems scope kept m end)
 does_constant k scope unset s old new c registers kept least makes =
     does_less k.arrays old new _ _ _ _ (makes k.arrays) (λ m said. said.constants)
-    (λ m end said after. alone_pushes registers kept scope (plain c) m end least (pushes_alone c (place_behind new) m end after))
+    (λ m end said after. alone_pushes registers kept scope (pure c) m end least (pushes_alone c (place_behind new) m end after))
 
 pub first_above_computes : (k : Knowledge) (old pushed between new : Lines) (operator : Operator) (right : Expression) (c : ℕ) (b a : Value) (registers kept : ℕ)
     → Holds b c → Makes old pushed HasConstants (push (number c))
@@ -450,7 +450,7 @@ first_above_computes k old pushed between new operator right c b a registers kep
     let r = value_of right s in
     let ha = known storages scope unset s place stands knows in
     does_work k scope unset s old between new registers kept c r.word (false || r.flag) false (applied operator c r.word) more
-    (does_above k scope unset s old pushed between registers kept (plain c) r more suffices.most
+    (does_above k scope unset s old pushed between registers kept (pure c) r more suffices.most
     (does_constant k scope unset s old pushed c registers kept suffices.least makes)
     (computes storages scope unset s place stands (enough suffices.most) knows))
     (works c r.word hb ha (count_of_no_shift operator r.word unshifted)) (λ yes. absurd (false_true yes))
@@ -466,7 +466,7 @@ first_below_computes k old between pushed reversed new source operator right c b
     let ha = known storages scope unset s place stands knows in
     does_work k scope unset s old reversed new registers kept c r.word (false || r.flag) false (applied operator c r.word) more
     (does_rev k scope unset s old pushed reversed source registers kept c r.word false r.flag is
-    (does_above k scope unset s old between pushed registers kept r (plain c) more suffices.most
+    (does_above k scope unset s old between pushed registers kept r (pure c) more suffices.most
     (computes storages scope unset s place stands suffices knows)
     (does_constant k scope unset s between pushed c (registers - 1) kept (omega (arith, more)) makes)))
     (works c r.word hb ha (count_of_no_shift operator r.word unshifted)) (λ yes. absurd (false_true yes))
@@ -480,7 +480,7 @@ first_known k operator right c b a made hb known holds storages scope unset s pl
 -- ---- operands that have changed places
 
 both_swapped : (operator : Operator) (l r : Answer) → commutes operator ≡ true
-    → followed r (λ b. followed l (applied operator b)) ≡ followed l (λ b. followed r (applied operator b))
+    → bind r (λ b. bind l (applied operator b)) ≡ bind l (λ b. bind r (applied operator b))
 both_swapped operator l r commute =
     ap (λ (x : Answer). answer x.word (r.flag || (l.flag || x.flag))) (applied_commutes operator r.word l.word commute)
     ∙ ap (answer (applied operator l.word r.word).word)

@@ -15,7 +15,7 @@ use Rattle.tp_words.specs.Numbers.{least_integer, minus_one, overflows, truth}
 use Rattle.tp_step.specs.State.{State, replace_pair as replace_pair_in, push as push_in, pop as pop_in, set_areg as set_areg_in}
 use Rattle.tp_step.specs.Effects.{effect as effect_in, divided as divided_in, is_shift_count}
 use Rattle.tpw_occam_core.specs.declared.arithmetic.Answer.{Answer}
-use Rattle.tpw_occam_core.specs.Arithmetic.{plain, divided, quotient_answer}
+use Rattle.tpw_occam_core.specs.Arithmetic.{pure, divided, quotient_answer}
 use Rattle.tpw_occam_symbolic.specs.Symbolic.{Machine, Contents, number, address, distance, number_in, pair_answer, pair_effect, effect, raised, replace_pair, push, set_areg, pop, shifted}
 use Rattle.tpw_occam_symbolic.specs.Carried.{Site, IsHeld, Corresponds}
 use Rattle.tpw_occam_symbolic.proofs.Carrying.{Carries, both_carry, bind_machine, bind_state, when_state, with_registers, with_error}
@@ -65,7 +65,7 @@ module _ (site : Site) (m : Machine) (s : State) (is : Corresponds site m s) whe
       subst (λ x. Carries site (Some (made_of made)) (f x b')) (sym same_a)
       (subst (λ y. Carries site (Some (made_of made)) (f a y)) (sym same_b) (go b a made is_made))
 
-  unflagged : (word : ℕ) → Some (made_in (plain word)) ≡ Some (replace_pair_in word s)
+  unflagged : (word : ℕ) → Some (made_in (pure word)) ≡ Some (replace_pair_in word s)
   unflagged word = ap (λ e. Some (replace_pair_in word (record s { error = e }))) (or-false s.error)
 
 pub or-true : (b : Bool) → b || true ≡ true
@@ -131,8 +131,8 @@ module _ (image : ImageValue) (site : Site) (m : Machine) (s : State) (is : Corr
   unfolding effect effect_in
   rem_carries = pair site m s is Rem _ λ b a made e. made_state site m s is made _ _ e (divided_state site m s is int_rem (signed b) (signed a))
 
-  shift : (a word : ℕ) (made : Answer) → shifted a word ≡ Some made → is_shift_count a ≡ true → Some (plain word) ≡ Some made
-  shift a word made e small = sym (ap (λ b. only_if b >> Some (plain word)) small) ∙ e
+  shift : (a word : ℕ) (made : Answer) → shifted a word ≡ Some made → is_shift_count a ≡ true → Some (pure word) ≡ Some made
+  shift a word made e small = sym (ap (λ b. only_if b >> Some (pure word)) small) ∙ e
 
   pub shl_carries : Carries site (effect Shl m) (effect_in image Shl s)
   unfolding effect effect_in

@@ -19,7 +19,7 @@ use Rattle.tp_words.specs.Numbers.{truth}
 use Rattle.tp_step.specs.Effects.{link0_output, link1_output, link0_input}
 use Rattle.tpw_occam_core.specs.declared.arithmetic.Answer.{Answer}
 use Rattle.tpw_occam_core.specs.declared.expression.Operator.TheVariants as operator
-use Rattle.tpw_occam_core.specs.Arithmetic.{plain, checked, applied}
+use Rattle.tpw_occam_core.specs.Arithmetic.{pure, checked, applied}
 use Rattle.tpw_occam_symbolic.specs.declared.items.Item.{Item}
 use Rattle.tpw_occam_symbolic.specs.declared.code.Step.{Step}
 use Rattle.tpw_occam_symbolic.specs.declared.code.Step.TheVariants.{Plain, Load, Store, Pointer, JumpTo, CjTo, Distance}
@@ -100,7 +100,7 @@ has_bytes m item at n = nat_le (at + n) (m.sizes item)
 abbrev pub shifted : ℕ → ℕ → Option Answer
 shifted a word = do
   only_if (nat_lt a 32)
-  Some (plain word)
+  Some (pure word)
 
 -- what is made of two numbers: b in Breg and a in Areg
 abbrev pub pair_answer : Instr → (b a : ℕ) → Option Answer
