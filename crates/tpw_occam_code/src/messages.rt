@@ -8,7 +8,7 @@ ghost use Rattle.tpw_occam_code.specs.Starting.{Inputs, Receives, Sends};
 
 use tp_decode::Instr;
 use tpw_occam_core::{Expression, Message, Place};
-use tpw_occam_expressions::{Emitter, Room};
+use tpw_occam_expressions::{Emitter, Allocation};
 use tpw_occam_symbolic::{Code, CodeFault, Item, Step};
 
 /// IMS T414 data sheet, memory map: the channels of links 0 and 1.
@@ -94,7 +94,7 @@ fn keep_value(
             return Ok(Item::Variable(*x));
         }
     }
-    let room = Room::from_word(0, line);
+    let room = Allocation::from_word(0, line);
     emitter.expression(code, e, room)?;
     code.emit(line, Step::Store(room.word(), 0))?;
     Ok(room.word())

@@ -19,7 +19,7 @@ use crate::assignments::assignments;
 use crate::messages::trace;
 use tp_decode::Instr;
 use tpw_occam_core::{Expression, Process};
-use tpw_occam_expressions::{Emitter, Range, Room, constant, counted, fact_of};
+use tpw_occam_expressions::{Emitter, Range, Allocation, constant, counted, fact_of};
 use tpw_occam_symbolic::{Code, CodeFault, Item, MAX_CLEARED, Step, Turns};
 
 /// The most words that are cleared one by one.
@@ -193,7 +193,7 @@ fn with_value(
     ensures remains { OnOk result (ValueKnown emitter.old x e.now body.now) }
 {
     let before = emitter.fact(x);
-    emitter.bind(code, x, e, Room::from_word(0, line))?;
+    emitter.bind(code, x, e, Allocation::from_word(0, line))?;
     process(emitter, code, body, line)?;
     emitter.set_fact(x, before);
     Ok(())
@@ -248,7 +248,7 @@ fn choice(
         }
         return process(emitter, code, guarded, line);
     }
-    emitter.condition(code, guard, Room::from_word(0, line))?;
+    emitter.condition(code, guard, Allocation::from_word(0, line))?;
     let mut yes = code.behind_one(emitter.alloc, line)?;
     process(emitter, &mut yes, guarded, line)?;
     if is_skip(rest) {

@@ -30,7 +30,7 @@ use Rattle.tpw_occam_symbolic.specs.declared.items.Item.{Item}
 use Rattle.tpw_occam_symbolic.specs.declared.items.Item.TheVariants as item
 use Rattle.tpw_occam_symbolic.specs.declared.code.Step.TheVariants.{Plain, Load, Store as StoreTo}
 use Rattle.tpw_occam_expressions.specs.declared.expressions.Value.{Value}
-use Rattle.tpw_occam_expressions.specs.declared.emitter.Room.{Room}
+use Rattle.tpw_occam_expressions.specs.declared.emitter.Allocation.{Allocation}
 use Rattle.tpw_occam_symbolic.specs.Code.{Lines, followed_by, line_of, place_behind}
 use Rattle.tpw_occam_symbolic.specs.Symbolic.{Machine, effect, performed, at_place, number, push}
 use Rattle.tpw_occam_symbolic.specs.Leading.{Does, IsBefore, Arrives, HasConstants, HasWord, Makes}
@@ -654,21 +654,21 @@ fixed_immediate k operator left right fixed pair = by_which (either_of _ _ pair)
         (and_second (commutes operator) (is_immediate k operator left) (and_first _ _ other))
 
 -- a count above another operand, and one evaluated while the other is kept
-pub count_above : (k k1 : Knowledge) (between new : Lines) (count : Expression) (room less : Room) (n : ℕ)
+pub count_above : (k k1 : Knowledge) (between new : Lines) (count : Expression) (room less : Allocation) (n : ℕ)
     → k1 ≡ k → less ≡ record room { registers = room.registers - 1 } → 1 ≤ n → (n ≤ 1 → IsConstantBelow k count 32) → n < room.registers
     → (0 < 32 → 32 ≤ 2 ^ 31 → (less.registers ≤ 1 → IsConstantBelow k1 count 32)
-    → ComputesTo k1 between new count (subscript_value count 32) less.registers less.kept)
-    → ComputesTo k1 between new count (subscript_value count 32) (room.registers - 1) room.kept
+    → ComputesTo k1 between new count (subscript_value count 32) less.registers less.next_temporary)
+    → ComputesTo k1 between new count (subscript_value count 32) (room.registers - 1) room.next_temporary
 count_above k k1 between new count room less n same is least constant fits computes =
-    subst (λ (r : Room). ComputesTo k1 between new count (subscript_value count 32) r.registers r.kept) is
+    subst (λ (r : Allocation). ComputesTo k1 between new count (subscript_value count 32) r.registers r.next_temporary) is
     (computes (omega arith) (omega arith)
-    (λ few. subst (λ k. IsConstantBelow k count 32) (sym same) (constant (omega (arith, few, fits, ap (λ (r : Room). r.registers) is)))))
+    (λ few. subst (λ k. IsConstantBelow k count 32) (sym same) (constant (omega (arith, few, fits, ap (λ (r : Allocation). r.registers) is)))))
 
-pub count_beside : (k1 : Knowledge) (between new : Lines) (count : Expression) (room more : Room)
-    → more ≡ record room { kept = room.kept + 1 } → 2 ≤ room.registers
+pub count_beside : (k1 : Knowledge) (between new : Lines) (count : Expression) (room more : Allocation)
+    → more ≡ record room { next_temporary = room.next_temporary + 1 } → 2 ≤ room.registers
     → (0 < 32 → 32 ≤ 2 ^ 31 → (more.registers ≤ 1 → IsConstantBelow k1 count 32)
-    → ComputesTo k1 between new count (subscript_value count 32) more.registers more.kept)
-    → ComputesTo k1 between new count (subscript_value count 32) room.registers (room.kept + 1)
+    → ComputesTo k1 between new count (subscript_value count 32) more.registers more.next_temporary)
+    → ComputesTo k1 between new count (subscript_value count 32) room.registers (room.next_temporary + 1)
 count_beside k1 between new count room more is least computes =
-    subst (λ (r : Room). ComputesTo k1 between new count (subscript_value count 32) r.registers r.kept) is
-    (computes (omega arith) (omega arith) (λ few. absurd (omega (arith, few, least, ap (λ (r : Room). r.registers) is))))
+    subst (λ (r : Allocation). ComputesTo k1 between new count (subscript_value count 32) r.registers r.next_temporary) is
+    (computes (omega arith) (omega arith) (λ few. absurd (omega (arith, few, least, ap (λ (r : Allocation). r.registers) is))))

@@ -74,59 +74,60 @@ pub fn counted(range: Range) -> Fact
     }
 }
 
-/// What an expression may use: registers, at least 2 where it needs more than one; words for what is kept, from the
-/// first that is free. And the line of the text that it comes from.
+/// The registers and words that the code of an expression may use, and the line of the text that it comes from.
 #[derive(Clone, Copy)]
-pub struct Room {
+pub struct Allocation {
+    /// At least 2 where the expression needs more than one.
     pub registers: u32,
-    pub kept: usize,
+    /// The first word that no temporary has.
+    pub next_temporary: usize,
     pub line: u32,
 }
 
-impl Room {
+impl Allocation {
     /// All registers, and all words from one on.
-    pub fn from_word(kept: usize, line: u32) -> Room
-        ensures { result ≡ record { registers = 3; kept = kept; line = line } }
+    pub fn from_word(next_temporary: usize, line: u32) -> Allocation
+        ensures { result ≡ record { registers = 3; next_temporary = next_temporary; line = line } }
     {
-        Room {
+        Allocation {
             registers: 3,
-            kept,
+            next_temporary,
             line,
         }
     }
 
-    /// So many registers.
-    pub(crate) fn with_registers(self, registers: u32) -> Room
+    /// The same words, with another number of registers.
+    pub(crate) fn with_registers(self, registers: u32) -> Allocation
         ensures { result ≡ record self { registers = registers } }
     {
-        Room { registers, ..self }
+        Allocation { registers, ..self }
     }
 
     /// One register less.
-    pub fn above(self) -> Room
+    pub fn above(self) -> Allocation
         ensures { result ≡ record self { registers = self.registers - 1 } }
     {
         self.with_registers(self.registers.saturating_sub(1))
     }
 
     /// One word more is kept. No workspace has room for more words than it has.
-    pub fn beside(self) -> Result<Room, CodeFault>
-        ensures { IfOk result (λ room. room ≡ record self { kept = self.kept + 1 }) }
+    pub fn beside(self) -> Result<Allocation, CodeFault>
+        ensures { IfOk result (λ room. room ≡ record self { next_temporary = self.next_temporary + 1 }) }
     {
-        if self.kept >= MAX_WORKSPACE_WORDS_2 as usize {
+        if self.next_temporary >= MAX_WORKSPACE_WORDS_2 as usize {
             return Err(CodeFault::Workspace { line: self.line });
         }
-        Ok(Room {
-            kept: self.kept + 1,
+        Ok(Allocation {
+            next_temporary: self.next_temporary + 1,
             ..self
         })
     }
 
     /// The word that is kept next.
     pub fn word(self) -> Item
-        ensures { result ≡ Temporary self.kept }
+        ensures { result ≡ Temporary self.next_temporary }
     {
-        Item::Temporary(self.kept)
+        Item::Temporary(self.next_temporary)
     }
 }
 

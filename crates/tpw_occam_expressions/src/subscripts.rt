@@ -18,7 +18,7 @@ ghost use Rattle.tpw_occam_expressions.specs.Computing.{IsOffset, IsOffsetOf, su
 ghost use Rattle.tpw_occam_expressions.specs.Values.{Answers, Holds, HasNumber, HasAddress, Replaces, PushesAlone};
 ghost use Rattle.tpw_occam_expressions.specs.Values.{IsAtElement, PushesAddress, PushesOver, scaled};
 
-use crate::emitter::{Emitter, Room};
+use crate::emitter::{Emitter, Allocation};
 use crate::expressions::Value;
 use crate::operators::number;
 use crate::range::{BYTE, FULL, Range};
@@ -323,12 +323,12 @@ impl Emitter<'_> {
         code: &mut Code,
         e: &Expression,
         size: u32,
-        room: Room,
+        room: Allocation,
     ) -> Result<Value, CodeFault>
         ensures knowledge { OnOk result (self.new ≡ self.old) }
         ensures computes { OnOk result (0 < size → size ≤ 2 ^ 31
             → (room.registers ≤ 1 → IsConstantBelow self.old e.now size)
-            → ComputesTo self.old code.old code.new e.now (subscript_value e.now size) room.registers room.kept) }
+            → ComputesTo self.old code.old code.new e.now (subscript_value e.now size) room.registers room.next_temporary) }
         ensures known { IfOk result (λ value. 0 < size → size ≤ 2 ^ 31
             → IsKnownOf self.old e.now (subscript_value e.now size) value) }
     {
@@ -345,11 +345,11 @@ impl Emitter<'_> {
         code: &mut Code,
         e: &Expression,
         size: u32,
-        room: Room,
+        room: Allocation,
     ) -> Result<Value, CodeFault>
         ensures knowledge { OnOk result (self.new ≡ self.old) }
         ensures computes { OnOk result (0 < size → size ≤ 2 ^ 31 → 2 ≤ room.registers
-            → ComputesTo self.old code.old code.new e.now (subscript_value e.now size) room.registers room.kept) }
+            → ComputesTo self.old code.old code.new e.now (subscript_value e.now size) room.registers room.next_temporary) }
         ensures known { IfOk result (λ value. 0 < size → size ≤ 2 ^ 31
             → IsKnownOf self.old e.now (subscript_value e.now size) value) }
     {
