@@ -34,7 +34,7 @@ use Rattle.tpw_occam_symbolic.specs.Leading.{Does, IsBefore, Arrives, HasLines, 
 use Rattle.tpw_occam_expressions.specs.Agreement.{Knowledge, with_fact, fact_at, counted_fact, constant_fact, FitsFact, LeavesItems}
 use Rattle.tpw_occam_code.specs.Executing.{Follows, Remains, IsProcessPlace, MayRun, KnowsState, Matches, LeavesCounts, Executes, Repeats, Begins, first_use, is_nothing, unset_after}
 use Rattle.tpw_occam_symbolic.proofs.Leading.{does_less, does_nothing, step_is, leads_then, has_first, does_kept}
-use Rattle.tpw_occam_symbolic.proofs.Carrying.{is_item-self}
+use Rattle.tpw_occam_symbolic.proofs.Simulation.{is_item-self}
 use Rattle.tpw_occam_expressions.proofs.Keeping.{other_item, word_written}
 use Rattle.tpw_occam_expressions.proofs.Naming.{variable_differs, slice_same, constant_fits, new_name}
 use Rattle.tpw_occam_expressions.proofs.Conditions.{get_behind, suc_not_zero}

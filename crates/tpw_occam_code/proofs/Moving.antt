@@ -18,7 +18,7 @@ use Rattle.tpw_occam_code.specs.Executing.{with_item_word}
 use Rattle.tpw_occam_symbolic.specs.Leading.{HasStep}
 use Rattle.tpw_occam_code.specs.Moving.{Provides, Writes, Moves, HasCleared, ClearsWords}
 use Rattle.tpw_occam_symbolic.proofs.Leading.{does_placed, does_within, does_step, does_both, does_less, does_nothing}
-use Rattle.tpw_occam_symbolic.proofs.Carrying.{is_item-self}
+use Rattle.tpw_occam_symbolic.proofs.Simulation.{is_item-self}
 use Rattle.tpw_occam_expressions.proofs.Keeping.{other_item}
 use Rattle.tpw_occam_expressions.proofs.Computing.{word_same}
 

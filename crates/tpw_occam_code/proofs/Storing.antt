@@ -21,7 +21,7 @@ use Rattle.tpw_occam_expressions.specs.Values.{HasNumber, PushesAddress, scaled}
 use Rattle.tpw_occam_expressions.specs.Agreement.{LeavesItems}
 use Rattle.tpw_occam_code.specs.Assigning.{element_bytes, Writes, WritesPopped, IsToStore, Stores}
 use Rattle.tpw_occam_symbolic.proofs.Leading.{does_step, does_both, does_less}
-use Rattle.tpw_occam_symbolic.proofs.Carrying.{is_item-self}
+use Rattle.tpw_occam_symbolic.proofs.Simulation.{is_item-self}
 use Rattle.tpw_occam_expressions.proofs.Naming.{slice_same, slice_other, slice_length}
 
 -- ---- steps that store

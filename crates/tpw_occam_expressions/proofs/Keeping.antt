@@ -14,7 +14,7 @@ use Rattle.tpw_occam_symbolic.specs.Leading.{Does, HasWord}
 use Rattle.tpw_occam_expressions.specs.Values.{HasNumber, PushesAlone}
 use Rattle.tpw_occam_expressions.specs.Agreement.{LeavesItems, Stays}
 use Rattle.tpw_occam_symbolic.proofs.Leading.{does_step, does_less}
-use Rattle.tpw_occam_symbolic.proofs.Carrying.{is_item-self}
+use Rattle.tpw_occam_symbolic.proofs.Simulation.{is_item-self}
 use Rattle.tpw_occam_expressions.proofs.Elements.{pushes_alone}
 use Rattle.tpw_occam_expressions.proofs.Computing.{word_there}
 

@@ -25,7 +25,7 @@ use Rattle.tpw_occam_symbolic.specs.Program.{place_bytes, message_bytes}
 use Rattle.tpw_occam_symbolic.specs.Code.{Lines}
 use Rattle.tpw_occam_symbolic.specs.Blocks.{Blocks, is_item, bytes_at}
 use Rattle.tpw_occam_symbolic.specs.Leading.{Serves, cleared_bytes}
-use Rattle.tpw_occam_symbolic.specs.Carried.{Site, operation_of}
+use Rattle.tpw_occam_symbolic.specs.MatchStates.{Site, operation_of}
 
 -- how many words an item has, and the local word that it begins with
 abbrev pub words_at : List Placed → Item → ℕ

@@ -2,7 +2,7 @@
 
 ghost use Rattle.std.specs.Prelude.{◌≡◌, ◌+◌, ◌<◌, ◌≤◌, ◌^◌, pos, true, map, All, IfOk, OnOk};
 ghost use Rattle.tpw_occam_symbolic.specs.declared.code.Step.TheVariants.{Pointer};
-ghost use Rattle.tpw_occam_symbolic.specs.Carried.{operation_of};
+ghost use Rattle.tpw_occam_symbolic.specs.MatchStates.{operation_of};
 ghost use Rattle.tpw_occam_symbolic.specs.Placing.{words_at, local_at, places, line_at, HasOperand, IsServed, IsPlaced};
 ghost use Rattle.tpw_occam_symbolic.specs.Placing.{loop_at, AreTurns, IsRow};
 

@@ -17,8 +17,8 @@ use Rattle.tp_step.specs.Effects.{effect as effect_in, divided as divided_in, is
 use Rattle.tpw_occam_core.specs.declared.arithmetic.Answer.{Answer}
 use Rattle.tpw_occam_core.specs.Arithmetic.{pure, divided, quotient_answer}
 use Rattle.tpw_occam_symbolic.specs.Symbolic.{Machine, Contents, number, address, distance, number_in, pair_answer, pair_effect, effect, raised, replace_pair, push, set_areg, pop, shifted}
-use Rattle.tpw_occam_symbolic.specs.Carried.{Site, IsHeld, Corresponds}
-use Rattle.tpw_occam_symbolic.proofs.Carrying.{Carries, both_carry, bind_machine, bind_state, when_state, with_registers, with_error}
+use Rattle.tpw_occam_symbolic.specs.MatchStates.{Site, IsHeld, MatchStates}
+use Rattle.tpw_occam_symbolic.proofs.Simulation.{Carries, both_carry, bind_machine, bind_state, when_state, with_registers, with_error}
 
 -- a register in which a number is
 pub number_held : (site : Site) (c : Contents) (o : Option ℕ) (n word : ℕ) → IsHeld site c o → number_in c ≡ Some n → o ≡ Some word
@@ -28,7 +28,7 @@ number_held site (number k) None n word held is there = absurd cc
 number_held site (address item at) o n word held is there = absurd cc
 number_held site (distance from to) o n word held is there = absurd cc
 
-module _ (site : Site) (m : Machine) (s : State) (is : Corresponds site m s) where
+module _ (site : Site) (m : Machine) (s : State) (is : MatchStates site m s) where
   -- what is made of two words
   abbrev made_in : Answer → State
   made_in made = replace_pair_in made.word (record s { error = s.error || made.flag })
@@ -73,7 +73,7 @@ or-true true = refl
 or-true false = refl
 
 -- a quotient or a remainder
-pub divided_state : (site : Site) (m : Machine) (s : State) (is : Corresponds site m s) (divide : ℤ → ℤ → ℤ) (b a : ℤ)
+pub divided_state : (site : Site) (m : Machine) (s : State) (is : MatchStates site m s) (divide : ℤ → ℤ → ℤ) (b a : ℤ)
     → Some (made_in site m s is (divided divide b a)) ≡ Some (divided_in divide b a s)
 divided_state site m s is divide b a = by_test (int_eq a (pos 0) || (int_eq b least_integer && int_eq a minus_one))
   where
@@ -82,7 +82,7 @@ divided_state site m s is divide b a = by_test (int_eq a (pos 0) || (int_eq b le
     by_test true = ap (λ e. Some (replace_pair_in 0 (record s { error = e }))) (or-true s.error)
     by_test false = unflagged site m s is (low_word (divide b a))
 
-module _ (image : ImageValue) (site : Site) (m : Machine) (s : State) (is : Corresponds site m s) where
+module _ (image : ImageValue) (site : Site) (m : Machine) (s : State) (is : MatchStates site m s) where
   pub add_carries : Carries site (effect Add m) (effect_in image Add s)
   unfolding effect effect_in
   add_carries = pair site m s is Add _ λ b a made e. made_state site m s is made _ _ e refl

@@ -97,7 +97,7 @@ Agrees site blocks memory =
     → byte ≡ blocks item k
 
 -- a state carries a symbolic machine
-pub record Corresponds (site : Site) (m : Machine) (s : State) : Type 0 where
+pub record MatchStates (site : Site) (m : Machine) (s : State) : Type 0 where
   pub code : m.code ≡ site.code
   pub sizes : m.sizes ≡ site.sizes
   pub place : s.iptr ≡ pos (address_of site m.place)

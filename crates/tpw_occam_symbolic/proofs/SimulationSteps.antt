@@ -12,12 +12,12 @@ use Rattle.tp_step.specs.Effects.{effect as effect_in}
 use Rattle.tpw_occam_symbolic.specs.declared.code.Step.{Step}
 use Rattle.tpw_occam_symbolic.specs.declared.code.Step.TheVariants.{Plain, Load, Store, Pointer, JumpTo, CjTo, Distance}
 use Rattle.tpw_occam_symbolic.specs.Symbolic.{Machine, number_in, pair_answer, pair_effect, effect, performed}
-use Rattle.tpw_occam_symbolic.specs.Carried.{Site, instr_of, GoesOn, LiesIn, Corresponds}
-use Rattle.tpw_occam_symbolic.proofs.Carrying.{Carries, bind_machine}
-use Rattle.tpw_occam_symbolic.proofs.CarryingNumbers.{add_carries, sub_carries, mul_carries, sum_carries, diff_carries, prod_carries, bitand_carries, bitor_carries, bitxor_carries, gt_carries, div_carries, rem_carries, shl_carries, shr_carries, ldc_carries, adc_carries, eqc_carries, not_carries, rev_carries, csub0_carries, seterr_carries}
-use Rattle.tpw_occam_symbolic.proofs.CarryingMemory.{load_carries, store_carries, pointer_carries, ldnl_carries, stnl_carries, lb_carries, sb_carries, bsub_carries, wsub_carries, move_carries}
-use Rattle.tpw_occam_symbolic.proofs.CarryingControl.{jump_carries, cj_carries, distance_carries, stopp_carries, input_carries, output_carries}
-use Rattle.tpw_occam_symbolic.proofs.CarryingTurns.{lend_carries}
+use Rattle.tpw_occam_symbolic.specs.MatchStates.{Site, instr_of, GoesOn, LiesIn, MatchStates}
+use Rattle.tpw_occam_symbolic.proofs.Simulation.{Carries, bind_machine}
+use Rattle.tpw_occam_symbolic.proofs.SimulationNumbers.{add_carries, sub_carries, mul_carries, sum_carries, diff_carries, prod_carries, bitand_carries, bitor_carries, bitxor_carries, gt_carries, div_carries, rem_carries, shl_carries, shr_carries, ldc_carries, adc_carries, eqc_carries, not_carries, rev_carries, csub0_carries, seterr_carries}
+use Rattle.tpw_occam_symbolic.proofs.SimulationMemory.{load_carries, store_carries, pointer_carries, ldnl_carries, stnl_carries, lb_carries, sb_carries, bsub_carries, wsub_carries, move_carries}
+use Rattle.tpw_occam_symbolic.proofs.SimulationControl.{jump_carries, cj_carries, distance_carries, stopp_carries, input_carries, output_carries}
+use Rattle.tpw_occam_symbolic.proofs.SimulationTurns.{lend_carries}
 
 -- ---- instructions
 
@@ -37,7 +37,7 @@ unlisted site m instr o none =
     bind_machine site (pair_answer instr b a) _ _ λ made is_made.
     absurd (none_some made (sym (none b a) ∙ is_made))
 
-module _ (image : ImageValue) (site : Site) (lies : LiesIn image site) (m : Machine) (s : State) (is : Corresponds site m s) where
+module _ (image : ImageValue) (site : Site) (lies : LiesIn image site) (m : Machine) (s : State) (is : MatchStates site m s) where
   pub effect_carries : (instr : Instr) → Carries site (effect instr m) (effect_in image instr s)
   unfolding effect
   effect_carries Add = add_carries image site m s is

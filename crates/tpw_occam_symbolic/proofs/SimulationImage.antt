@@ -29,9 +29,9 @@ use Rattle.tpw_occam_symbolic.specs.declared.items.Item.{Item}
 use Rattle.tpw_occam_symbolic.specs.declared.code.Step.{Step}
 use Rattle.tpw_occam_symbolic.specs.declared.code.Step.TheVariants.{Plain, Load, Store, Pointer, JumpTo, CjTo, Distance}
 use Rattle.tpw_occam_symbolic.specs.declared.code.CodeLine.{CodeLine}
-use Rattle.tpw_occam_symbolic.specs.Carried.{Site, address_of, base_of, operation_of, instr_of, GoesOn, IsSpelledIn, LiesIn}
+use Rattle.tpw_occam_symbolic.specs.MatchStates.{Site, address_of, base_of, operation_of, instr_of, GoesOn, IsSpelledIn, LiesIn}
 use Rattle.tpw_occam_symbolic.specs.Placing.{line_at, HasOperand}
-use Rattle.tpw_occam_symbolic.proofs.CarryingCode.{get_map, index_behind, parts, shortest_spells, small_fits}
+use Rattle.tpw_occam_symbolic.proofs.SimulationCode.{get_map, index_behind, parts, shortest_spells, small_fits}
 
 -- a program is made of code
 pub record IsMadeOf (program : Program) (site : Site) : Type 0 where

@@ -14,8 +14,8 @@ use Rattle.tp_step.proofs.MemoryLemmas.{cell_in, cell_below, cell_above}
 use Rattle.tp_step.proofs.StepLemmas.{ends_in}
 use Rattle.tpw_occam_symbolic.specs.declared.items.Item.{Item}
 use Rattle.tpw_occam_symbolic.specs.Symbolic.{Machine, Leads}
-use Rattle.tpw_occam_symbolic.specs.Carried.{Site, address_of, base_of, LiesIn, Agrees, Corresponds}
-use Rattle.tpw_occam_symbolic.proofs.CarryingRuns.{end_carries}
+use Rattle.tpw_occam_symbolic.specs.MatchStates.{Site, address_of, base_of, LiesIn, Agrees, MatchStates}
+use Rattle.tpw_occam_symbolic.proofs.SimulationRuns.{end_carries}
 
 -- the bytes that a workspace begins with
 abbrev pub first_bytes : ImageValue → List ℕ
@@ -61,7 +61,7 @@ agrees_first image site packet m first item k byte h is =
     byte_first (first_bytes image) mem_start (base_of site item + k) byte is ∙ sym (first.blocks item k h)
 
 pub start_carries : (image : ImageValue) (site : Site) (packet : List ℕ) (m : Machine) → IsFirst image site packet m
-    → Corresponds site m (start image packet)
+    → MatchStates site m (start image packet)
 unfolding start
 start_carries image site packet m first = record {
   code = first.code;

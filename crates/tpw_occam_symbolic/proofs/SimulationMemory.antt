@@ -16,9 +16,9 @@ use Rattle.tpw_occam_symbolic.specs.declared.items.Item.{Item}
 use Rattle.tpw_occam_symbolic.specs.declared.code.Step.TheVariants.{Load, Store, Pointer}
 use Rattle.tpw_occam_symbolic.specs.Blocks.{Blocks, with_bytes, bytes_at, word_at, with_word}
 use Rattle.tpw_occam_symbolic.specs.Symbolic.{Machine, Contents, number, address, distance, number_in, address_in, effect, performed, replace_pair, push, set_areg, pop, pop_two, with_blocks, has_bytes}
-use Rattle.tpw_occam_symbolic.specs.Carried.{Site, base_of, LiesIn, IsHeld, Agrees, Corresponds}
-use Rattle.tpw_occam_symbolic.proofs.Carrying.{Carries, both_carry, none_carries, bind_machine, when_machine, bind_state, when_state, with_registers, with_memory, low, bytes_read, word_read, agrees_bytes, agrees_word}
-use Rattle.tpw_occam_symbolic.proofs.CarryingNumbers.{number_held}
+use Rattle.tpw_occam_symbolic.specs.MatchStates.{Site, base_of, LiesIn, IsHeld, Agrees, MatchStates}
+use Rattle.tpw_occam_symbolic.proofs.Simulation.{Carries, both_carry, none_carries, bind_machine, when_machine, bind_state, when_state, with_registers, with_memory, low, bytes_read, word_read, agrees_bytes, agrees_word}
+use Rattle.tpw_occam_symbolic.proofs.SimulationNumbers.{number_held}
 
 -- a register in which an address is
 pub address_held : (site : Site) (c : Contents) (o : Option ℕ) (there : Item × ℕ) (word : ℕ) → IsHeld site c o → address_in c ≡ Some there
@@ -88,29 +88,29 @@ module _ (image : ImageValue) (site : Site) (lies : LiesIn image site) where
       let below : base_of site item + at < 2 ^ 32 = low image site lies item at (omega (arith, some, room)) in
       omega (arith, is, below)
 
-  pub word_there : (m : Machine) (s : State) → Corresponds site m s → (item : Item) (at a word : ℕ) → has_bytes m item at 4 ≡ true
+  pub word_there : (m : Machine) (s : State) → MatchStates site m s → (item : Item) (at a word : ℕ) → has_bytes m item at 4 ≡ true
       → a ≡ (base_of site item + at) % 2 ^ 32 → load image s a ≡ Some word → word ≡ word_at m.blocks item at
   word_there m s is item at a word has there found =
       let room = room_of site m item at 4 is.sizes has in
       word_read image site lies m.blocks s.memory item at a word is.memory (place_of item at 4 a (omega arith) room there) room
       (load_is image s a word found)
 
-  pub bytes_there : (m : Machine) (s : State) → Corresponds site m s → (item : Item) (at n a : ℕ) (bytes : List ℕ) → at + n ≤ site.sizes item
+  pub bytes_there : (m : Machine) (s : State) → MatchStates site m s → (item : Item) (at n a : ℕ) (bytes : List ℕ) → at + n ≤ site.sizes item
       → a ≡ (base_of site item + at) % 2 ^ 32 → bytes_from s.memory a n ≡ Some bytes → bytes ≡ bytes_at m.blocks item at n
   unfolding bytes_from bytes_at
   bytes_there m s is item at zero a bytes room there found = sym (same_Some _ _ found)
   bytes_there m s is item at (suc n) a bytes room there found =
       bytes_read image site lies m.blocks s.memory item (suc n) at a bytes is.memory (place_of item at (suc n) a (omega arith) room there) room found
 
-  pub word_stored : (m : Machine) (s : State) → Corresponds site m s → (item : Item) (at a word word' : ℕ) → has_bytes m item at 4 ≡ true
+  pub word_stored : (m : Machine) (s : State) → MatchStates site m s → (item : Item) (at a word word' : ℕ) → has_bytes m item at 4 ≡ true
       → a ≡ (base_of site item + at) % 2 ^ 32 → word' ≡ word
-      → Corresponds site (with_blocks (with_word item at word m.blocks) m) (record s { memory = with_word_at s.memory a word' })
+      → MatchStates site (with_blocks (with_word item at word m.blocks) m) (record s { memory = with_word_at s.memory a word' })
   word_stored m s is item at a word word' has there same =
       with_memory site m s (with_word item at word m.blocks) (with_word_at s.memory a word') is
       (subst (λ w. Agrees site (with_word item at w m.blocks) (with_word_at s.memory a word')) same
       (agrees_word image site lies m.blocks s.memory item at a word' is.memory there (room_of site m item at 4 is.sizes has)))
 
-module _ (image : ImageValue) (site : Site) (lies : LiesIn image site) (m : Machine) (s : State) (is : Corresponds site m s) where
+module _ (image : ImageValue) (site : Site) (lies : LiesIn image site) (m : Machine) (s : State) (is : MatchStates site m s) where
   -- ---- locals
 
   pub load_carries : (item : Item) (word : ℕ) → Carries site (performed (Load item word) m) (effect_in image (Ldl (pos (site.locals item + word))) s)

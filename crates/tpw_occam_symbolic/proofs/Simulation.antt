@@ -17,17 +17,17 @@ use Rattle.tpw_occam_symbolic.specs.declared.items.Item.{Item}
 use Rattle.tpw_occam_symbolic.specs.declared.items.Item.TheVariants.{Variable, Temporary, Constant, Array, Zeros}
 use Rattle.tpw_occam_symbolic.specs.Blocks.{Blocks, is_item, sort_of, number_of, with_bytes, bytes_at, word_at, with_word}
 use Rattle.tpw_occam_symbolic.specs.Symbolic.{Machine, Contents}
-use Rattle.tpw_occam_symbolic.specs.Carried.{Site, base_of, LiesIn, IsHeld, Agrees, Corresponds}
+use Rattle.tpw_occam_symbolic.specs.MatchStates.{Site, base_of, LiesIn, IsHeld, Agrees, MatchStates}
 
 -- ---- what may be missing
 
 -- where both have an outcome, the second carries the first
 pub record Carries (site : Site) (o : Option Machine) (p : Option State) : Type 0 where
-  pub carries : (m : Machine) (s : State) → o ≡ Some m → p ≡ Some s → Corresponds site m s
+  pub carries : (m : Machine) (s : State) → o ≡ Some m → p ≡ Some s → MatchStates site m s
 
-pub both_carry : (site : Site) (m : Machine) (s : State) → Corresponds site m s → Carries site (Some m) (Some s)
+pub both_carry : (site : Site) (m : Machine) (s : State) → MatchStates site m s → Carries site (Some m) (Some s)
 both_carry site m s is = record {
-  carries = λ n t e f. subst (λ x. Corresponds site x t) (same_Some _ _ e) (subst (Corresponds site m) (same_Some _ _ f) is);
+  carries = λ n t e f. subst (λ x. MatchStates site x t) (same_Some _ _ e) (subst (MatchStates site m) (same_Some _ _ f) is);
 }
 
 pub none_carries : (site : Site) (o : Option Machine) → Carries site o None
@@ -59,8 +59,8 @@ when_state site m true o go = go refl
 -- ---- registers and flags
 
 pub with_registers : (site : Site) (m : Machine) (s : State) (x y z : Contents) (a b c : Option ℕ)
-    → Corresponds site m s → IsHeld site x a → IsHeld site y b → IsHeld site z c
-    → Corresponds site (record m { areg = x; breg = y; creg = z }) (record s { areg = a; breg = b; creg = c })
+    → MatchStates site m s → IsHeld site x a → IsHeld site y b → IsHeld site z c
+    → MatchStates site (record m { areg = x; breg = y; creg = z }) (record s { areg = a; breg = b; creg = c })
 with_registers site m s x y z a b c is held_a held_b held_c = record {
   code = is.code;
   sizes = is.sizes;
@@ -78,8 +78,8 @@ with_registers site m s x y z a b c is held_a held_b held_c = record {
   traced = is.traced;
 }
 
-pub with_error : (site : Site) (m : Machine) (s : State) (flag other : Bool) → Corresponds site m s → other ≡ flag
-    → Corresponds site (record m { error = flag }) (record s { error = other })
+pub with_error : (site : Site) (m : Machine) (s : State) (flag other : Bool) → MatchStates site m s → other ≡ flag
+    → MatchStates site (record m { error = flag }) (record s { error = other })
 with_error site m s flag other is same = record {
   code = is.code;
   sizes = is.sizes;
@@ -97,8 +97,8 @@ with_error site m s flag other is same = record {
   traced = is.traced;
 }
 
-pub with_memory : (site : Site) (m : Machine) (s : State) (blocks : Blocks) (memory : Memory) → Corresponds site m s
-    → Agrees site blocks memory → Corresponds site (record m { blocks = blocks }) (record s { memory = memory })
+pub with_memory : (site : Site) (m : Machine) (s : State) (blocks : Blocks) (memory : Memory) → MatchStates site m s
+    → Agrees site blocks memory → MatchStates site (record m { blocks = blocks }) (record s { memory = memory })
 with_memory site m s blocks memory is agrees = record {
   code = is.code;
   sizes = is.sizes;
@@ -116,9 +116,9 @@ with_memory site m s blocks memory is agrees = record {
   traced = is.traced;
 }
 
-pub with_place : (site : Site) (m : Machine) (s : State) (place : ℕ) (iptr : ℤ) → Corresponds site m s
+pub with_place : (site : Site) (m : Machine) (s : State) (place : ℕ) (iptr : ℤ) → MatchStates site m s
     → iptr ≡ pos (slice_index site.addresses place)
-    → Corresponds site (record m { place = place }) (record s { iptr = iptr })
+    → MatchStates site (record m { place = place }) (record s { iptr = iptr })
 with_place site m s place iptr is there = record {
   code = is.code;
   sizes = is.sizes;

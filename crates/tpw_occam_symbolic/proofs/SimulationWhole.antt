@@ -9,12 +9,12 @@ use Rattle.tpw_asm.specs.Assembly.{IsAssembly}
 use Rattle.tpw_occam_symbolic.specs.declared.code.CodeLine.{CodeLine}
 use Rattle.tpw_occam_symbolic.specs.declared.items.Placed.{Placed}
 use Rattle.tpw_occam_symbolic.specs.Symbolic.{Machine, Leads}
-use Rattle.tpw_occam_symbolic.specs.Carried.{Site, address_of}
+use Rattle.tpw_occam_symbolic.specs.MatchStates.{Site, address_of}
 use Rattle.tpw_occam_symbolic.specs.Placing.{AreBetween, site_of}
-use Rattle.tpw_occam_symbolic.proofs.CarryingCode.{first_address}
-use Rattle.tpw_occam_symbolic.proofs.CarryingImage.{IsMadeOf, lies_in}
-use Rattle.tpw_occam_symbolic.proofs.CarryingPlaces.{has_items}
-use Rattle.tpw_occam_symbolic.proofs.CarryingStart.{IsFirst, Gives, run_carries}
+use Rattle.tpw_occam_symbolic.proofs.SimulationCode.{first_address}
+use Rattle.tpw_occam_symbolic.proofs.SimulationImage.{IsMadeOf, lies_in}
+use Rattle.tpw_occam_symbolic.proofs.SimulationPlaces.{has_items}
+use Rattle.tpw_occam_symbolic.proofs.SimulationStart.{IsFirst, Gives, run_carries}
 
 module _ (program : Program) (image : ImageValue) (is : IsAssembly program image) (code : List CodeLine) (placed : List Placed) (most : ℕ) where
   abbrev pub site : Site

@@ -16,10 +16,10 @@ use Rattle.tp_step.specs.Effects.{effect as effect_in, go, turn_ended as turn_en
 use Rattle.tpw_occam_symbolic.specs.declared.items.Item.{Item}
 use Rattle.tpw_occam_symbolic.specs.Blocks.{word_at, with_word}
 use Rattle.tpw_occam_symbolic.specs.Symbolic.{Machine, Contents, number, address, distance, address_in, distance_to, effect, at_place, with_blocks, has_bytes, turn_ended}
-use Rattle.tpw_occam_symbolic.specs.Carried.{Site, address_of, base_of, LiesIn, IsHeld, Corresponds}
-use Rattle.tpw_occam_symbolic.proofs.Carrying.{Carries, both_carry, bind_machine, when_machine, bind_state, with_memory, with_place, agrees_undefined}
-use Rattle.tpw_occam_symbolic.proofs.CarryingMemory.{address_held, descheduled_state, store_state, word_there, word_stored, words_further}
-use Rattle.tpw_occam_symbolic.proofs.CarryingControl.{rested, back_is}
+use Rattle.tpw_occam_symbolic.specs.MatchStates.{Site, address_of, base_of, LiesIn, IsHeld, MatchStates}
+use Rattle.tpw_occam_symbolic.proofs.Simulation.{Carries, both_carry, bind_machine, when_machine, bind_state, with_memory, with_place, agrees_undefined}
+use Rattle.tpw_occam_symbolic.proofs.SimulationMemory.{address_held, descheduled_state, store_state, word_there, word_stored, words_further}
+use Rattle.tpw_occam_symbolic.proofs.SimulationControl.{rested, back_is}
 
 -- a register in which the distance to a place is
 distance_held : (site : Site) (c : Contents) (o : Option ℕ) (place from word : ℕ) → IsHeld site c o → distance_to place c ≡ Some from
@@ -44,9 +44,9 @@ fewer x y size h e = grind (arith, nat_tests, h, e)
 
 module _ (image : ImageValue) (site : Site) (lies : LiesIn image site) where
   -- control goes back
-  gone_back : (m : Machine) (s : State) (back word : ℕ) → Corresponds site m s → address_of site back ≤ address_of site m.place
+  gone_back : (m : Machine) (s : State) (back word : ℕ) → MatchStates site m s → address_of site back ≤ address_of site m.place
       → word ≡ address_of site m.place - address_of site back
-      → Corresponds site (at_place back m) (go (pos 0 -ℤ signed word) s)
+      → MatchStates site (at_place back m) (go (pos 0 -ℤ signed word) s)
   gone_back m s back word is before long =
       let small : word < 2 ^ 31 = omega (arith, long, lies.small m.place) in
       with_place site m s back (s.iptr +ℤ (pos 0 -ℤ signed word)) is
@@ -55,7 +55,7 @@ module _ (image : ImageValue) (site : Site) (lies : LiesIn image site) where
       ∙ ap (λ n. pos (address_of site m.place) +ℤ (pos 0 -ℤ pos n)) long
       ∙ back_is (address_of site m.place) (address_of site back) before)
 
-  turn_carries : (m : Machine) (s : State) → Corresponds site m s → (block : Item) (at block' index left back word : ℕ)
+  turn_carries : (m : Machine) (s : State) → MatchStates site m s → (block : Item) (at block' index left back word : ℕ)
       → has_bytes m block at 4 ≡ true → block' ≡ (base_of site block + at) % 2 ^ 32
       → address_of site back ≤ address_of site m.place → word ≡ address_of site m.place - address_of site back
       → Carries site (Some (turn_ended block at index left back m)) (turn_ended_in image block' index left (signed word) s)
@@ -86,7 +86,7 @@ module _ (image : ImageValue) (site : Site) (lies : LiesIn image site) where
           (with_memory site m s1 m.blocks (undefined s1.memory block' 8) is1
           (agrees_undefined image site lies m.blocks s1.memory block' 8 is1.memory)))
 
-  pub lend_carries : (m : Machine) (s : State) → Corresponds site m s → Carries site (effect Lend m) (effect_in image Lend s)
+  pub lend_carries : (m : Machine) (s : State) → MatchStates site m s → Carries site (effect Lend m) (effect_in image Lend s)
   unfolding effect effect_in
   lend_carries m s is =
       bind_machine site (address_in m.breg) _ _ λ block is_block.

@@ -7,8 +7,8 @@ use Rattle.tpw_occam_symbolic.specs.declared.items.Item.{Item}
 use Rattle.tpw_occam_symbolic.specs.declared.items.Placed.{Placed}
 use Rattle.tpw_occam_symbolic.specs.Blocks.{is_item}
 use Rattle.tpw_occam_symbolic.specs.Placing.{words_at, local_at, AreBetween, site_of}
-use Rattle.tpw_occam_symbolic.proofs.Carrying.{same_item}
-use Rattle.tpw_occam_symbolic.proofs.CarryingImage.{HasItems}
+use Rattle.tpw_occam_symbolic.proofs.Simulation.{same_item}
+use Rattle.tpw_occam_symbolic.proofs.SimulationImage.{HasItems}
 
 ends_behind : (first most : ℕ) (placed : List Placed) → AreBetween first most placed → first ≤ most
 ends_behind first most [] are = are

@@ -16,14 +16,14 @@ use Rattle.tpw_asm.specs.Layout.{distance as distance_between}
 use Rattle.tpw_occam_symbolic.specs.declared.code.Step.TheVariants.{JumpTo, CjTo, Distance}
 use Rattle.tpw_occam_symbolic.specs.Blocks.{Blocks, with_bytes, bytes_at}
 use Rattle.tpw_occam_symbolic.specs.Symbolic.{Machine, distance, number_in, address_in, effect, performed, push, pop, at_place, with_blocks, has_bytes, sent_on}
-use Rattle.tpw_occam_symbolic.specs.Carried.{Site, address_of, LiesIn, Agrees, Corresponds}
-use Rattle.tpw_occam_symbolic.proofs.Carrying.{Carries, both_carry, none_carries, none_carried, bind_machine, when_machine, bind_state, when_state, with_registers, with_memory, with_place, agrees_bytes, agrees_undefined}
-use Rattle.tpw_occam_symbolic.proofs.CarryingNumbers.{number_held}
-use Rattle.tpw_occam_symbolic.proofs.CarryingMemory.{address_held, descheduled_state, room_of, bytes_there}
+use Rattle.tpw_occam_symbolic.specs.MatchStates.{Site, address_of, LiesIn, Agrees, MatchStates}
+use Rattle.tpw_occam_symbolic.proofs.Simulation.{Carries, both_carry, none_carries, none_carried, bind_machine, when_machine, bind_state, when_state, with_registers, with_memory, with_place, agrees_bytes, agrees_undefined}
+use Rattle.tpw_occam_symbolic.proofs.SimulationNumbers.{number_held}
+use Rattle.tpw_occam_symbolic.proofs.SimulationMemory.{address_held, descheduled_state, room_of, bytes_there}
 
-pub with_streams : (site : Site) (m : Machine) (s : State) (x y z x' y' z' : List ℕ) (phase : ℕ) → Corresponds site m s
+pub with_streams : (site : Site) (m : Machine) (s : State) (x y z x' y' z' : List ℕ) (phase : ℕ) → MatchStates site m s
     → x' ≡ x → y' ≡ y → z' ≡ z
-    → Corresponds site (record m { to_come = x; sent = y; traced = z }) (record s { to_come = x'; sent = y'; traced = z'; phase = phase })
+    → MatchStates site (record m { to_come = x; sent = y; traced = z }) (record s { to_come = x'; sent = y'; traced = z'; phase = phase })
 with_streams site m s x y z x' y' z' phase is a b c = record {
   code = is.code;
   sizes = is.sizes;
@@ -41,8 +41,8 @@ with_streams site m s x y z x' y' z' phase is a b c = record {
   traced = c;
 }
 
-with_stopped : (site : Site) (m : Machine) (s : State) → Corresponds site m s
-    → Corresponds site (record m { stopped = true }) (record s { stopped = true })
+with_stopped : (site : Site) (m : Machine) (s : State) → MatchStates site m s
+    → MatchStates site (record m { stopped = true }) (record s { stopped = true })
 with_stopped site m s is = record {
   code = is.code;
   sizes = is.sizes;
@@ -78,19 +78,19 @@ back_is a f h = grind (arith, ints, h)
 
 module _ (image : ImageValue) (site : Site) (lies : LiesIn image site) where
   -- what a place to deschedule leaves carries as much
-  pub rested : (m : Machine) (s : State) (a n : ℕ) → Corresponds site m s → Corresponds site m (no_registers (record s { memory = undefined s.memory a n }))
+  pub rested : (m : Machine) (s : State) (a n : ℕ) → MatchStates site m s → MatchStates site m (no_registers (record s { memory = undefined s.memory a n }))
   rested m s a n is =
       with_registers site m (record s { memory = undefined s.memory a n }) m.areg m.breg m.creg None None None
       (with_memory site m s m.blocks (undefined s.memory a n) is (agrees_undefined image site lies m.blocks s.memory a n is.memory))
       tt tt tt
 
-  gone : (m : Machine) (s : State) (to bytes : ℕ) → Corresponds site m s → address_of site m.place ≤ address_of site to
-      → bytes ≡ address_of site to - address_of site m.place → Corresponds site (at_place to m) (go (pos bytes) s)
+  gone : (m : Machine) (s : State) (to bytes : ℕ) → MatchStates site m s → address_of site m.place ≤ address_of site to
+      → bytes ≡ address_of site to - address_of site m.place → MatchStates site (at_place to m) (go (pos bytes) s)
   gone m s to bytes is forward long =
       with_place site m s to (s.iptr +ℤ pos bytes) is
       (ap (λ z. z +ℤ pos bytes) is.place ∙ ap (λ n. pos (address_of site m.place) +ℤ pos n) long ∙ ahead_is _ _ forward)
 
-module _ (image : ImageValue) (site : Site) (lies : LiesIn image site) (m : Machine) (s : State) (is : Corresponds site m s) where
+module _ (image : ImageValue) (site : Site) (lies : LiesIn image site) (m : Machine) (s : State) (is : MatchStates site m s) where
   -- ---- jumps
 
   pub jump_carries : (place to : ℕ) → m.place ≡ place + 1 → address_of site (place + 1) ≤ address_of site to
@@ -181,7 +181,7 @@ module _ (image : ImageValue) (site : Site) (lies : LiesIn image site) (m : Mach
   apart_links : (channel : ℕ) → nat_eq channel link0_output ≡ true → nat_eq channel link1_output ≡ false
   apart_links channel e = grind (arith, nat_tests)
 
-  sent_carries : (t : State) → Corresponds site m t → (channel : ℕ) (message message' : List ℕ) → message' ≡ message
+  sent_carries : (t : State) → MatchStates site m t → (channel : ℕ) (message message' : List ℕ) → message' ≡ message
       → Carries site (sent_on channel message m) (sent_in image channel message' t)
   sent_carries t is' channel message message' same =
       by_test (nat_eq channel link0_output) (nat_eq channel link1_output)

@@ -13,9 +13,9 @@ use Rattle.tp_step.proofs.StepLemmas.{steps_add, stopped_stays}
 use Rattle.tp_step.proofs.SpellingLemmas.{at, HasBytesAt, instruction_runs}
 use Rattle.tpw_occam_symbolic.specs.declared.code.CodeLine.{CodeLine}
 use Rattle.tpw_occam_symbolic.specs.Symbolic.{Machine, performed, at_place, step, Leads, nowhere, onward}
-use Rattle.tpw_occam_symbolic.specs.Carried.{Site, address_of, instr_of, LiesIn, Corresponds}
-use Rattle.tpw_occam_symbolic.proofs.Carrying.{with_place}
-use Rattle.tpw_occam_symbolic.proofs.CarryingSteps.{performed_carries}
+use Rattle.tpw_occam_symbolic.specs.MatchStates.{Site, address_of, instr_of, LiesIn, MatchStates}
+use Rattle.tpw_occam_symbolic.proofs.Simulation.{with_place}
+use Rattle.tpw_occam_symbolic.proofs.SimulationSteps.{performed_carries}
 
 true_false : ◌≡◌ {A = Bool} true false → ⊥
 true_false e = cc
@@ -132,11 +132,11 @@ pub record Reaches (image : ImageValue) (site : Site) (m : Machine) (s end : Sta
   pub way : steps image count s ≡ Some state
   pub more : ℕ
   pub rest : steps image more state ≡ Some end
-  pub is : Corresponds site m state
+  pub is : MatchStates site m state
 
 module _ (image : ImageValue) (site : Site) (lies : LiesIn image site) where
   -- a step of the symbolic machine is carried by those of its line's spelling
-  pub step_carries : (m next : Machine) (s end : State) (n : ℕ) → Corresponds site m s → step m ≡ Some next
+  pub step_carries : (m next : Machine) (s end : State) (n : ℕ) → MatchStates site m s → step m ≡ Some next
       → steps image n s ≡ Some end → end.stopped ≡ true → Reaches image site next s end
   step_carries m next s end n is steps_on run stopped =
       let one = stepped m next steps_on in
@@ -167,7 +167,7 @@ module _ (image : ImageValue) (site : Site) (lies : LiesIn image site) where
       }
 
   -- and so are steps, one after another
-  pub leads_carries : {m last : Machine} → Leads m last → (s end : State) (n : ℕ) → Corresponds site m s → steps image n s ≡ Some end
+  pub leads_carries : {m last : Machine} → Leads m last → (s end : State) (n : ℕ) → MatchStates site m s → steps image n s ≡ Some end
       → end.stopped ≡ true → Reaches image site last s end
   leads_carries (nowhere m) s end n is run stopped = record {
     state = s;
@@ -190,13 +190,13 @@ module _ (image : ImageValue) (site : Site) (lies : LiesIn image site) where
       }
 
   -- a machine that has stopped is carried by the end
-  pub end_carries : {m last : Machine} → Leads m last → (s end : State) (n : ℕ) → Corresponds site m s → steps image n s ≡ Some end
-      → end.stopped ≡ true → last.stopped ≡ true → Corresponds site last end
+  pub end_carries : {m last : Machine} → Leads m last → (s end : State) (n : ℕ) → MatchStates site m s → steps image n s ≡ Some end
+      → end.stopped ≡ true → last.stopped ≡ true → MatchStates site last end
   end_carries {m} {last} way s end n is run stopped over =
       let there = leads_carries way s end n is run stopped in
       by_more there.state there.more there.rest there.is
     where
-      by_more : (t : State) (more : ℕ) → steps image more t ≡ Some end → Corresponds site last t → Corresponds site last end
-      by_more t zero rest is' = subst (Corresponds site last) (no_steps image t end rest) is'
+      by_more : (t : State) (more : ℕ) → steps image more t ≡ Some end → MatchStates site last t → MatchStates site last end
+      by_more t zero rest is' = subst (MatchStates site last) (no_steps image t end rest) is'
       by_more t (suc more) rest is' =
           let none = sym (stopped_stays image more t (is'.stopped ∙ over)) ∙ rest in absurd cc
