@@ -2,7 +2,7 @@
 //!
 //! `specs/Rows.antt` says what a row means by the definitions.
 
-/// What a state has that the bare state has not, in which nothing is on the stack and each word is 0. Settings are made
+/// A difference of a state from the bare one, in which nothing is on the stack and each word is 0. Settings are made
 /// one after another. Workspace words are named by their numbers, bytes by their addresses.
 #[derive(Clone, Copy)]
 pub enum Setting {

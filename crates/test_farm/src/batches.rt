@@ -17,7 +17,7 @@ use tp_stream::Packet;
 /// The number of the batches here.
 pub(crate) const BATCH: u64 = 7;
 
-/// What became of a packet.
+/// The end of a packet.
 #[derive(Clone, Copy, PartialEq, Eq)]
 pub(crate) enum PacketEnd {
     /// Its result as one word, its error flag, and how many instruction bytes were run.
@@ -49,7 +49,7 @@ pub(crate) fn of_entry(entry: &Entry) -> PacketEnd {
     }
 }
 
-/// What `INCREMENT` makes of a packet of this word: one more, in 16 instruction bytes, of which the sum of the greatest
+/// The end of a packet of this word on `INCREMENT`: one more, in 16 instruction bytes, of which the sum of the greatest
 /// number and one sets the error flag.
 pub(crate) fn one_more(word: u32) -> PacketEnd {
     PacketEnd::Done {
@@ -59,7 +59,7 @@ pub(crate) fn one_more(word: u32) -> PacketEnd {
     }
 }
 
-/// What `TRACES_ITS_PACKET` makes of a packet of this word: the same, in 19 instruction bytes.
+/// The end of a packet of this word on `TRACES_ITS_PACKET`: the same, in 19 instruction bytes.
 pub(crate) fn the_same(word: u32) -> PacketEnd {
     PacketEnd::Done {
         result: word,

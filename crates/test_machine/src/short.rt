@@ -39,7 +39,7 @@ fn text(rt: &impl Abort, alloc: Global, row: &Row) -> Vec<u8> {
     text
 }
 
-/// What a run answers, the machine and its phase after it, and what the three media hold.
+/// The answer of a run, the machine and its phase after it, and the contents of the three media.
 #[derive(Drop)]
 struct Seen {
     answer: Result<Outcome, RunFault>,

@@ -29,7 +29,7 @@ pub fn serve_on<T: Abort + Threads + Wait + Sync, R: Read, W: Write>(
     serve(rt, alloc, reader, writer, Farm::new(links, trace))
 }
 
-/// What is written for an input.
+/// The output for an input.
 pub fn served<T: Abort + Threads + Wait + Sync>(
     rt: &T,
     alloc: Global,

@@ -1,4 +1,4 @@
-//! What is written and flushed at full size.
+//! Output at full size, and its flushes.
 
 use crate::asserts::{assert_same, unwrap};
 use crate::farms::opened;

@@ -53,7 +53,7 @@ fn long_image(rt: &impl Abort, alloc: Global, head: &str, times: usize) -> Vec<u
     input
 }
 
-/// What a long image begins with, how many pairs of instructions it has, and what is answered.
+/// The beginning of a long image, its number of pairs of instructions, and the answer.
 const LONG: [(&str, usize, &str); 2] = [
     (
         "5450573115070C0008000100010000001024F25444F7",

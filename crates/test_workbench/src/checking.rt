@@ -1,4 +1,4 @@
-//! What a check finds where a worker does something else than its text means.
+//! The findings of a check where a worker does something else than its text means.
 
 use crate::asserts::{assert_same, unwrap};
 use std::alloc::Global;
@@ -47,7 +47,7 @@ PROC other (CHAN OF INT packet, CHAN OF INT result, CHAN OF INT trace)
 :
 ";
 
-/// What is written of the runs of the packets 0, 2, 3 and 65: in order nothing, another trace, another result, flag and
+/// The output of the runs of the packets 0, 2, 3 and 65: in order nothing, another trace, another result, flag and
 /// trace, and a loss.
 const OTHERS: &str = "\
 1  flag 0  628 of 1384  2147483642
@@ -79,7 +79,7 @@ fn meaning_of(rt: &impl Abort, alloc: Global, text: &str) -> Process {
     read.compiled.core
 }
 
-/// What a check of the runs of a text's worker by another text's meaning writes, and the packets that it finds.
+/// The output of a check of the runs of a text's worker by another text's meaning, and the packets that it finds.
 fn checked<T>(rt: &T, alloc: Global, text: &str, other: &str) -> (Vec<u8>, Vec<usize>)
 where
     T: Threads + Wait + Clock + Eprint + Sync + Abort,

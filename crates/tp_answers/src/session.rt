@@ -9,7 +9,7 @@ use std::alloc::{AllocError, Global};
 use tp_accept::Accepted;
 use tp_stream::Packet;
 
-/// What a session keeps: the image, and the packets that are to be run on it.
+/// A session: the image, and the packets that are to be run on it.
 #[derive(Drop)]
 pub struct OpenSession {
     pub image: Accepted,

@@ -110,7 +110,7 @@ pub(crate) struct Passes {
     is_carried: bool,
     /// Whether a state was propagated from this instruction before, and so is again to the next one.
     is_again: bool,
-    /// What is known before the instruction, and then after its edge.
+    /// The state before the instruction, and then after its edge.
     carried: State,
 }
 

@@ -28,7 +28,7 @@ use tp_collect::{Collected, Collector};
 use tp_link::{LinkDevice, Links};
 use tp_stream::{Feeder, Ledger, MAX_MEMBERS, MAX_PACKETS, Packet, StreamHand, StreamQueue};
 
-/// What became of a batch's packets, and the links in the order in which they were given.
+/// The results of a batch's packets, and the links in the order in which they were given.
 #[derive(Drop)]
 pub struct Batch<D> {
     pub collected: Collected,

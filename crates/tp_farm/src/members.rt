@@ -20,7 +20,7 @@ use std::thread::{Promise, PromisedHandle, Scope, Threads, join_promised};
 use tp_link::{LinkDevice, Links};
 use tp_stream::{Fed, Feeder, StreamHand, StreamQueue};
 
-/// What a member's thread keeps: it has done the shared's work with the devices that it had.
+/// The promise of a member's thread: it has done the shared's work with the devices that it had.
 #[derive(Drop)]
 struct MemberPromise<'j, G, D> {
     shared: &'j Shared<'j, G>,

@@ -14,7 +14,7 @@ use tp_link::{LinkDevice, Links};
 use tp_machine::Machine;
 use tp_stream::{StreamHand, StreamQueue};
 
-/// What a member's thread gives back: its hand, its devices, what it filed, and why it ended.
+/// The return of a member's thread: its hand, its devices, what it filed, and why it ended.
 #[derive(Drop)]
 pub(crate) struct Returned<D> {
     pub(crate) hand: StreamHand,
@@ -23,7 +23,7 @@ pub(crate) struct Returned<D> {
     pub(crate) end: End,
 }
 
-/// What all members work with.
+/// The common state of all members.
 #[derive(Drop)]
 pub(crate) struct Shared<'j, G> {
     pub(crate) job: &'j Job<'j>,

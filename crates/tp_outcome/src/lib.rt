@@ -1,4 +1,4 @@
-//! What both machines share: how a run ends, and what it leaves its devices.
+//! The parts that both machines share: how a run ends, and what it leaves its devices.
 #![tactic(auto)]
 
 pub mod laws;

@@ -3,7 +3,7 @@
 ghost use Rattle.std.specs.Prelude.{◌≡◌, ◌%◌};
 ghost use Rattle.tp_prefix.specs.Spelling.{shifted, shifted_complement};
 
-/// What pfix makes of Oreg.
+/// Oreg after pfix: shifted up by four bits.
 #[inline(always)]
 pub fn shifted(oreg: u32) -> u32
     ensures value { result ≡ shifted oreg }
@@ -12,7 +12,7 @@ pub fn shifted(oreg: u32) -> u32
     oreg.wrapping_mul(16)
 }
 
-/// What nfix makes of Oreg.
+/// Oreg after nfix: complemented, then shifted up by four bits.
 #[inline(always)]
 pub fn shifted_complement(oreg: u32) -> u32
     ensures value { result ≡ shifted_complement oreg }

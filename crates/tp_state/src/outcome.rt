@@ -1,4 +1,4 @@
-//! What is known after an instruction.
+//! The transfer function, as a value.
 
 ghost use Rattle.std.specs.Prelude.{◌≡◌, Ok, IfOk, IfErr};
 ghost use Rattle.tp_flow.specs.NestRanges.{ranges};

@@ -114,7 +114,7 @@ pub(crate) fn remainders(b: (i32, i32), a: (i32, i32)) -> Kind
     }
 }
 
-/// What has the bits of two numbers in common.
+/// The bits that two numbers have in common.
 pub(crate) fn conjunctions(b: (i32, i32), a: (i32, i32)) -> Kind
     ensures { result ≡ conjunctions b a }
 {

@@ -105,7 +105,7 @@ impl Picked {
     }
 }
 
-/// What `step` is to show: a packet's run, from the place that a word names and as far as another, and of it the
+/// The view of `step`: a packet's run, from the place that a word names and as far as another, and of it the
 /// changes of some words.
 #[derive(Drop)]
 pub struct StepOptions {

@@ -24,7 +24,7 @@ fn span_of(text: &str, span: TreeSpan) -> Span
     }
 }
 
-/// What is said of a fault. Where an operator is wanted, the token is named that is in its place.
+/// The message of a fault. Where an operator is wanted, it names the token that is in its place.
 fn message_of(
     alloc: Global,
     text: &str,

@@ -6,7 +6,7 @@ use tpw_occam_meaning::{Expression as Tree, Expressions};
 use tpw_occam_terms::{Primitive, Span};
 use tpw_occam_typing::{Checker, Frame, Root, Worth, levels_within, span_of};
 
-/// What a CASE chooses by: its type, and whether a name is bound for it.
+/// The selector of a CASE: its type, and whether a name is bound for it.
 #[derive(Clone, Copy)]
 pub(crate) struct Selector {
     pub(crate) of: Primitive,
@@ -34,7 +34,7 @@ pub(crate) fn guard<'t, 'a>(
     })
 }
 
-/// What a CASE chooses by.
+/// The selector of a CASE.
 pub(crate) fn chosen_by<'t, 'a>(
     checker: &mut Checker<'t, 'a>,
     frame: Frame,

@@ -24,7 +24,7 @@ pub(crate) enum Level {
     Process,
 }
 
-/// What is in scope behind declarations, how deep these may be, and how many names they bind around the process.
+/// The scope behind declarations, how deep these may be, and how many names they bind around the process.
 #[derive(Clone, Copy)]
 pub(crate) struct Declared {
     pub(crate) frame: Frame,
@@ -52,7 +52,7 @@ impl Declared {
     }
 }
 
-/// What a name is declared to stand for, and whether a name is bound around the process for it.
+/// The binding of a declared name, and whether a name is bound around the process for it.
 #[derive(Clone, Copy)]
 struct Made<'t, 'a> {
     meaning: Meaning<'t, 'a>,
@@ -95,7 +95,7 @@ fn add_per_call<'t, 'a>(
     checker.per_call.add(name.span)
 }
 
-/// What a name stands for that is declared to have a value. In front of the worker's SEQ the value is worked out at once.
+/// The binding of a name that is declared to have a value. In front of the worker's SEQ the value is worked out at once.
 fn named_value<'t, 'a>(
     checker: &mut Checker<'t, 'a>,
     e: &Tree<'a>,
@@ -135,7 +135,7 @@ fn named_table<'t, 'a>(
     Ok(unbound(Meaning::Array(view)))
 }
 
-/// What the elements of a list are: what its first constant is.
+/// The kind of the elements of a list: that of its first constant.
 fn kind_of_list<'t, 'a>(
     checker: &mut Checker<'t, 'a>,
     frame: Frame,
@@ -176,7 +176,7 @@ fn single<'t, 'a>(
     named_value(checker, e, value, level)
 }
 
-/// What `VAL n IS e` makes of a name.
+/// The binding of a name by `VAL n IS e`.
 fn value<'t, 'a>(
     checker: &mut Checker<'t, 'a>,
     declared: Declared,
@@ -236,14 +236,14 @@ fn variable<'t, 'a>(
     })
 }
 
-/// What variables or arrays of one type are.
+/// Variables or arrays of one type.
 #[derive(Clone, Copy)]
 enum Kept {
     Variable(Primitive),
     Array(Result<Shape, Stop>),
 }
 
-/// What variables or arrays of a type are.
+/// Variables or arrays of a type.
 fn kept_of<'t, 'a>(
     checker: &mut Checker<'t, 'a>,
     frame: Frame,

@@ -5,14 +5,14 @@ use tpw_occam_meaning::Expression as Tree;
 use tpw_occam_terms::{Name, Primitive};
 use tpw_occam_typing::{Channel, Checker, Frame, Protocol, Root, Shape, Storage};
 
-/// What a message is of.
+/// The value or array of a message.
 #[derive(Clone, Copy)]
 pub(crate) enum Message {
     Value(Root),
     Array(Storage),
 }
 
-/// What a channel sends.
+/// The message on a channel.
 pub(crate) fn sent_by<'t, 'a>(
     checker: &mut Checker<'t, 'a>,
     frame: Frame,

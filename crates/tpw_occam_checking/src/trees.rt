@@ -1,4 +1,4 @@
-//! What is read off declarations and processes.
+//! Parts of declarations and processes.
 
 use tpw_occam_meaning::{
     Cases, Choices, Declaration, Declarations, Expression, Expressions, Names, Process, Processes,

@@ -15,7 +15,7 @@ use tpw_occam_typing::{Checker, Frame, MAX_DEPTH};
 /// Why a text has no worker.
 #[derive(Debug, Drop)]
 pub enum CheckError<'a> {
-    /// What is wrong, by places.
+    /// The faults, by places.
     Faults(Vec<Fault<'a>>),
     /// A growth was refused.
     Memory,
@@ -41,7 +41,7 @@ fn report_misread<'t, 'a>(checker: &mut Checker<'t, 'a>, misread: &[Misread]) ->
     Ok(())
 }
 
-/// What is in scope behind all declarations but the last.
+/// The scope behind all declarations but the last.
 fn others<'t, 'a>(
     checker: &mut Checker<'t, 'a>,
     list: &'t Declarations<'a>,
@@ -88,8 +88,8 @@ fn check_text<'t, 'a>(
     }
 }
 
-/// What may not be meant in a text, by places; or all that is wrong with it: with how it is written, `misread`, or with what
-/// it says. It is read as `source`; where its indentation is wrong, as nothing.
+/// What may not be meant in a text, by places; or all that is wrong with it: with how it is written, `misread`, or with
+/// what it says. It is read as `source`; where its indentation is wrong, as nothing.
 pub fn check<'t, 'a>(
     alloc: Global,
     text: &str,

@@ -1,4 +1,4 @@
-//! What operators make of words.
+//! The results of operators on words.
 #![tactic(auto, using(tp_words::proofs::Casts::casts))]
 
 ghost use Rattle.std.specs.Prelude.{◌≡◌};
@@ -102,7 +102,7 @@ fn shifted_right(b: u32, a: u32) -> Answer
     }
 }
 
-/// What an operator makes of two words.
+/// The result of an operator on two words.
 pub fn applied(operator: Operator, b: u32, a: u32) -> Answer
     ensures { result ≡ applied operator b a }
 {

@@ -3,7 +3,7 @@
 use crate::kind::Kind;
 use crate::process::{Message, Process};
 
-/// What an array is at first.
+/// An array at first.
 #[derive(Drop)]
 pub enum Storage {
     /// So many bytes, which are 0.

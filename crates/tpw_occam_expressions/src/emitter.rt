@@ -1,4 +1,4 @@
-//! What is known while code is made.
+//! The state of code generation.
 
 ghost use Rattle.std.specs.Prelude.{◌≡◌, ◌<◌, ◌^◌, ◌+◌, ◌-◌, ◌*◌, Some, IfOk, IfSome, map};
 ghost use Rattle.std.specs.Prelude.{slice_index};
@@ -17,7 +17,7 @@ use tp_image::limits::MAX_WORKSPACE_WORDS_2;
 use tpw_occam_core::{Expression, Kind, Storage, Worker};
 use tpw_occam_symbolic::{CodeFault, Item};
 
-/// What is known of a name: the numbers that its value may be, those that the verifier knows of, and its value where
+/// The ranges of a name: the numbers that its value may be, those that the verifier knows of, and its value where
 /// that is one constant, which then has no word.
 #[derive(Clone, Copy)]
 pub struct Fact {
@@ -26,7 +26,7 @@ pub struct Fact {
     pub constant: Option<u32>,
 }
 
-/// What is known of a variable of a kind.
+/// The ranges of a variable of a kind.
 pub fn fact_of(kind: Kind) -> Fact
     ensures { result ≡ fact_of_kind kind }
 {
@@ -40,7 +40,7 @@ pub fn fact_of(kind: Kind) -> Fact
     }
 }
 
-/// What is known of a name with a value in this range.
+/// The ranges of a name with a value in this range.
 pub(crate) fn valued(source: Range) -> Fact
     ensures { result ≡ valued_fact source }
 {
@@ -51,7 +51,7 @@ pub(crate) fn valued(source: Range) -> Fact
     }
 }
 
-/// What is known of a name of a constant.
+/// The ranges of a name of a constant.
 pub fn constant(c: u32) -> Fact
     ensures { result ≡ constant_fact c }
 {
@@ -63,7 +63,7 @@ pub fn constant(c: u32) -> Fact
     }
 }
 
-/// What is known of the index of a loop.
+/// The ranges of the index of a loop.
 pub fn counted(range: Range) -> Fact
     ensures { result ≡ counted_fact range }
 {
@@ -131,7 +131,7 @@ impl Allocation {
     }
 }
 
-/// What code is made with: the worker, and what is known of the names in scope.
+/// The state of code generation: the worker, and the ranges of the names in scope.
 #[derive(Drop)]
 pub struct Emitter<'a> {
     pub alloc: Global,
@@ -154,7 +154,7 @@ impl<'a> Model for Emitter<'a> {
     } };
 }
 
-/// What is known of variables.
+/// The ranges of variables.
 fn facts_of(alloc: Global, kinds: &[Kind]) -> Result<Vec<Fact>, AllocError>
     ensures { IfOk result (λ facts. facts.items ≡ map fact_of_kind kinds.now) }
 {
@@ -183,7 +183,7 @@ impl<'a> Emitter<'a> {
         self.worker.variables.get(x).copied().unwrap_or(Kind::Word)
     }
 
-    /// What is known of a name.
+    /// The ranges of a name.
     pub fn fact(&self, x: usize) -> Fact
         ensures { result ≡ fact_at self.now x }
     {

@@ -25,7 +25,7 @@ const MOST_POSITIVE: u32 = 0x7FFF_FFFF;
 
 const MOST_NEGATIVE: u32 = 0x8000_0000;
 
-/// What is known of a value that was pushed: the numbers that it may be, and those that the verifier knows of.
+/// The ranges of a value that was pushed: the numbers that it may be, and those that the verifier knows of.
 #[derive(Clone, Copy)]
 pub struct Value {
     pub source: Range,
@@ -33,7 +33,7 @@ pub struct Value {
 }
 
 impl Value {
-    /// What either may be.
+    /// The ranges that have all of either.
     fn or(self, other: Value) -> Value
         ensures first { (word : ℕ) → Holds self word → Holds result word }
         ensures second { (word : ℕ) → Holds other word → Holds result word }

@@ -18,7 +18,7 @@ use tp_decode::Instr;
 use tpw_occam_core::{Expression, Operator};
 use tpw_occam_symbolic::{Code, CodeFault, Step};
 
-/// What is known of a value that was kept in a word: the verifier knows nothing of it.
+/// The ranges of a value that was kept in a word: the verifier knows nothing of it.
 fn recalled(value: Value) -> Value
     ensures { result ≡ record { source = value.source; known = full } }
 {

@@ -25,7 +25,7 @@ pub const FULL: Range = Range {
     high: i32::MAX,
 };
 
-/// What a byte may be.
+/// The numbers of a byte.
 pub(crate) const BYTE: Range = Range { low: 0, high: 255 };
 
 /// FALSE and TRUE.
@@ -73,7 +73,7 @@ impl Range {
         other.low <= self.low && self.high <= other.high
     }
 
-    /// What either may be.
+    /// The range that has all of either.
     pub(crate) fn or(self, other: Range) -> Range
         ensures ends { result ≡ from_to (int_min self.low other.low) (int_max self.high other.high) }
         ensures first { ContainsAllOf result self }
@@ -260,7 +260,7 @@ fn shifted_right(b: Range, a: Range) -> Range
     }
 }
 
-/// What may come of two operands.
+/// The range of an operator's results on two operands.
 pub(crate) fn result_range(operator: Operator, b: Range, a: Range) -> Range
     ensures contains { ContainsResults operator b a result }
     ensures fits { result ≢ full → AlwaysFits operator b a }

@@ -209,7 +209,7 @@ pub(crate) fn offset_element(
     Ok(element_value(Kind::Word))
 }
 
-/// What is known of an element.
+/// The ranges of an element.
 fn element_value(kind: Kind) -> Value
     ensures { (bytes : List ℕ) (i : ℕ) → ((at : ℕ) → slice_index bytes at < 256) → Holds result (element kind bytes i) }
 {

@@ -1,10 +1,10 @@
-//! What is wrong with a text.
+//! The faults of a text.
 
 use crate::sort::{Role, Sort, keyword, with_article};
 use std::fmt;
 use tpw_occam_terms::{Primitive, Span};
 
-/// What a text goes beyond.
+/// A limit of texts.
 #[derive(Clone, Copy, Debug, PartialEq, Eq)]
 pub enum Limit {
     /// Calls within one another.
@@ -17,7 +17,7 @@ pub enum Limit {
     Guards,
 }
 
-/// What is wrong.
+/// The kind of a fault.
 #[derive(Clone, Copy, Debug, PartialEq, Eq)]
 pub enum FaultKind<'a> {
     /// The text is not read as a tree.
@@ -246,7 +246,7 @@ fn write_arguments<W: fmt::Write>(
     )
 }
 
-/// What is wrong with arrays.
+/// Writes faults of arrays.
 fn write_array<W: fmt::Write>(f: &mut fmt::Formatter<W>, kind: FaultKind<'_>) -> fmt::Result {
     match kind {
         FaultKind::Elements { wanted, found } => {
@@ -279,7 +279,7 @@ fn write_array<W: fmt::Write>(f: &mut fmt::Formatter<W>, kind: FaultKind<'_>) ->
     }
 }
 
-/// What is wrong with names, values and counts.
+/// Writes faults of names, values and counts.
 fn write_value<W: fmt::Write>(f: &mut fmt::Formatter<W>, kind: FaultKind<'_>) -> fmt::Result {
     match kind {
         FaultKind::NoByte { value } => write!(f, "{value} is no BYTE: they are 0 to 255"),

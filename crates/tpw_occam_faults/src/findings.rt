@@ -1,4 +1,4 @@
-//! What is found while a text is looked at.
+//! The findings of a check.
 
 use crate::fault::{Fault, FaultKind};
 use crate::note::{Note, NoteKind};
@@ -10,7 +10,7 @@ use tpw_occam_terms::{MAX_FAULTS, Span};
 pub enum Stop {
     /// A growth was refused.
     Memory,
-    /// What is wrong is reported.
+    /// A fault is reported.
     Reported,
     /// No more is looked for: a limit is reached, of the text or of faults.
     Ended,

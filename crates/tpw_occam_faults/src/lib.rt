@@ -1,4 +1,4 @@
-//! What is wrong with a text, and what may not be meant in it: each at its place, in the order of places.
+//! The faults and the warnings of a text: each at its place, in the order of places.
 #![tactic(auto)]
 
 mod fault;

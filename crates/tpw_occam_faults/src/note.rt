@@ -1,9 +1,9 @@
-//! What a text may not mean.
+//! The warnings of a text.
 
 use std::fmt;
 use tpw_occam_terms::Span;
 
-/// What may not be meant.
+/// The kind of a warning.
 #[derive(Clone, Copy, Debug, PartialEq, Eq)]
 pub enum NoteKind<'a> {
     /// An IF without TRUE: where no guard holds, it sets the error flag.

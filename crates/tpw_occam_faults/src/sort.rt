@@ -1,9 +1,9 @@
-//! What names stand for, as a fault says it.
+//! The kinds of what is declared, as a fault spells them.
 
 use std::fmt;
 use tpw_occam_terms::Primitive;
 
-/// What a name stands for.
+/// The kind of what is declared under a name.
 #[derive(Clone, Copy, Debug, PartialEq, Eq)]
 pub enum Sort {
     /// A constant, a value or an index: read, and not assigned to.
@@ -19,7 +19,7 @@ pub enum Sort {
     Channel,
 }
 
-/// What a name is used as.
+/// The use of a name.
 #[derive(Clone, Copy, Debug, PartialEq, Eq)]
 pub enum Role {
     /// A value is read.

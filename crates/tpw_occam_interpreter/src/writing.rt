@@ -1,4 +1,4 @@
-//! What is written to a memory, which grows where it has no room.
+//! Writes to a memory, which grows where it has no room.
 
 ghost use Rattle.std.specs.Prelude.{◌≡◌, ◌<◌, ℕ, ◌==◌, replicate, vec_len, slice_index, if◌then◌else◌, OnOk};
 ghost use Rattle.tpw_occam_core.specs.Arrays.{with_element};

@@ -1,4 +1,4 @@
-//! What operators make of values.
+//! The results of operators on values.
 
 ghost use Rattle.std.specs.Prelude.{◌≡◌, int_le};
 ghost use Rattle.tp_words.specs.Words.{signed};
@@ -18,7 +18,7 @@ fn is_at_most(a: u32, b: u32) -> u32
     u32::from(a.cast_signed() <= b.cast_signed())
 }
 
-/// What an operator makes of a word.
+/// The result of an operator on a word.
 pub fn monadic(operator: Monadic, a: u32) -> Answer
     ensures { result ≡ text.monadic operator a }
 {
@@ -64,14 +64,14 @@ fn of_words(operator: Dyadic, b: u32, a: u32) -> Answer
     }
 }
 
-/// What `AND` makes of its left operand and the right one.
+/// The result of `AND` on its left operand and the right one.
 fn both(b: u32, right: Answer) -> Answer
     ensures { result ≡ core.both b right }
 {
     if b == 0 { pure(0) } else { right }
 }
 
-/// What `OR` makes of its left operand and the right one.
+/// The result of `OR` on its left operand and the right one.
 fn either(b: u32, right: Answer) -> Answer
     ensures { result ≡ core.either b right }
 {
@@ -85,7 +85,7 @@ fn either(b: u32, right: Answer) -> Answer
     }
 }
 
-/// What an operator makes of its two operands.
+/// The result of an operator on its two operands.
 pub fn combined(operator: Dyadic, left: Answer, right: Answer) -> Answer
     ensures { result ≡ text.combined operator left right }
 {

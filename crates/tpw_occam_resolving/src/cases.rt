@@ -136,7 +136,7 @@ fn is_one_of(alloc: Global, word: Word, constants: &[u32]) -> Result<Made, Alloc
     }
 }
 
-/// What is selected where a word is one of these constants, and else the rest.
+/// The choice of a process where a word is one of these constants, and else of the rest.
 pub(crate) fn selection(
     alloc: Global,
     word: Word,

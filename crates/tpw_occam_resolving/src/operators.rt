@@ -1,4 +1,4 @@
-//! What operators make of values. What is made of values that are known is known.
+//! The values of operators. Those of known values are known.
 
 ghost use Rattle.std.specs.Prelude.{◌≡◌, Some, IfOk};
 ghost use Rattle.tpw_occam_core.specs.Meaning.{bind};
@@ -35,7 +35,7 @@ fn monadic_expression(
     }
 }
 
-/// What an operator makes of its one operand.
+/// The value of an operator on its one operand.
 pub(crate) fn of_one(alloc: Global, operator: Monadic, a: Value) -> Result<Value, AllocError>
     ensures { IfOk result (λ r. value_made r ≡ text.of_one (λ a. bind a (text.monadic operator)) (value_made a)) }
 {
@@ -130,7 +130,7 @@ fn dyadic_expression(
     }
 }
 
-/// What an operator makes of two values that are not both known.
+/// The value of an operator on two values that are not both known.
 fn varying(alloc: Global, operator: Dyadic, b: Value, a: Value) -> Result<Value, AllocError>
     ensures { IfOk result (λ r. value_made r
         ≡ text.Varying (λ s. text.combined operator (text.at (value_made b) s) (text.at (value_made a) s))) }
@@ -140,7 +140,7 @@ fn varying(alloc: Global, operator: Dyadic, b: Value, a: Value) -> Result<Value,
     Ok(Value::Varying(dyadic_expression(alloc, operator, left, right)?))
 }
 
-/// What an operator makes of its two operands.
+/// The value of an operator on its two operands.
 pub(crate) fn of_two(
     alloc: Global,
     operator: Dyadic,

@@ -60,7 +60,7 @@ fn size_in<'t, 'a>(
     }
 }
 
-/// What elements are.
+/// The kind of elements.
 pub(crate) fn kind_of(of: Primitive) -> Option<Kind>
     ensures { result ≡ values.kind_of of }
 {
@@ -71,7 +71,7 @@ pub(crate) fn kind_of(of: Primitive) -> Option<Kind>
     }
 }
 
-/// What an array of a type has to be.
+/// The shape that an array of a type has to have.
 pub fn shape<'t, 'a>(
     alloc: Global,
     scope: &Scope<'_, 't, 'a>,

@@ -1,4 +1,4 @@
-//! What is made of an expression: a value that is known, or an expression of the core.
+//! The value of an expression: known, or an expression of the core.
 
 ghost use Rattle.std.specs.Prelude.{◌≡◌, true, false, IfOk};
 ghost use Rattle.tpw_occam_core.specs.Meaning.{bind};

@@ -12,7 +12,7 @@ use tpw_occam_meaning::{Expression as Tree, Expressions};
 use tpw_occam_names::element_type;
 use tpw_occam_terms::{Name, Primitive, Span};
 
-/// What a parameter stands for, and whether a name is bound around the body for it.
+/// The binding of a parameter, and whether a name is bound around the body for it.
 #[derive(Clone, Copy)]
 pub(crate) struct Passed<'t, 'a> {
     meaning: Meaning<'t, 'a>,
@@ -73,7 +73,7 @@ impl<'t, 'a> Checker<'t, 'a> {
         Err(self.fault(name.span, kind))
     }
 
-    /// What a parameter stands for whose argument is a name with a value that stays the same while the body is
+    /// The binding of a parameter whose argument is a name with a value that stays the same while the body is
     /// evaluated: one that is given its value once, or a variable where the body is an expression.
     fn fixed(&self, scope: Scope, e: &Tree<'a>, callee: Callee) -> Option<Meaning<'t, 'a>> {
         let name = name_alone(e)?;
@@ -243,7 +243,7 @@ impl<'t, 'a> Checker<'t, 'a> {
         }
     }
 
-    /// What a parameter stands for where this is its argument.
+    /// The binding of a parameter where this is its argument.
     #[cycle(expressions)]
     fn passed(
         &mut self,

@@ -1,4 +1,4 @@
-//! What is known while a text is checked.
+//! The state of a check.
 
 use crate::cells::Cells;
 use crate::environment::{Environment, Meaning, Scope};
@@ -128,7 +128,7 @@ impl<'t, 'a> Checker<'t, 'a> {
     }
 }
 
-/// What was made, or what stands for it where the fault is reported.
+/// The value that was made, or another where its fault is reported.
 pub fn or_else<T: Drop>(made: Result<T, Stop>, other: T) -> Result<T, Stop> {
     match made {
         Err(Stop::Reported) => Ok(other),
@@ -136,7 +136,7 @@ pub fn or_else<T: Drop>(made: Result<T, Stop>, other: T) -> Result<T, Stop> {
     }
 }
 
-/// What was made; nothing where the fault is reported.
+/// The value that was made; nothing where its fault is reported.
 pub fn recovered<T: Drop>(made: Result<T, Stop>) -> Result<Option<T>, Stop> {
     match made {
         Ok(made) => Ok(Some(made)),

@@ -86,7 +86,7 @@ impl<'t, 'a> Checker<'t, 'a> {
         Ok(value)
     }
 
-    /// What is made of an expression, whichever type is wanted: a number alone takes it.
+    /// The value of an expression, whichever type is wanted: a number alone takes it.
     #[cycle(expressions)]
     fn made(
         &mut self,
@@ -128,7 +128,7 @@ impl<'t, 'a> Checker<'t, 'a> {
         }
     }
 
-    /// What an operator makes of its one operand.
+    /// The value of an operator on its one operand.
     fn applied(&mut self, operator: Monadic, e: Value, span: Span) -> Result<Value, Stop> {
         match operator {
             Monadic::Convert(to) => self.converted(to, e, span),
@@ -190,7 +190,7 @@ impl<'t, 'a> Checker<'t, 'a> {
         }
     }
 
-    /// What an operator makes of its two operands. BOOLs have no order.
+    /// The value of an operator on its two operands. BOOLs have no order.
     fn combined(
         &mut self,
         operator: Dyadic,
@@ -204,7 +204,7 @@ impl<'t, 'a> Checker<'t, 'a> {
         Ok(of_two(operator, left, right, span))
     }
 
-    /// What is known of an element: of a table, with a constant subscript, it is a constant.
+    /// The constness of an element: of a table, with a constant subscript, it is a constant.
     fn element_worth(&self, view: View, subscript: Worth, span: Span) -> Worth {
         match (view.storage, subscript) {
             (Storage::Table(table), Worth::Constant(at)) => match self.tables.get(table) {

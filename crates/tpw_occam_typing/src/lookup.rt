@@ -10,7 +10,7 @@ use tpw_occam_meaning::Expression;
 use tpw_occam_terms::{Name, Primitive};
 
 impl<'t, 'a> Checker<'t, 'a> {
-    /// What a name in scope stands for.
+    /// The binding of a name in scope.
     pub fn find(&mut self, scope: Scope, name: Name<'a>) -> Result<Entry<'t, 'a>, Stop> {
         if let Some(entry) = self.environment.find(scope, name.text) {
             self.per_call.look_up(entry.name.span);

@@ -39,7 +39,7 @@ fn plain(word: u32) -> Answer {
     Answer { word, flag: false }
 }
 
-/// What an operator that converts nothing makes of its operand.
+/// The value of an operator that converts nothing on its operand.
 pub(crate) fn of_one(operator: Monadic, e: Value, span: Span) -> Value {
     let worth = match e.worth {
         Worth::Constant(word) => answered(names::monadic(operator, word), span),
@@ -65,7 +65,7 @@ pub(crate) fn low_byte(e: Value, span: Span) -> Value {
     }
 }
 
-/// What is known of a subscript, or of how far is shifted, that is to be below a size.
+/// The constness of a subscript, or of a count of shifts, that is to be below a size.
 pub(crate) fn checked(below: u32, worth: Worth, span: Span) -> Worth {
     match worth {
         Worth::Constant(word) if word >= below => Worth::Flagged(span),
@@ -81,7 +81,7 @@ fn decided(left: Worth, right: Worth) -> Worth {
     }
 }
 
-/// What is known of both of two.
+/// The constness of two values that are both needed.
 fn both(left: Worth, right: Worth) -> Worth {
     match left {
         Worth::Constant(word) => {
@@ -95,7 +95,7 @@ fn both(left: Worth, right: Worth) -> Worth {
     }
 }
 
-/// What is known of one of two.
+/// The constness of one of two values.
 fn either(left: Worth, right: Worth) -> Worth {
     match left {
         Worth::Constant(word) => {
@@ -109,7 +109,7 @@ fn either(left: Worth, right: Worth) -> Worth {
     }
 }
 
-/// What is known of what an operator makes of two that both count. Where both set the flag, `<` and `>=` tell of the right
+/// The constness of an operator's value on two that both count. Where both set the flag, `<` and `>=` tell of the right
 /// one, which the worker works out first.
 fn of_words(operator: Dyadic, left: Worth, right: Worth, span: Span) -> Worth {
     match (left, right) {
@@ -123,7 +123,7 @@ fn of_words(operator: Dyadic, left: Worth, right: Worth, span: Span) -> Worth {
     }
 }
 
-/// What is known of what an operator makes of two.
+/// The constness of an operator's value on two.
 fn worth_of(operator: Dyadic, left: Worth, right: Worth, span: Span) -> Worth {
     match operator {
         Dyadic::And => both(left, right),
@@ -142,7 +142,7 @@ fn root_of(operator: Dyadic, left: Worth, right: Root) -> Root {
     }
 }
 
-/// What an operator makes of two, whose types are right.
+/// The value of an operator on two, whose types are right.
 pub(crate) fn of_two(operator: Dyadic, left: Value, right: Value, span: Span) -> Value {
     Value {
         of: names::type_of_two(operator),

@@ -9,7 +9,7 @@ use tpw_occam_meaning::{Parameters, Type};
 use tpw_occam_terms::{Name, Passing, Primitive, Span};
 
 impl<'t, 'a> Checker<'t, 'a> {
-    /// What a channel of a type carries.
+    /// The protocol of a channel of a type.
     fn protocol_of(
         &mut self,
         frame: Frame,
@@ -32,7 +32,7 @@ impl<'t, 'a> Checker<'t, 'a> {
         }
     }
 
-    /// What an argument that is an array has to be.
+    /// The form that an argument that is an array has to have.
     fn array_form(
         &mut self,
         frame: Frame,
@@ -44,7 +44,7 @@ impl<'t, 'a> Checker<'t, 'a> {
         Ok(Form::Array { shape, access })
     }
 
-    /// What an argument of such parameters has to be.
+    /// The form that an argument of such parameters has to have.
     fn form(
         &mut self,
         frame: Frame,

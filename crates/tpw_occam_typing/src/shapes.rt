@@ -22,7 +22,7 @@ impl<'t, 'a> Checker<'t, 'a> {
         }
     }
 
-    /// What elements of a type are in the core.
+    /// The kind in the core of elements of a type.
     pub fn kind_of(&mut self, of: Primitive, span: Span) -> Result<Kind, Stop> {
         match element_kind(of) {
             Some(kind) => Ok(kind),

@@ -1,9 +1,9 @@
-//! What is known of a value: its type, whether it is a constant, and whether it is worked out.
+//! Values in a text: their types, their constness, and where they are worked out.
 
 use tpw_occam_core::Answer;
 use tpw_occam_terms::{Primitive, Span};
 
-/// What is known of a value in the text.
+/// The constness of a value in the text.
 #[derive(Clone, Copy)]
 pub enum Worth {
     /// It is this constant.
@@ -51,7 +51,7 @@ pub(crate) fn computed(of: Primitive, root: Root) -> Value {
     }
 }
 
-/// What is known of an answer that is worked out at a place.
+/// The constness of an answer that is worked out at a place.
 pub(crate) fn answered(answer: Answer, span: Span) -> Worth {
     if answer.flag {
         Worth::Flagged(span)
@@ -61,7 +61,7 @@ pub(crate) fn answered(answer: Answer, span: Span) -> Worth {
 }
 
 impl Worth {
-    /// What is known of a value that is made of two.
+    /// The constness of a value that is made of two.
     pub(crate) fn with(self, other: Worth) -> Worth {
         match (self, other) {
             (Worth::Computed, _) => Worth::Computed,

@@ -1,4 +1,4 @@
-//! What a statement adds to a draft.
+//! Statements, added to a draft.
 
 ghost use Rattle.std.specs.Prelude.{◌≡◌, OnOk, OnErr, IfErr, Ok, slice_get};
 ghost use Rattle.tpw_text.specs.Faults.{IsRefusal};
@@ -31,7 +31,7 @@ fn plain<'a>(instr: Instr) -> DraftLine<'a>
     })
 }
 
-/// What is done at the address of a word.
+/// The instruction at the address of a word.
 fn accessing(access: Access) -> Instr
     ensures { result ≡ accessing access }
 {

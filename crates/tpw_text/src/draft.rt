@@ -1,4 +1,4 @@
-//! What is read of a text, with labels as they are in it.
+//! The draft of a text, with labels as they are in it.
 
 ghost use Rattle.std.specs.Prelude.{◌≡◌, ◌≤◌, OnOk, OnErr, IfOk, IfErr, Ok, true, []};
 ghost use Rattle.tpw_text.specs.Faults.{IsRefusal};
@@ -96,7 +96,7 @@ pub struct Settled {
     pub results: bool,
 }
 
-/// What is read so far.
+/// The draft so far.
 #[derive(Drop)]
 pub struct Draft<'a> {
     pub version: Version,

@@ -1,4 +1,4 @@
-//! What is wrong with a text.
+//! The faults of a text.
 
 ghost use Rattle.std.specs.Prelude.{◌≡◌};
 ghost use Rattle.tpw_text.specs.Faults.{out_of_memory};
@@ -6,7 +6,7 @@ ghost use Rattle.tpw_text.specs.Faults.{out_of_memory};
 use std::alloc::{AllocError, AllocFailed};
 use thiserror::Error;
 
-/// What is wrong at a place of a text.
+/// A fault at a place of a text.
 #[derive(Clone, Copy, Debug, PartialEq, Eq, Error)]
 pub enum TextFault {
     #[error("unknown instruction")]
@@ -55,7 +55,7 @@ pub enum TextFault {
     Memory,
 }
 
-/// What is wrong with a text, and where: lines and columns count from 1, columns in bytes.
+/// A fault of a text, and where: lines and columns count from 1, columns in bytes.
 #[derive(Clone, Copy, Debug, PartialEq, Eq, Error)]
 #[error("{line}:{column}: {fault}")]
 pub struct SourceFault {

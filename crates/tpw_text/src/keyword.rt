@@ -5,7 +5,7 @@ ghost use Rattle.tpw_text.specs.Keywords.{keyword_name, keyword_named};
 
 use crate::words::Word;
 
-/// What kind of statement a first word begins. A statement with another first word is an instruction.
+/// The kind of statement that a first word begins. A statement with another first word is an instruction.
 #[derive(Clone, Copy)]
 pub enum Keyword {
     Worker,

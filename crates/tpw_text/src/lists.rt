@@ -21,7 +21,7 @@ pub struct Item<'w, 'a> {
     words: &'w [Word<'a>],
 }
 
-/// What is between commas, of words behind another.
+/// The items between commas, of words behind another.
 fn items_of<'w, 'a>(
     alloc: Global,
     behind: &Word<'a>,
@@ -49,13 +49,13 @@ fn items_of<'w, 'a>(
     Ok(items)
 }
 
-/// What commas separate: a name of local words, an initial word, or a byte.
+/// An item between commas: a name of local words, an initial word, or a byte.
 pub trait ListItem<'a>: Sized {
     ghost use Rattle.std.specs.Prelude.{Result};
     ghost use Rattle.tpw_text.specs.declared.fault.SourceFault.{SourceFault};
     ghost use Rattle.tpw_text.specs.Lists.{Part};
 
-    /// What the words between two commas say.
+    /// The item of the words between two commas.
     ghost said: { Part → Result Self SourceFault };
 
     /// Reads it.

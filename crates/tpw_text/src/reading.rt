@@ -19,7 +19,7 @@ use crate::wanted::name_of;
 use crate::words::{Word, words_of};
 use std::alloc::Global;
 
-/// What a statement says, where these are the constants above it.
+/// The reading of a statement, where these are the constants above it.
 #[tactic(auto, unfolding(crate::specs::Meaning::statement_with))]
 fn read_with<'a>(
     alloc: Global,
@@ -57,7 +57,7 @@ fn read_line<'a>(
     }
 }
 
-/// What a text says, line by line, or its first fault.
+/// The draft of a text, line by line, or its first fault.
 fn draft_of<'a>(alloc: Global, text: &'a str) -> Result<Draft<'a>, SourceFault>
     ensures said { IfOk result (λ d. text_said text.now ≡ Ok (draft_apart (said d))) }
     ensures refused { IfErr result (IsRefusal (text_said text.now)) }

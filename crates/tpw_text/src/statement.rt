@@ -1,4 +1,4 @@
-//! What a statement says, by its words alone.
+//! Statements by their words alone.
 
 use crate::draft::{DraftLine, Row};
 use crate::words::Word;
@@ -33,7 +33,7 @@ pub enum Message {
     Trace,
 }
 
-/// What is done with a word that an index picks.
+/// The use of a word that an index picks.
 #[derive(Clone, Copy)]
 pub enum Access {
     Load,
@@ -81,7 +81,7 @@ pub struct NewLoop<'a> {
     pub count: u16,
 }
 
-/// What a statement says. A word is kept where the statement may still be refused at it.
+/// A statement. A word is kept where the statement may still be refused at it.
 #[derive(Drop)]
 pub enum Statement<'a> {
     /// Nothing: for readers.

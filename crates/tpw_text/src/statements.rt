@@ -220,7 +220,7 @@ fn of_keyword<'a>(
     })
 }
 
-/// What a statement says, by its words alone.
+/// The statement of words, by them alone.
 #[tactic(auto, unfolding(crate::specs::Grammar::statement_said))]
 pub fn read_statement<'a>(alloc: Global, words: &[Word<'a>]) -> Result<Statement<'a>, SourceFault>
     ensures said { IfOk result (λ s. statement_said words.now ≡ Ok (statement_kept s)) }

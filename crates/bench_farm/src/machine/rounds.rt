@@ -13,7 +13,7 @@ const MESSAGE_BYTES: usize = 64;
 /// More steps than any of the workers makes.
 const LIMIT: u32 = 16_777_216;
 
-/// What was counted over some rounds, and the last result's first word.
+/// The counts of some rounds, and the last result's first word.
 #[derive(Clone, Copy)]
 pub(crate) struct Run {
     pub(crate) counted: u64,

@@ -1,11 +1,12 @@
-//! What constants and initial words of a local say.
+//! The values of constants and initial words of a local.
 
 use crate::asserts::{assert_same, unwrap};
 use std::alloc::Global;
 use std::process::Abort;
 use tpw_text::{Position, read_source};
 
-/// What a constant is in the rows, the values of init and the names of others: its value's text, whatever it is named.
+/// The value of a constant in the rows, the values of init and the names of others: its value's text, whatever it is
+/// named.
 #[test]
 fn rows_and_initial_words(rt: HostRuntime) {
     let text = "\
