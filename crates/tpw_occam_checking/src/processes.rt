@@ -1,6 +1,6 @@
-//! Processes, with the bodies of PROCs in line.
+//! Processes, with the bodies of PROCs inlined.
 //!
-//! `depth` counts down with each process that lies within another, calls in line among them.
+//! `depth` counts down with each process that lies within another, inlined calls among them.
 
 use crate::assignments::assignment;
 use crate::choices::{Seen, Selector, case_guard, chosen_by, guard};

@@ -1,4 +1,4 @@
-//! Workers in occam whose names are resolved and whose calls are put in line: cells and arrays have numbers, and each is
+//! Workers in occam whose names are resolved and whose calls are inlined: cells and arrays have numbers, and each is
 //! declared where it is used. The number of what is declared is how much is declared around it.
 //!
 //! A core means a function on the state on which `tpw_occam_meaning` says what a text does.

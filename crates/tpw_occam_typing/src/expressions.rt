@@ -1,6 +1,6 @@
 //! Expressions.
 //!
-//! `depth` counts down with each expression that lies within another, calls in line among them.
+//! `depth` counts down with each expression that lies within another, inlined calls among them.
 
 use crate::checker::{Checker, Frame};
 use crate::environment::{Meaning, Scope, Storage, View};
