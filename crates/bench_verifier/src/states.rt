@@ -119,7 +119,7 @@ fn report_meetings<R: Runtime<A = Global>>(
     Ok(())
 }
 
-/// How many instructions pass in so many rounds.
+/// How many instructions pass in this many rounds.
 fn count_passed(state: &mut State, image: &Image, nest: &Nest, rounds: u32) -> u64
     requires placed { IsPlaced image.now state.old }
     requires good { HasGoodLoops image.now }
@@ -158,7 +158,7 @@ fn passes(state: &mut State, at: u8, instr: Instr, image: &Image, nest: &Nest) -
         .is_ok()
 }
 
-/// How many joins of so many change nothing.
+/// How many joins of this many change nothing.
 fn count_unchanged(state: &mut State, other: &State, rounds: u32) -> u64
     requires { length other.now.cells ≡ length state.old.cells }
 {
@@ -177,7 +177,7 @@ fn is_unchanged(state: &mut State, other: &State) -> bool
     state.join(other) == Ok(false)
 }
 
-/// How many times a state is below another, of so many. Two others take turns, and no round is like the one before.
+/// How many times a state is below another, of this many tries. Two others take turns, and no round is like the one before.
 fn count_below(state: &State, first: &State, second: &State, rounds: u32) -> u64
     requires first { length first.now.cells ≡ length state.now.cells }
     requires second { length second.now.cells ≡ length state.now.cells }

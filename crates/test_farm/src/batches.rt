@@ -87,7 +87,7 @@ pub(crate) fn packets(rt: &impl Abort, alloc: Global, words: &[u32]) -> Vec<Pack
     all
 }
 
-/// So many words in a row, from 0.
+/// This many words in a row, from 0.
 pub(crate) fn count_up(rt: &impl Abort, alloc: Global, count: u32) -> Vec<u32> {
     let mut words = Vec::new(alloc);
     for word in 0..count {
@@ -154,7 +154,7 @@ pub(crate) fn run_by_one<R: Abort + Threads + Wait + Sync, D: LinkDevice + Send,
     outcomes(rt, alloc, &collected)
 }
 
-/// Runs `INCREMENT` on these words by so many members, and returns their entries.
+/// Runs `INCREMENT` on these words by this many members, and returns their entries.
 pub(crate) fn increments_by<R: Abort + Threads + Wait + Sync, G: Gate>(
     rt: &R,
     alloc: Global,

@@ -118,7 +118,7 @@ fn fill(machine: &mut Machine) {
     }
 }
 
-/// From the first word on, so many words are undefined.
+/// From the first word on, this many words are undefined.
 fn lack(rt: &impl Abort, machine: &mut Machine, word: u32, count: u32) {
     assert!(rt; word <= WORDS && count <= WORDS - word, "no such words");
     machine.undefine(MEM_START + 4 * word, 4 * count as usize);

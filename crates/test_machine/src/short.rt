@@ -61,7 +61,7 @@ fn send_messages(rt: &impl Abort, links: &mut Links<Wire<'_>>, place: &Place) {
     unwrap(rt, links.trace.send(place.traced));
 }
 
-/// The run of a row, which executes no more than so many bytes.
+/// The run of a row, which executes no more than this many bytes.
 fn run(rt: &impl Abort, alloc: Global, row: &Row, limit: u32) -> Seen {
     let image = image_of(rt, alloc, row);
     let from = place_of(0, row.from);

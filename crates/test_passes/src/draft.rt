@@ -183,7 +183,7 @@ impl Draft {
         Ok(())
     }
 
-    /// The image of the code, of version 2, with so many workspace words and these first ones.
+    /// The image of the code, of version 2, with this many workspace words and these first ones.
     pub(crate) fn image(
         &self,
         alloc: Global,

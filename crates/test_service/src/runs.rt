@@ -40,7 +40,7 @@ fn images_are_judged(rt: HostRuntime) {
     }
 }
 
-/// A long image: a head, a pair of instructions so many times, and the end that sends the result.
+/// A long image: a head, a pair of instructions this many times, and the end that sends the result.
 fn long_image(rt: &impl Abort, alloc: Global, head: &str, times: usize) -> Vec<u8> {
     let mut input = Vec::new(alloc);
     unwrap(rt, input.extend_from_slice(b"a IMAGE "));

@@ -71,7 +71,7 @@ fn spelled(function: u8, operand: u8) -> [u8; 2] {
     [0x20 | operand >> 4, function | operand & 15]
 }
 
-/// A loop that moves so many words of its workspace, from the first on, to the next place, and then takes the last one
+/// A loop that moves this many words of its workspace, from the first on, to the next place, and then takes the last one
 /// that was written as the number of a word. What the packet has brought goes one word further with each pass.
 fn moving(rt: &impl Abort, alloc: Global, words: u8) -> Vec<u8>
     requires some { 0 < words }

@@ -12,7 +12,7 @@ use tp_flow::{Edge, check_flow};
 use tp_image::read_image;
 use tp_state::{Cells, State, StateFault, after};
 
-/// A state of seven fields, with so many words.
+/// A state of seven fields, with this many words.
 fn state(alloc: Global, words: u32, fields: &[&str]) -> Result<State>
     ensures { IfOk result (λ state. length state.cells ≡ words) }
 {
@@ -78,7 +78,7 @@ pub(crate) fn after_case(alloc: Global, asked: &str) -> Result<String> {
     }
 }
 
-/// Two states of so many words.
+/// Two states of this many words.
 fn two_states(alloc: Global, asked: &str) -> Result<(State, State)>
     ensures { IfOk result (λ states. length states.1.cells ≡ length states.0.cells) }
 {

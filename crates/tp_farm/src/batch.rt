@@ -35,7 +35,7 @@ pub struct Batch<D> {
     pub links: Vec<Links<D>>,
 }
 
-/// Whether there are so many bytes. That each is below 256 is in the type of the slice.
+/// Whether there are this many bytes. That each is below 256 is in the type of the slice.
 fn are_bytes(packet: &[u8], count: usize) -> bool
     ensures value { result ≡ (length packet.now == count) }
     ensures bytes { All (λ byte. byte < 256) packet.now }
@@ -97,7 +97,7 @@ struct Reserved<D> {
 }
 
 impl<D: Drop> Reserved<D> {
-    /// Reserved for so many members.
+    /// Reserved for this many members.
     fn for_members(alloc: Global, members: usize) -> Result<Reserved<D>, AllocError>
         ensures { IfOk result (HasRoom members) }
     {

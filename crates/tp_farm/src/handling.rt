@@ -129,7 +129,7 @@ fn receive_held<D: LinkDevice>(
     device.receive(&mut into[..n])
 }
 
-/// Receives the trace of a packet that was run, where that is no more than a trace may have: of so many bytes.
+/// Receives the trace of a packet that was run, where that is no more than a trace may have: of this many bytes.
 fn receive_trace<D: LinkDevice>(
     links: &mut Links<D>,
     into: &mut [u8; MAX_MESSAGE],

@@ -142,7 +142,7 @@ impl Header {
         Ok(())
     }
 
-    /// Tests the header of an image of so many bytes: each field, then the size.
+    /// Tests the header of an image of this many bytes: each field, then the size.
     fn check(&self, bytes: usize) -> Result<(), ImageFault>
         ensures { MatchResult result (λ _. header_fault self.now bytes ≡ None)
             (λ fault. header_fault self.now bytes ≡ Some fault) }

@@ -136,7 +136,7 @@ negative_reads f c h small no_pfix no_nfix =
     let value : signed (shifted_complement (c / 16) + (15 - c % 16)) ≡ negsuc c = ap signed word ∙ signed_complement c h in
     spelled_behind 0 last whole are ∙ last_byte (loaded 0 whole) last (rw function (other_function f no_pfix no_nfix)) ∙ rw (function, digit', all, value) refl
 
--- it takes at most so many digits
+-- it takes at most this many digits
 pub natural_length : (digits f e : ℕ) → length (natural_spelling digits f e) ≤ digits
 unfolding natural_spelling
 natural_length zero f e = omega arith

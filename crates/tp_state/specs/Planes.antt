@@ -93,7 +93,7 @@ pub record IsWhole (values : List ℕ) (planes : List Bits) : Type 0 where
   pub padded : (x : ℕ) → length values ≤ x → x < 64 * length planes → cell_in values planes x ≡ Undef
   pub rows : (x : ℕ) → x < length values → HasByteRow (cell_in values planes x)
 
--- so many words are known, with the values that they have; and behind these nothing is
+-- this many words are known, with the values that they have; and behind these nothing is
 abbrev pub AreKnown : ℕ → List Bits → Type 0
 AreKnown words planes =
     (values : List ℕ) (i : ℕ) → i < words → cell_in values planes i ≡ cell_of false false (slice_index_or values i 0)

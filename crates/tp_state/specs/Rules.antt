@@ -213,7 +213,7 @@ message_in image x n = unless S3 (nat_le (x + n) image.workspace)
 abbrev pub channel : ℕ → ℤ
 channel address = signed address
 
--- the words of a trace message of so many bytes: 1 to 64
+-- the words of a trace message of this many bytes: 1 to 64
 abbrev pub is_trace_length : ℕ → Bool
 is_trace_length n = (n % 4 == 0) && nat_le 4 n && nat_le n most_trace_message
 

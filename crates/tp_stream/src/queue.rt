@@ -147,7 +147,7 @@ pub type Queue = RuledArrayQueue<Item, PassView, InOrder>;
 
 pub type QueuePass = Pass<Item, PassView>;
 
-/// A queue for so many packets and members, with the pass that feeds and the first of the hands.
+/// A queue for this many packets and members, with the pass that feeds and the first of the hands.
 pub fn open_queue(
     alloc: Global,
     packets: u32,

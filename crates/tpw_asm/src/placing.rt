@@ -79,7 +79,7 @@ fn is_row_behind(count: usize, row: &Loop) -> bool
     is_behind(count, row.head) || is_behind(count, row.lend)
 }
 
-/// Finds the first loop with a place behind the last one of a program with so many lines.
+/// Finds the first loop with a place behind the last one of a program with this many lines.
 pub fn check_rows(count: usize, loops: &[Loop]) -> Result<(), AssemblyFault>
     ensures { result_err result ≡ first_row count 0 loops.now }
 {

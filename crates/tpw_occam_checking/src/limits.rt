@@ -1,6 +1,6 @@
 //! Limits of processes.
 
-/// How deep a step lies within a SEQ of so many, which is halved again and again.
+/// How deep a step lies within a SEQ of this many steps, which is halved again and again.
 pub(crate) fn halves(steps: usize) -> usize {
     match steps {
         0..=1 => 0,

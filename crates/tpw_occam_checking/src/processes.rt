@@ -17,7 +17,7 @@ use tpw_occam_typing::{
     Checker, Frame, MOST_POSITIVE, Meaning, Root, count_of, levels_within, recovered, span_of,
 };
 
-/// Whether the last of so many indices from one on is no INT.
+/// Whether the last of this many indices from one on is no INT.
 fn is_beyond(first: u32, turns: u32) -> bool {
     turns > 0 && turns - 1 > MOST_POSITIVE.wrapping_sub(first)
 }
@@ -65,7 +65,7 @@ fn simple<'t, 'a>(
     }
 }
 
-/// So many processes one after another. Where one is wrong, those behind it are looked at all the same.
+/// This many processes one after another. Where one is wrong, those behind it are looked at all the same.
 #[cycle(process)]
 pub(crate) fn steps<'t, 'a>(
     checker: &mut Checker<'t, 'a>,

@@ -177,7 +177,7 @@ record IsLoop (k : Knowledge) (storages : List Storage) (scope : List Entry) (un
   remains : Remains (counted k x range) body
   executes : Executes (counted k x range) begun bodied body
 
--- A machine before a turn: so many have been made, and so many and one are left.
+-- A machine before a turn: this many have been made, and that many and one are left.
 record AtTurn (k : Knowledge) (storages : List Storage) (scope : List Entry) (unset : ℕ → Bool) (x start : ℕ) (body : Process) (s : Store) (n left : ℕ) (m : Machine)
     : Type 0 where
   matches : Matches k storages scope unset (turns (run k.kinds body) x start n s) m

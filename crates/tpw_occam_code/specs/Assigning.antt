@@ -103,7 +103,7 @@ pub record WritesPopped (i : Item) (place : ℕ) (bytes : List ℕ) (m end : Mac
   pub breg : end.breg ≡ m.creg
   pub writes : Writes i place bytes m end
 
--- Breg is a word, and Areg the address of an element of an array of so many bytes, all of which are there.
+-- Breg is a word, and Areg the address of an element of an array of this many bytes, all of which are there.
 pub record IsToStore (kind : Kind) (a i word bytes : ℕ) (m : Machine) : Type 0 where
   pub areg : m.areg ≡ address (item.Array a) (scaled kind i)
   pub breg : m.breg ≡ number word

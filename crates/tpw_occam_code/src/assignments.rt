@@ -348,7 +348,7 @@ fn is_word(emitter: &Emitter<'_>, target: &Target) -> bool
     }
 }
 
-/// Whether all values can be in so many registers at once.
+/// Whether all values can be in this many registers at once.
 fn fit_in_registers(emitter: &Emitter<'_>, all: &[Assignment], registers: u32) -> bool
     ensures { IsTrue result → FitAll emitter.now all.now registers }
 {

@@ -37,7 +37,7 @@ impl Channel {
     }
 }
 
-/// Sends so many bytes of an item, from its first on.
+/// Sends this many bytes of an item, from its first on.
 fn send_bytes(
     code: &mut Code,
     line: u32,
@@ -53,7 +53,7 @@ fn send_bytes(
     code.instr(line, Instr::Output)
 }
 
-/// Receives so many bytes, from an item's first on.
+/// Receives this many bytes, from an item's first on.
 fn input(code: &mut Code, line: u32, item: Item, bytes: u32) -> Result<(), CodeFault>
     ensures { OnOk result (Inputs code.old code.new item bytes) }
 {

@@ -259,7 +259,7 @@ fn choice(
     code.choose(emitter.alloc, line, &yes, &no)
 }
 
-/// So many turns. One turn is the body, with its index as a constant.
+/// This many turns. One turn is the body, with its index as a constant.
 #[cycle(process)]
 fn repeat(
     emitter: &mut Emitter<'_>,

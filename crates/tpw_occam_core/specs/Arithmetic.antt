@@ -37,7 +37,7 @@ divided divide b a =
     (if int_eq a (pos 0) || (int_eq b least_integer && int_eq a minus_one) then None
     else Some (low_word (divide b a)))
 
--- a subscript of so many elements, read unsigned; where there is no such element the flag is set, and one is taken
+-- a subscript of this many elements, read unsigned; where there is no such element the flag is set, and one is taken
 abbrev pub subscript : ℕ → ℕ → Answer
 subscript below i = if nat_lt i below then pure i else answer (i % 2 ^ 31 % max below 1) true
 

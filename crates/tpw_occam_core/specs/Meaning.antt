@@ -121,7 +121,7 @@ traced m s = record (flagged (flag_of m s) s) { traced = s.traced ++ bytes_of m 
 
 -- ---- processes
 
--- the state after so many turns, of which the index is `start` in the first
+-- the state after this many turns, of which the index is `start` in the first
 abbrev pub turns : (Store → Store) → ℕ → ℕ → ℕ → Store → Store
 turns body x start zero s = s
 turns body x start (suc n) s = body (with_value x (low_word (pos start +ℤ pos n)) (turns body x start n s))

@@ -45,7 +45,7 @@ is_array a (entry.Variable y) = false
 is_array a (entry.Value y) = false
 is_array a (entry.Array y) = y == a
 
--- so many names are there, and this one is not in scope
+-- this many names are there, and this one is not in scope
 abbrev pub is_new_name : ℕ → List Entry → ℕ → Bool
 is_new_name count scope x = nat_lt x count && not (list_any (is_name x) scope)
 

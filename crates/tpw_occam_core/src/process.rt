@@ -41,7 +41,7 @@ pub enum Process {
         from: usize,
     },
     Sequence(Box<Process>, Box<Process>),
-    /// So many turns, with the index from `start` on.
+    /// This many turns, with the index from `start` on.
     Repeat {
         index: usize,
         start: u32,

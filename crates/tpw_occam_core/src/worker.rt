@@ -6,7 +6,7 @@ use crate::process::{Message, Process};
 /// An array at first.
 #[derive(Drop)]
 pub enum Storage {
-    /// So many bytes, which are 0.
+    /// This many bytes, which are 0.
     Zeros(u32),
     /// These bytes: a table.
     Table(Vec<u8>),

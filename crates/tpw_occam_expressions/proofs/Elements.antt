@@ -97,7 +97,7 @@ pushes_alone w p m end is = record {
   traced = ap (λ x. x.traced) is;
 }
 
--- so many bytes have room in whole words
+-- this many bytes have room in whole words
 pub whole_words : (long bytes room : ℕ) → long ≡ bytes → word_bytes bytes ≤ room → long ≤ room
 whole_words long bytes room is h = omega arith
 

@@ -59,7 +59,7 @@ constant_fact c = record {
 abbrev pub counted_fact : Range → Fact
 counted_fact range = record { source = range; known = range; constant = None }
 
--- the elements of so many bytes, seen as words or bytes
+-- the elements of this many bytes, seen as words or bytes
 abbrev pub elements_of : Kind → ℕ → ℕ
 elements_of kind.Word bytes = bytes / 4
 elements_of kind.Byte bytes = bytes

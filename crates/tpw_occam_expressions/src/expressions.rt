@@ -1,6 +1,6 @@
 //! Code of expressions.
 //!
-//! The code of an expression pushes its value. It uses so many registers at most, that of the value among them: what
+//! The code of an expression pushes its value. It uses this many registers at most, that of the value among them: what
 //! the others hold stays. One register is enough only where the expression needs no more.
 
 ghost use Rattle.std.specs.Prelude.{◌≡◌, ◌≤◌, ℕ, ◌+◌, IfOk, OnOk, IfSome};

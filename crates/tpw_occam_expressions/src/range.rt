@@ -58,7 +58,7 @@ impl Range {
         }
     }
 
-    /// The subscripts of so many elements.
+    /// The subscripts of this many elements.
     pub(crate) fn below(size: u32) -> Range
         ensures within { 0 < size → size ≤ 2 ^ 31 → (word : ℕ) → word < 2 ^ 32 → Contains result word → word < size }
         ensures contains { 0 < size → size ≤ 2 ^ 31 → (word : ℕ) → word < size → Contains result word }

@@ -297,7 +297,7 @@ impl Emitter<'_> {
         }
     }
 
-    /// The variable that a subscript of so many elements is, where it is better read as a byte.
+    /// The variable that a subscript of this many elements is, where it is better read as a byte.
     fn byte_variable(&self, e: &Expression, size: u32) -> Option<usize>
         ensures { IfSome result (λ x. IsByteVariable self.now e.now x) }
     {

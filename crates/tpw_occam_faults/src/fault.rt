@@ -92,7 +92,7 @@ pub enum FaultKind<'a> {
     NoSize,
     /// Elements are INTs or BYTEs.
     BoolElements,
-    /// So many bytes are no whole number of INTs.
+    /// This many bytes are no whole number of INTs.
     NoWords {
         bytes: u64,
     },
@@ -113,7 +113,7 @@ pub enum FaultKind<'a> {
     CaseTwice {
         first: Span,
     },
-    /// So many turns.
+    /// This many turns.
     Turns {
         count: i64,
     },

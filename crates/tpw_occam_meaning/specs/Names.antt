@@ -32,7 +32,7 @@ pub record View : Type 0 where
   pub size : ℕ
   pub is_variable : Bool
 
--- what a channel carries: an INT, or so many elements
+-- what a channel carries: an INT, or this many elements
 pub data Protocol : Type 0 where
   OneWord : Protocol
   Several : Kind → ℕ → Protocol

@@ -160,7 +160,7 @@ pub(crate) fn within<'t, 'a>(parts: &'t [Part<'a>], end: Span) -> (&'t [Part<'a>
     (within, place(rest, end))
 }
 
-/// So many parts behind the first, and those behind them.
+/// This many parts behind the first, and those behind them.
 fn around_first<'t, 'a>(parts: &'t [Part<'a>], count: usize) -> (&'t [Part<'a>], &'t [Part<'a>]) {
     let rest = behind(parts, 1);
     rest.split_at(count.min(rest.len()))

@@ -66,7 +66,7 @@ pub fn may_be_declared(value: &Value) -> bool
     }
 }
 
-/// Whether a message has so many bytes: 1 to 64 words.
+/// Whether a message has this many bytes: 1 to 64 words.
 fn is_message(bytes: u32) -> bool
     ensures { result ≡ is_message bytes }
 {

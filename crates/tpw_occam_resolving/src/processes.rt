@@ -146,7 +146,7 @@ fn how_many(steps: &Processes<'_>) -> usize {
     }
 }
 
-/// So many of some processes as a balanced tree, and those behind them.
+/// This many of some processes as a balanced tree, and those behind them.
 #[cycle(process)]
 fn some<'t, 'a>(
     alloc: Global,

@@ -101,7 +101,7 @@ pub fn is_single(sizes: &Sizes<'_>) -> bool
     matches!(sizes, Sizes::End)
 }
 
-/// How many bytes so many elements have, where they are fewer than 2 to the 32.
+/// How many bytes this many elements have, where they are fewer than 2 to the 32.
 pub fn bytes_of(kind: Kind, n: usize) -> Result<u32, Fault>
     ensures { IfOk result (λ bytes. bytes ≡ types.bytes_of kind n) }
 {
@@ -118,7 +118,7 @@ pub fn bytes_of(kind: Kind, n: usize) -> Result<u32, Fault>
     }
 }
 
-/// Whether a replicated SEQ may begin with an index and make so many turns.
+/// Whether a replicated SEQ may begin with an index and make this many turns.
 pub(crate) fn are_turns(start: u32, count: u32) -> bool
     ensures { result ≡ are_turns start count }
 {

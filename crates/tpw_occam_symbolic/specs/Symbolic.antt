@@ -90,7 +90,7 @@ abbrev pub distance_to : ℕ → Contents → Option ℕ
 distance_to place (distance from to) = if to == place then Some from else None
 distance_to place c = None
 
--- so many bytes of an item, from a place on, are there
+-- this many bytes of an item, from a place on, are there
 abbrev pub has_bytes : Machine → Item → ℕ → ℕ → Bool
 has_bytes m item at n = nat_le (at + n) (m.sizes item)
 

@@ -7,7 +7,7 @@ ghost use Rattle.std.specs.Prelude.{◌≤◌};
 /// that are declared in front of it, and a step within the halves of its SEQ.
 pub const MAX_DEPTH: u32 = 500;
 
-/// The levels that are left within so many others.
+/// The levels that are left within this many others.
 pub fn levels_within(levels: u32, others: usize) -> u32
     ensures { result ≤ levels }
 {

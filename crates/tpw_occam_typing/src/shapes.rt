@@ -12,7 +12,7 @@ use tpw_occam_names::element_type;
 use tpw_occam_terms::{FaultKind as Misread, Primitive, Span, Wanted};
 
 impl<'t, 'a> Checker<'t, 'a> {
-    /// The number of elements of an array that is declared, where it may have so many.
+    /// The number of elements of an array that is declared, where it may have that number.
     pub(crate) fn elements(&mut self, kind: Kind, word: u32, span: Span) -> Result<u32, Stop> {
         if word > 0 && word.cast_signed() > 0 && bytes_of(kind, word) <= MAX_ARRAY_BYTES {
             Ok(word)

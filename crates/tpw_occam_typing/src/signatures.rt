@@ -14,7 +14,7 @@ pub struct Shape {
 }
 
 impl Shape {
-    /// Whether so many elements make a message: 1 to 64 words.
+    /// Whether this many elements make a message: 1 to 64 words.
     pub(crate) fn is_message(self, elements: u32) -> bool {
         let bytes = bytes_of(self.kind, elements);
         bytes > 0 && bytes % 4 == 0 && bytes / 4 <= MAX_MESSAGE_WORDS

@@ -113,7 +113,7 @@ pub(crate) fn element_kind(of: Primitive) -> Option<Kind> {
     }
 }
 
-/// The bytes of so many elements.
+/// The bytes of this many elements.
 pub fn bytes_of(kind: Kind, elements: u32) -> u64 {
     match kind {
         Kind::Word => u64::from(elements) * 4,

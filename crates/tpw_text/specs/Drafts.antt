@@ -110,7 +110,7 @@ pushed word line d =
     if is_full d.lines then Err (fault_at word TooMany)
     else Ok (record d { lines = d.lines ++ line ∷ []; positions = d.positions ++ position_of word ∷ [] })
 
--- a name for the next local words, so many
+-- a name for the next local words, this many of them
 unfoldable pub locals_named : Word → ℕ → Said → Result Said SourceFault
 locals_named word size d =
     if is_taken word d then Err (fault_at word Twice)

@@ -69,7 +69,7 @@ byte_line_said p = do
   n ← count_read 255 word
   Ok (record { word = word; line = Known (Byte n) })
 
--- so many words, one at least
+-- this many words, one at least
 abbrev pub some_words : Word → ℕ → Result ℕ SourceFault
 some_words word n = if n == 0 then Err (fault_at word NoWords) else Ok n
 

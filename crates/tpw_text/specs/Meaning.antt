@@ -89,11 +89,11 @@ lines_pushed word lines d = in_turn (pushed word) lines d
 abbrev pub plain : Instr → DraftLine
 plain instr = Known (Spelled (operation.Plain instr) None)
 
--- no word of so many has this number, counted from 0
+-- no word of this many has this number, counted from 0
 abbrev pub is_outside : ℕ → ℤ → Bool
 is_outside words number = int_lt number (pos 0) || not (int_lt number (pos words))
 
--- a name of local words as an operand: the first of them, or one of so many behind it
+-- a name of local words as an operand: the first of them, or one of this many behind it
 abbrev pub operand_with : Option Offset → LocalName → Result ℤ SourceFault
 operand_with None local = Ok (pos local.first)
 operand_with (Some offset) local =

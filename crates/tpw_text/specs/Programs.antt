@@ -82,7 +82,7 @@ ended begun = no_loop (slice_get begun (length begun - 1))
 unfoldable pub workspace_said : Said → ℕ
 workspace_said d = unwrap_or d.workspace (max (d.start + d.words) 8)
 
--- words of a name lie behind a workspace of so many words, in a worker that begins at a workspace word
+-- words of a name lie behind a workspace of this many words, in a worker that begins at a workspace word
 abbrev pub is_beyond : ℕ → ℕ → LocalName → Bool
 is_beyond workspace start n = nat_lt workspace (start + n.first + n.words)
 

@@ -55,7 +55,7 @@ fn operand_with(offset: &Option<Offset<'_>>, local: &LocalName<'_>) -> Result<i3
     Ok(first + *number)
 }
 
-/// Refuses a value beyond so many.
+/// Refuses a value above a limit.
 fn check_values(values: &[InitialWord<'_>], words: u16) -> Result<(), SourceFault>
     ensures { result ≡ no_value (slice_get values.now words) }
 {

@@ -205,7 +205,7 @@ impl<'a> Draft<'a> {
             || const_named(&self.consts, word).is_some()
     }
 
-    /// Names local words, so many. The first of them.
+    /// Names this many local words. Returns the first of them.
     #[tactic(auto, unfolding(crate::specs::Drafts::locals_named))]
     pub fn name_locals(&mut self, word: &Word<'a>, size: u16) -> Result<u16, SourceFault>
         ensures first { IfOk result (λ first. first ≡ self.old.words) }

@@ -212,7 +212,7 @@ fn workspace_of(draft: &Draft<'_>) -> u32
     draft.workspace.map_or(needed.max(MIN_WORKSPACE), u32::from)
 }
 
-/// Whether words of a name lie behind a workspace of so many words, in a worker that begins at a workspace word.
+/// Whether words of a name lie behind a workspace of this many words, in a worker that begins at a workspace word.
 fn is_beyond(workspace: u32, start: u16, local: &LocalName<'_>) -> bool
     ensures { result ≡ is_beyond workspace start local.now }
 {

@@ -4,7 +4,7 @@ use crate::draft::{DraftLine, Row};
 use crate::words::Word;
 use tp_image::Version;
 
-/// A name for the next local words, so many.
+/// A name for the next local words, this many of them.
 #[derive(Clone, Copy)]
 pub struct NewLocal<'a> {
     pub name: Word<'a>,

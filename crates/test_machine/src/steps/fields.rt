@@ -128,7 +128,7 @@ fn put_difference(cells: &mut Cells, difference: &str) -> Result<()> {
     Ok(())
 }
 
-/// A workspace of so many words, with this fill and these differences from it.
+/// A workspace of this many words, with this fill and these differences from it.
 pub(crate) fn cells(words: u32, fill: &str, differences: &str) -> Result<Cells> {
     let mut cells = [Some(BEHIND); WORKSPACE_BYTES];
     for i in 0..words.saturating_mul(4) {
