@@ -21,7 +21,7 @@ use crate::order::{Move, keep_any, moves};
 use tp_decode::Instr;
 use tpw_occam_core::{Assignment, Expression, Kind, Target};
 use tpw_occam_expressions::{
-    Emitter, FULL, Offset, Allocation, base, checked, indexed, kept_byte, reduce, settled,
+    Allocation, Emitter, FULL, Offset, base, checked, indexed, kept_byte, reduce, settled,
 };
 use tpw_occam_symbolic::{Code, CodeFault, Item, Step};
 
@@ -113,7 +113,13 @@ fn by_moves(
     if fit_in_registers(emitter, all, 3) {
         return assign_by_registers(emitter, code, all, Allocation::from_word(0, line));
     }
-    make_moves(emitter, code, all, moves, Allocation::from_word(all.len(), line))
+    make_moves(
+        emitter,
+        code,
+        all,
+        moves,
+        Allocation::from_word(all.len(), line),
+    )
 }
 
 /// Makes assignments one by one.

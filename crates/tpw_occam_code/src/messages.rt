@@ -8,7 +8,7 @@ ghost use Rattle.tpw_occam_code.specs.Starting.{Inputs, Receives, Sends};
 
 use tp_decode::Instr;
 use tpw_occam_core::{Expression, Message, Place};
-use tpw_occam_expressions::{Emitter, Allocation};
+use tpw_occam_expressions::{Allocation, Emitter};
 use tpw_occam_symbolic::{Code, CodeFault, Item, Step};
 
 /// IMS T414 data sheet, memory map: the channels of links 0 and 1.

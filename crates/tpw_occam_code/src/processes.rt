@@ -19,7 +19,7 @@ use crate::assignments::assignments;
 use crate::messages::trace;
 use tp_decode::Instr;
 use tpw_occam_core::{Expression, Process};
-use tpw_occam_expressions::{Emitter, Range, Allocation, constant, counted, fact_of};
+use tpw_occam_expressions::{Allocation, Emitter, Range, constant, counted, fact_of};
 use tpw_occam_symbolic::{Code, CodeFault, Item, MAX_CLEARED, Step, Turns};
 
 /// The most words that are cleared one by one.

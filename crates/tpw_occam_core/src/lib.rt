@@ -12,7 +12,7 @@ mod scope;
 mod sound;
 mod worker;
 
-pub use arithmetic::{Answer, applied, checked_subscript, bind, low_byte, pure};
+pub use arithmetic::{Answer, applied, bind, checked_subscript, low_byte, pure};
 pub use expression::{Expression, Operator};
 pub use kind::Kind;
 pub use process::{Assignment, Message, Process, Target};

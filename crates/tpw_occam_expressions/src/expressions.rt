@@ -12,7 +12,7 @@ ghost use Rattle.tpw_occam_expressions.specs.Values.{Holds};
 ghost use Rattle.tpw_occam_expressions.specs.Computing.{Binds, ComputesBinding, Computes, ComputesTo, IsKnown, IsKnownOf};
 ghost use Rattle.tpw_occam_expressions.specs.Computing.{IsSuccessor, IsPredecessor, inverse_of, Decides, DecidesUnequal};
 
-use crate::emitter::{Emitter, Allocation, constant, valued};
+use crate::emitter::{Allocation, Emitter, constant, valued};
 use crate::operators::{number, truth};
 use crate::range::Range;
 use crate::subscripts::{checked, fixed_element, indexed_element, offset_element};
@@ -202,7 +202,12 @@ impl Emitter<'_> {
 
     /// Pushes whether an expression is FALSE. Of `x > c` that is `c + 1 > x`, and of `c > x` it is `x > c - 1`.
     #[cycle(expression)]
-    fn inverted(&mut self, code: &mut Code, e: &Expression, room: Allocation) -> Result<Value, CodeFault>
+    fn inverted(
+        &mut self,
+        code: &mut Code,
+        e: &Expression,
+        room: Allocation,
+    ) -> Result<Value, CodeFault>
         ensures knowledge { OnOk result (self.new ≡ self.old) }
         ensures computes { OnOk result (ComputesTo self.old code.old code.new e.now (inverse_of e.now) room.registers
             room.next_temporary) }

@@ -9,7 +9,7 @@ ghost use Rattle.tpw_occam_expressions.specs.Computing.{HasImmediate, IsSimplePa
 ghost use Rattle.tpw_occam_expressions.specs.Computing.{applied_value};
 ghost use Rattle.tpw_occam_expressions.specs.Computing.{applied_last, applied_first};
 
-use crate::emitter::{Emitter, Allocation};
+use crate::emitter::{Allocation, Emitter};
 use crate::expressions::Value;
 use crate::need::{commutes, is_shift};
 use crate::operators::{apply, apply_constant, number};

@@ -18,7 +18,7 @@ ghost use Rattle.tpw_occam_expressions.specs.Computing.{IsOffset, IsOffsetOf, su
 ghost use Rattle.tpw_occam_expressions.specs.Values.{Answers, Holds, HasNumber, HasAddress, Replaces, PushesAlone};
 ghost use Rattle.tpw_occam_expressions.specs.Values.{IsAtElement, PushesAddress, PushesOver, scaled};
 
-use crate::emitter::{Emitter, Allocation};
+use crate::emitter::{Allocation, Emitter};
 use crate::expressions::Value;
 use crate::operators::number;
 use crate::range::{BYTE, FULL, Range};

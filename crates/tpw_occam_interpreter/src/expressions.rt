@@ -8,7 +8,7 @@ ghost use Rattle.tpw_occam_interpreter.specs.Memories.{state_in};
 use crate::arrays::element_at;
 use crate::memory::{Cells, bytes, word};
 use tp_words::complement;
-use tpw_occam_core::{Answer, applied, checked_subscript, bind, low_byte, pure};
+use tpw_occam_core::{Answer, applied, bind, checked_subscript, low_byte, pure};
 use tpw_occam_scoped::Expression;
 
 /// The word of an OR, by that of its right operand.

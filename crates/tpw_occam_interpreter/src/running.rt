@@ -12,7 +12,7 @@ use crate::expressions::value;
 use crate::memory::{Cells, Memory, bytes};
 use crate::messages::{bytes_in, send, trace};
 use std::alloc::{AllocError, Global};
-use tpw_occam_core::{Answer, Kind, checked_subscript, bind, pure};
+use tpw_occam_core::{Answer, Kind, bind, checked_subscript, pure};
 use tpw_occam_scoped::{Assignment, Bytes, Process, Target};
 
 /// Why a process is not run to its end.

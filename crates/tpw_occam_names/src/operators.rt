@@ -92,9 +92,6 @@ pub fn combined(operator: Dyadic, left: Answer, right: Answer) -> Answer
     match operator {
         Dyadic::And => bind(left, both(left.word, right)),
         Dyadic::Or => bind(left, either(left.word, right)),
-        other => bind(
-            left,
-            bind(right, of_words(other, left.word, right.word)),
-        ),
+        other => bind(left, bind(right, of_words(other, left.word, right.word))),
     }
 }
