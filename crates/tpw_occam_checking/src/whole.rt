@@ -4,8 +4,8 @@ ghost use Rattle.std.specs.Prelude.{◌≡◌, true, [], IfOk, is_some};
 ghost use Rattle.tpw_occam_checking.specs.Checked.{IsChecked};
 
 use crate::declarations::{Declared, Level, declare};
-use crate::thread::worker;
 use crate::trees::{declared_place, last_declaration};
+use crate::worker::worker;
 use std::alloc::{AllocError, Global};
 use tpw_occam_faults::{FIRST, Fault, FaultKind, Note, Stop, reported_faults, reported_notes};
 use tpw_occam_meaning::{Declaration, Declarations, Source};

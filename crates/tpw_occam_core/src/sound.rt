@@ -11,7 +11,7 @@ use crate::expression::Expression;
 use crate::kind::Kind;
 use crate::process::{Assignment, Message, Process, Target};
 use crate::scope::{Entry, has_array, has_name, has_variable, is_new_name};
-use crate::thread::{Place, Storage, Worker};
+use crate::worker::{Place, Storage, Worker};
 use std::alloc::{AllocError, Global};
 
 /// The bytes of an array; 0 where there is no such array.
