@@ -2,6 +2,7 @@
 
 use crate::assignments::target;
 use crate::declarations::{Declared, Level, declare};
+use crate::limits::MAX_TRACED;
 use crate::messages::{Message, sent_by};
 use crate::processes::steps;
 use crate::trees::{behind, last_step, steps_of};
@@ -151,6 +152,27 @@ fn note_result<'t, 'a>(
     if let (false, Some(name)) = (is_assigned, name_of(e)) {
         let kind = NoteKind::NeverAssigned { name };
         checker.findings.note(span_of(e), kind)?;
+        settle(checker, message);
+    }
+    Ok(())
+}
+
+/// Takes a result as assigned to: that it is not is noted.
+fn settle(checker: &mut Checker<'_, '_>, message: Message) {
+    match message {
+        Message::Value(Root::Variable(x)) => checker.cells.write(x),
+        Message::Array(storage) => checker.cells.write_array(storage),
+        _ => {}
+    }
+}
+
+/// Notes traces with which each packet is lost.
+fn note_traces<'t, 'a>(checker: &mut Checker<'t, 'a>, worker: Name<'a>) -> Result<(), Stop> {
+    let bytes = checker.traced;
+    if bytes > MAX_TRACED {
+        checker
+            .findings
+            .note(worker.span, NoteKind::LongTraces { bytes })?;
     }
     Ok(())
 }
@@ -247,5 +269,6 @@ pub(crate) fn worker<'t, 'a>(
     };
     let frame = frame.with_scope(channels.scope);
     let frame = declared(checker, frame, body)?;
-    check_steps(checker, frame, whole, channels)
+    check_steps(checker, frame, whole, channels)?;
+    note_traces(checker, name)
 }
