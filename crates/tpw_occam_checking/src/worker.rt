@@ -7,7 +7,9 @@ use crate::messages::{Message, sent_by};
 use crate::processes::steps;
 use crate::trees::{behind, last_step, steps_of};
 use tpw_occam_faults::{FaultKind, NoteKind, Stop};
-use tpw_occam_meaning::{Expression as Tree, Parameters, Process as Written, Processes};
+use tpw_occam_meaning::{
+    Declaration, Expression as Tree, Parameters, Process as Written, Processes,
+};
 use tpw_occam_terms::{Name, Primitive, Span};
 use tpw_occam_typing::{
     Callee, Channel, Checker, Form, Frame, MAX_DEPTH, Meaning, Parameter, Protocol, Root, Scope,
@@ -16,9 +18,11 @@ use tpw_occam_typing::{
 
 /// The channels of the worker, in scope, and what the packet's and the result's carry.
 #[derive(Clone, Copy)]
-struct Channels {
+struct Channels<'a> {
     scope: Scope,
+    packet_name: Name<'a>,
     packet: Protocol,
+    output_name: Name<'a>,
     output: Protocol,
 }
 
@@ -54,7 +58,7 @@ fn channels_of<'t, 'a>(
     frame: Frame,
     worker: Name<'a>,
     list: &'t Parameters<'a>,
-) -> Result<Channels, Stop> {
+) -> Result<Channels<'a>, Stop> {
     let signature = checker.signature(frame, list, Callee::Procedure)?;
     let packet = checker.parameter(signature, 0);
     let output = checker.parameter(signature, 1);
@@ -64,6 +68,7 @@ fn channels_of<'t, 'a>(
     if signature.count > 3 {
         return Err(checker.fault(worker.span, FaultKind::WorkerParameters));
     }
+    let (packet_name, output_name) = (packet.name, output.name);
     let (scope, packet) = channel(checker, worker, frame.scope, packet, Channel::Packet)?;
     let (scope, output) = channel(checker, worker, scope, output, Channel::Output)?;
     let scope = match checker.parameter(signature, 2) {
@@ -72,7 +77,9 @@ fn channels_of<'t, 'a>(
     };
     Ok(Channels {
         scope,
+        packet_name,
         packet,
+        output_name,
         output,
     })
 }
@@ -109,7 +116,7 @@ fn received<'t, 'a>(
     frame: Frame,
     step: &'t Written<'a>,
     line: Span,
-    protocol: Protocol,
+    channels: Channels<'a>,
 ) -> Result<(), Stop> {
     let (channel, target) = match step {
         Written::Receive {
@@ -122,9 +129,10 @@ fn received<'t, 'a>(
     };
     let (found, _) = checker.channel_of(frame.scope, channel)?;
     if found != Channel::Packet {
-        return Err(checker.fault(channel.span, FaultKind::NoReceive));
+        let name = channels.packet_name.text;
+        return Err(checker.fault(channel.span, FaultKind::OtherPacket { name }));
     }
-    match protocol {
+    match channels.packet {
         Protocol::Value => received_value(checker, frame, target),
         Protocol::Array { kind, elements } => {
             let shape = Shape {
@@ -134,6 +142,11 @@ fn received<'t, 'a>(
             received_array(checker, frame, target, shape)
         }
     }
+}
+
+/// Whether a declaration was not read.
+fn is_wrong(declaration: &Declaration<'_>) -> bool {
+    matches!(declaration, Declaration::Wrong { .. })
 }
 
 /// Notes a result that nothing is assigned to.
@@ -183,18 +196,22 @@ fn sent<'t, 'a>(
     frame: Frame,
     step: &'t Written<'a>,
     line: Span,
-    protocol: Protocol,
+    channels: Channels<'a>,
 ) -> Result<(), Stop> {
     let (channel, value) = match step {
         Written::Send { channel, value, .. } => (*channel, value),
         Written::Wrong => return Err(Stop::Reported),
+        Written::Declared { declaration, .. } if is_wrong(declaration) => {
+            return Err(Stop::Reported);
+        }
         _ => return Err(checker.fault(line, FaultKind::NoSend)),
     };
     let (found, _) = checker.channel_of(frame.scope, channel)?;
     if found != Channel::Output {
-        return Err(checker.fault(channel.span, FaultKind::NoSend));
+        let name = channels.output_name.text;
+        return Err(checker.fault(channel.span, FaultKind::OtherResult { name }));
     }
-    let message = sent_by(checker, frame, protocol, value, MAX_DEPTH)?;
+    let message = sent_by(checker, frame, channels.output, value, MAX_DEPTH)?;
     note_result(checker, message, value)
 }
 
@@ -215,7 +232,7 @@ fn check_steps<'t, 'a>(
     checker: &mut Checker<'t, 'a>,
     frame: Frame,
     whole: Steps<'t, 'a>,
-    channels: Channels,
+    channels: Channels<'a>,
 ) -> Result<(), Stop> {
     let Processes::More(first, rest) = whole.list else {
         return check_few(checker, whole);
@@ -223,12 +240,12 @@ fn check_steps<'t, 'a>(
     let Some(last) = last_step(rest) else {
         return check_few(checker, whole);
     };
-    let packet = received(checker, frame, first, whole.span, channels.packet);
+    let packet = received(checker, frame, first, whole.span, channels);
     recovered(packet)?;
     let many = steps_of(rest).saturating_sub(1);
     let made = steps(checker, frame, rest, many, MAX_DEPTH);
     recovered(made)?;
-    sent(checker, frame, last, whole.span, channels.output)
+    sent(checker, frame, last, whole.span, channels)
 }
 
 /// The frame behind the worker's declarations.
@@ -261,6 +278,9 @@ pub(crate) fn worker<'t, 'a>(
     let channels = channels_of(checker, frame, name, list)?;
     let whole = match behind(body) {
         Written::Wrong => return Err(Stop::Reported),
+        Written::Sequence { span, .. } if span.line == name.span.line => {
+            return Err(Stop::Reported);
+        }
         Written::Sequence { steps, span } => Steps {
             list: steps,
             span: *span,

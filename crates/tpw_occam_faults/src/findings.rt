@@ -62,8 +62,9 @@ impl<'a> Findings<'a> {
     /// Notes what may not be meant, once for each place, and the same once for each line.
     pub fn note(&mut self, span: Span, kind: NoteKind<'a>) -> Result<(), AllocError> {
         let line = span.line;
-        if self.notes.iter().any(|note| note.span == span
-            || (note.span.line == line && note.kind == kind))
+        if self.notes.len() >= MAX_NOTES
+            || self.notes.iter().any(|note| note.span == span
+                || (note.span.line == line && note.kind == kind))
         {
             return Ok(());
         }
