@@ -52,7 +52,7 @@ impl Branches {
         checker.traced = self.before;
     }
 
-    /// Notes that a branch is never done, once behind a guard that always holds.
+    /// Notes that a branch is never done.
     fn note_dead(
         &self,
         checker: &mut Checker<'_, '_>,
