@@ -1,5 +1,6 @@
 //! The guards of IF, and the constants of CASE.
 
+use crate::branches::Guard;
 use crate::limits::MAX_GUARDS;
 use tpw_occam_faults::{FaultKind, Limit, Stop};
 use tpw_occam_meaning::{Expression as Tree, Expressions};
@@ -11,6 +12,18 @@ use tpw_occam_typing::{Checker, Frame, Root, Worth, levels_within, span_of};
 pub(crate) struct Selector {
     pub(crate) of: Primitive,
     pub(crate) is_bound: bool,
+    /// What it is, where that is a constant.
+    word: Option<u32>,
+}
+
+impl Selector {
+    /// Whether it is a constant, and one of those that were seen.
+    pub(crate) fn is_among(self, seen: &[Seen]) -> bool {
+        match self.word {
+            Some(word) => seen.iter().any(|one| one.word == word),
+            None => false,
+        }
+    }
 }
 
 /// A constant of a CASE, and where it stands.
@@ -20,18 +33,21 @@ pub(crate) struct Seen {
     span: Span,
 }
 
-/// Whether the guard of a choice is TRUE as it is written.
+/// What is known of the guard of a choice.
 pub(crate) fn guard<'t, 'a>(
     checker: &mut Checker<'t, 'a>,
     frame: Frame,
     e: &'t Tree<'a>,
     depth: u32,
-) -> Result<bool, Stop> {
+) -> Result<Guard, Stop> {
+    let before = checker.per_call.point();
     let value = checker.expression(frame, e, Some(Primitive::Bool), depth)?;
-    Ok(match value.worth {
-        Worth::Constant(word) => word != 0,
-        _ => false,
-    })
+    let truth = match value.worth {
+        Worth::Constant(word) => Some(word != 0),
+        _ => None,
+    };
+    let is_same = checker.per_call.point() == before;
+    Ok(Guard { truth, is_same })
 }
 
 /// The selector of a CASE.
@@ -52,7 +68,11 @@ pub(crate) fn chosen_by<'t, 'a>(
         (_, Root::Variable(_)) => false,
         (_, Root::Made) => true,
     };
-    Ok(Selector { of, is_bound })
+    let word = match value.worth {
+        Worth::Constant(word) => Some(word),
+        _ => None,
+    };
+    Ok(Selector { of, is_bound, word })
 }
 
 /// A constant of a CASE, which stands in it once.

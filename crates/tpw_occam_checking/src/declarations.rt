@@ -3,7 +3,7 @@
 use crate::trees::first_of;
 use std::alloc::AllocError;
 use tpw_occam_core::Kind;
-use tpw_occam_faults::{FaultKind, Stop};
+use tpw_occam_faults::{FaultKind, NoteKind, Stop};
 use tpw_occam_meaning::{
     Declaration, Expression as Tree, Expressions, Names, Parameters, Process, Type,
 };
@@ -98,6 +98,7 @@ fn add_per_call<'t, 'a>(
 /// The binding of a name that is declared to have a value. In front of the worker's SEQ the value is worked out at once.
 fn named_value<'t, 'a>(
     checker: &mut Checker<'t, 'a>,
+    name: Name<'a>,
     e: &Tree<'a>,
     value: Value,
     level: Level,
@@ -107,10 +108,14 @@ fn named_value<'t, 'a>(
         (Worth::Constant(word), _) => Ok(unbound(Meaning::Constant { of, word })),
         (Worth::Flagged(span), _) => Err(checker.fault(span, FaultKind::SetsFlag)),
         (Worth::Computed, Level::Text) => Err(checker.fault(span_of(e), FaultKind::NotConstant)),
-        (Worth::Computed, Level::Worker) => Ok(unbound(Meaning::Value {
-            of,
-            root: Root::Made,
-        })),
+        (Worth::Computed, Level::Worker) => {
+            let kind = NoteKind::BeforePacket { name: name.text };
+            checker.findings.note(name.span, kind)?;
+            Ok(unbound(Meaning::Value {
+                of,
+                root: Root::Made,
+            }))
+        }
         (Worth::Computed, Level::Process) => Ok(Made {
             meaning: Meaning::Value {
                 of,
@@ -169,11 +174,12 @@ fn single<'t, 'a>(
     checker: &mut Checker<'t, 'a>,
     declared: Declared,
     of: Option<Primitive>,
+    name: Name<'a>,
     e: &'t Tree<'a>,
     level: Level,
 ) -> Result<Made<'t, 'a>, Stop> {
     let value = checker.expression(declared.frame, e, of, declared.levels(level))?;
-    named_value(checker, e, value, level)
+    named_value(checker, name, e, value, level)
 }
 
 /// The binding of a name by `VAL n IS e`.
@@ -191,9 +197,9 @@ fn value<'t, 'a>(
             let shape = shape_of_table(checker, frame, e)?;
             named_table(checker, frame, e, shape)
         }
-        None => single(checker, declared, None, e, level),
+        None => single(checker, declared, None, name, e, level),
         Some(of) if matches!(size_of(of), Size::One) => {
-            single(checker, declared, Some(of.of), e, level)
+            single(checker, declared, Some(of.of), name, e, level)
         }
         Some(of) => {
             let shape = checker.shape(frame, of, name.span)?;

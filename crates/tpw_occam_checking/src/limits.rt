@@ -17,5 +17,8 @@ pub(crate) fn halves(steps: usize) -> usize {
 /// The most guards of an IF, and the most constants of a CASE.
 pub(crate) const MAX_GUARDS: usize = 2_000;
 
+/// The most bytes of all traces of a packet.
+pub(crate) const MAX_TRACED: u64 = 256;
+
 /// The most turns of a replicated SEQ.
 pub(crate) const MAX_TURNS: u32 = 10_000;

@@ -1,9 +1,10 @@
 //! Messages.
 
+use tpw_occam_core::Kind;
 use tpw_occam_faults::{FaultKind, Stop};
 use tpw_occam_meaning::Expression as Tree;
 use tpw_occam_terms::{Name, Primitive};
-use tpw_occam_typing::{Channel, Checker, Frame, Protocol, Root, Shape, Storage};
+use tpw_occam_typing::{Channel, Checker, Frame, Protocol, Root, Shape, Storage, bytes_of};
 
 /// The value or array of a message.
 #[derive(Clone, Copy)]
@@ -37,6 +38,14 @@ pub(crate) fn sent_by<'t, 'a>(
     }
 }
 
+/// How many bytes a message has.
+fn message_bytes(protocol: Protocol) -> u64 {
+    match protocol {
+        Protocol::Value => bytes_of(Kind::Word, 1),
+        Protocol::Array { kind, elements } => bytes_of(kind, elements),
+    }
+}
+
 /// `trace ! x`.
 pub(crate) fn trace<'t, 'a>(
     checker: &mut Checker<'t, 'a>,
@@ -49,6 +58,7 @@ pub(crate) fn trace<'t, 'a>(
     match channel {
         Channel::Traces => {
             sent_by(checker, frame, protocol, e, depth)?;
+            checker.traced = checker.traced.saturating_add(message_bytes(protocol));
             Ok(())
         }
         Channel::Packet => Err(checker.fault(name.span, FaultKind::SendsPacket)),

@@ -3,11 +3,12 @@
 //! `depth` counts down with each process that lies within another, inlined calls among them.
 
 use crate::assignments::assignment;
+use crate::branches::Branches;
 use crate::choices::{Seen, Selector, case_guard, chosen_by, guard};
 use crate::declarations::{Declared, Level, declare};
 use crate::limits::{MAX_GUARDS, MAX_TURNS, halves};
 use crate::messages::trace;
-use crate::trees::{cases_of, guards_of, place_of, steps_of};
+use crate::trees::{cases_of, guards_of, has_else, place_of, steps_of};
 use tpw_occam_faults::{FaultKind, Limit, NoteKind, Role, Stop};
 use tpw_occam_meaning::{
     Cases, Choices, Expression as Tree, Expressions, Process as Written, Processes,
@@ -28,7 +29,7 @@ fn check_turns<'t, 'a>(
     frame: Frame,
     start: &'t Tree<'a>,
     count: &'t Tree<'a>,
-) -> Result<(), Stop> {
+) -> Result<u32, Stop> {
     let first = checker.constant(frame, start, Primitive::Int);
     let turns = checker.constant(frame, count, Primitive::Int);
     let (first, turns) = (first?, turns?);
@@ -41,7 +42,13 @@ fn check_turns<'t, 'a>(
     if is_beyond(first, turns) {
         return Err(checker.fault(span_of(count), FaultKind::LastIndex));
     }
-    Ok(())
+    Ok(turns)
+}
+
+/// The bytes that are traced where so many turns begin behind some, and the first turn ends behind others.
+fn traced_by(before: u64, first: u64, turns: u32) -> u64 {
+    let turn = first.saturating_sub(before);
+    before.saturating_add(turn.saturating_mul(u64::from(turns)))
 }
 
 /// A process whose simple form is at hand.
@@ -98,7 +105,7 @@ fn replicated<'t, 'a>(
     checker: &mut Checker<'t, 'a>,
     frame: Frame,
     index: Name<'a>,
-    turns: Result<(), Stop>,
+    turns: Result<u32, Stop>,
     list: &'t Processes<'a>,
     depth: u32,
 ) -> Result<(), Stop> {
@@ -108,8 +115,9 @@ fn replicated<'t, 'a>(
     };
     let scope = checker.declare(frame.scope, index, meaning)?;
     let within = frame.with_scope(scope);
+    let before = checker.traced;
     let body = steps(checker, within, list, steps_of(list), depth);
-    turns?;
+    checker.traced = traced_by(before, checker.traced, turns?);
     body
 }
 
@@ -125,16 +133,19 @@ fn choice<'t, 'a>(
     if guards_of(choices) > MAX_GUARDS {
         return Err(checker.fault(span, FaultKind::Limit(Limit::Guards)));
     }
-    let mut has_true = false;
+    let mut branches = Branches::new(checker.traced);
     let mut is_whole = true;
     let mut index: usize = 0;
     let mut rest = choices;
     while let Choices::More(e, p, more) = rest {
         let depth = levels_within(depth, index);
+        let noted = checker.findings.notes.len();
         let made = guard(checker, frame, e, depth);
         let body = process(checker, frame, p, depth);
         let (made, body) = (recovered(made)?, recovered(body)?);
-        has_true = has_true || made.unwrap_or(false);
+        if let Some(guard) = made {
+            branches.end_guarded(checker, guard, span_of(e), noted)?;
+        }
         is_whole = is_whole && made.is_some() && body.is_some();
         index = index.saturating_add(1);
         rest = more;
@@ -142,7 +153,8 @@ fn choice<'t, 'a>(
     if !is_whole {
         return Err(Stop::Reported);
     }
-    if !has_true {
+    branches.end(checker, branches.is_closed());
+    if index > 0 && !branches.is_closed() {
         checker.findings.note(span, NoteKind::NoGuard)?;
     }
     Ok(())
@@ -155,10 +167,12 @@ fn all_cases<'t, 'a>(
     frame: Frame,
     selector: Option<Selector>,
     cases: &'t Cases<'a>,
+    span: Span,
     depth: u32,
 ) -> Result<(), Stop> {
     let many = cases_of(cases);
     let mut seen = Vec::new(checker.alloc);
+    let mut branches = Branches::new(checker.traced);
     let mut is_whole = selector.is_some();
     let mut index: usize = 0;
     let mut rest = cases;
@@ -178,14 +192,19 @@ fn all_cases<'t, 'a>(
                 recovered(made)?.is_some()
             }
         };
+        branches.end_branch(checker);
         is_whole = is_whole && made;
         index = index.saturating_add(1);
     }
-    if is_whole {
-        Ok(())
-    } else {
-        Err(Stop::Reported)
+    let is_closed = has_else(cases) || selector.is_some_and(|one| one.is_among(&seen));
+    branches.end(checker, is_closed);
+    if !is_whole {
+        return Err(Stop::Reported);
     }
+    if index > 0 && !is_closed {
+        checker.findings.note(span, NoteKind::NoElse)?;
+    }
+    Ok(())
 }
 
 /// Whether the constants of a choice are without a fault, where it is known what is chosen by.
@@ -211,13 +230,14 @@ fn case<'t, 'a>(
     frame: Frame,
     e: &'t Tree<'a>,
     cases: &'t Cases<'a>,
+    span: Span,
     depth: u32,
 ) -> Result<(), Stop> {
     let selected = chosen_by(checker, frame, e, depth);
     let selected = recovered(selected)?;
     let is_bound = selected.is_some_and(|selector| selector.is_bound);
     let depth = levels_within(depth, usize::from(is_bound));
-    all_cases(checker, frame, selected, cases, depth)
+    all_cases(checker, frame, selected, cases, span, depth)
 }
 
 /// `p (e, ..)`: the PROC's body, with its parameters bound.
@@ -306,8 +326,8 @@ pub(crate) fn process<'t, 'a>(
         Written::Case {
             selector,
             cases,
-            ..
-        } => case(checker, frame, selector, cases, depth - 1),
+            span,
+        } => case(checker, frame, selector, cases, *span, depth - 1),
         Written::Call {
             name,
             arguments,

@@ -106,6 +106,18 @@ pub(crate) fn cases_of(cases: &Cases<'_>) -> usize {
     }
 }
 
+/// Whether a CASE has ELSE.
+pub(crate) fn has_else(cases: &Cases<'_>) -> bool {
+    let mut rest = cases;
+    loop {
+        match rest {
+            Cases::End => return false,
+            Cases::Constants(_, _, more) => rest = more,
+            Cases::Else(_, _) => return true,
+        }
+    }
+}
+
 /// The last declaration of a text.
 pub(crate) fn last_declaration<'t, 'a>(list: &'t Declarations<'a>) -> Option<&'t Declaration<'a>> {
     let mut last: Option<&'t Declaration<'a>> = None;

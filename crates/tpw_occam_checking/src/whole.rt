@@ -5,6 +5,7 @@ ghost use Rattle.tpw_occam_checking.specs.Checked.{IsChecked};
 
 use crate::declarations::{Declared, Level, declare};
 use crate::trees::{declared_place, last_declaration};
+use crate::usage::note_usage;
 use crate::worker::worker;
 use std::alloc::{AllocError, Global};
 use tpw_occam_faults::{FIRST, Fault, FaultKind, Note, Stop, reported_faults, reported_notes};
@@ -104,7 +105,10 @@ pub fn check<'t, 'a>(
     match check_text(&mut checker, source, misread) {
         Err(Stop::Memory) => Err(CheckError::Memory),
         Ok(()) if misread.is_empty() && checker.findings.faults.is_empty() => {
-            checker.note_unread()?;
+            checker.note_cells()?;
+            if let Some(source) = source {
+                note_usage(alloc, &mut checker.findings, source)?;
+            }
             Ok(reported_notes(alloc, text, &checker.findings.notes)?)
         }
         _ => {

@@ -2,11 +2,14 @@
 
 use crate::assignments::target;
 use crate::declarations::{Declared, Level, declare};
+use crate::limits::MAX_TRACED;
 use crate::messages::{Message, sent_by};
 use crate::processes::steps;
 use crate::trees::{behind, last_step, steps_of};
 use tpw_occam_faults::{FaultKind, NoteKind, Stop};
-use tpw_occam_meaning::{Expression as Tree, Parameters, Process as Written, Processes};
+use tpw_occam_meaning::{
+    Declaration, Expression as Tree, Parameters, Process as Written, Processes,
+};
 use tpw_occam_terms::{Name, Primitive, Span};
 use tpw_occam_typing::{
     Callee, Channel, Checker, Form, Frame, MAX_DEPTH, Meaning, Parameter, Protocol, Root, Scope,
@@ -15,9 +18,11 @@ use tpw_occam_typing::{
 
 /// The channels of the worker, in scope, and what the packet's and the result's carry.
 #[derive(Clone, Copy)]
-struct Channels {
+struct Channels<'a> {
     scope: Scope,
+    packet_name: Name<'a>,
     packet: Protocol,
+    output_name: Name<'a>,
     output: Protocol,
 }
 
@@ -53,7 +58,7 @@ fn channels_of<'t, 'a>(
     frame: Frame,
     worker: Name<'a>,
     list: &'t Parameters<'a>,
-) -> Result<Channels, Stop> {
+) -> Result<Channels<'a>, Stop> {
     let signature = checker.signature(frame, list, Callee::Procedure)?;
     let packet = checker.parameter(signature, 0);
     let output = checker.parameter(signature, 1);
@@ -63,6 +68,7 @@ fn channels_of<'t, 'a>(
     if signature.count > 3 {
         return Err(checker.fault(worker.span, FaultKind::WorkerParameters));
     }
+    let (packet_name, output_name) = (packet.name, output.name);
     let (scope, packet) = channel(checker, worker, frame.scope, packet, Channel::Packet)?;
     let (scope, output) = channel(checker, worker, scope, output, Channel::Output)?;
     let scope = match checker.parameter(signature, 2) {
@@ -71,7 +77,9 @@ fn channels_of<'t, 'a>(
     };
     Ok(Channels {
         scope,
+        packet_name,
         packet,
+        output_name,
         output,
     })
 }
@@ -108,7 +116,7 @@ fn received<'t, 'a>(
     frame: Frame,
     step: &'t Written<'a>,
     line: Span,
-    protocol: Protocol,
+    channels: Channels<'a>,
 ) -> Result<(), Stop> {
     let (channel, target) = match step {
         Written::Receive {
@@ -121,9 +129,10 @@ fn received<'t, 'a>(
     };
     let (found, _) = checker.channel_of(frame.scope, channel)?;
     if found != Channel::Packet {
-        return Err(checker.fault(channel.span, FaultKind::NoReceive));
+        let name = channels.packet_name.text;
+        return Err(checker.fault(channel.span, FaultKind::OtherPacket { name }));
     }
-    match protocol {
+    match channels.packet {
         Protocol::Value => received_value(checker, frame, target),
         Protocol::Array { kind, elements } => {
             let shape = Shape {
@@ -133,6 +142,11 @@ fn received<'t, 'a>(
             received_array(checker, frame, target, shape)
         }
     }
+}
+
+/// Whether a declaration was not read.
+fn is_wrong(declaration: &Declaration<'_>) -> bool {
+    matches!(declaration, Declaration::Wrong { .. })
 }
 
 /// Notes a result that nothing is assigned to.
@@ -151,6 +165,27 @@ fn note_result<'t, 'a>(
     if let (false, Some(name)) = (is_assigned, name_of(e)) {
         let kind = NoteKind::NeverAssigned { name };
         checker.findings.note(span_of(e), kind)?;
+        settle(checker, message);
+    }
+    Ok(())
+}
+
+/// Takes a result as assigned to: that it is not is noted.
+fn settle(checker: &mut Checker<'_, '_>, message: Message) {
+    match message {
+        Message::Value(Root::Variable(x)) => checker.cells.write(x),
+        Message::Array(storage) => checker.cells.write_array(storage),
+        _ => {}
+    }
+}
+
+/// Notes traces with which each packet is lost.
+fn note_traces<'t, 'a>(checker: &mut Checker<'t, 'a>, worker: Name<'a>) -> Result<(), Stop> {
+    let bytes = checker.traced;
+    if bytes > MAX_TRACED {
+        checker
+            .findings
+            .note(worker.span, NoteKind::LongTraces { bytes })?;
     }
     Ok(())
 }
@@ -161,18 +196,22 @@ fn sent<'t, 'a>(
     frame: Frame,
     step: &'t Written<'a>,
     line: Span,
-    protocol: Protocol,
+    channels: Channels<'a>,
 ) -> Result<(), Stop> {
     let (channel, value) = match step {
         Written::Send { channel, value, .. } => (*channel, value),
         Written::Wrong => return Err(Stop::Reported),
+        Written::Declared { declaration, .. } if is_wrong(declaration) => {
+            return Err(Stop::Reported);
+        }
         _ => return Err(checker.fault(line, FaultKind::NoSend)),
     };
     let (found, _) = checker.channel_of(frame.scope, channel)?;
     if found != Channel::Output {
-        return Err(checker.fault(channel.span, FaultKind::NoSend));
+        let name = channels.output_name.text;
+        return Err(checker.fault(channel.span, FaultKind::OtherResult { name }));
     }
-    let message = sent_by(checker, frame, protocol, value, MAX_DEPTH)?;
+    let message = sent_by(checker, frame, channels.output, value, MAX_DEPTH)?;
     note_result(checker, message, value)
 }
 
@@ -193,7 +232,7 @@ fn check_steps<'t, 'a>(
     checker: &mut Checker<'t, 'a>,
     frame: Frame,
     whole: Steps<'t, 'a>,
-    channels: Channels,
+    channels: Channels<'a>,
 ) -> Result<(), Stop> {
     let Processes::More(first, rest) = whole.list else {
         return check_few(checker, whole);
@@ -201,12 +240,12 @@ fn check_steps<'t, 'a>(
     let Some(last) = last_step(rest) else {
         return check_few(checker, whole);
     };
-    let packet = received(checker, frame, first, whole.span, channels.packet);
+    let packet = received(checker, frame, first, whole.span, channels);
     recovered(packet)?;
     let many = steps_of(rest).saturating_sub(1);
     let made = steps(checker, frame, rest, many, MAX_DEPTH);
     recovered(made)?;
-    sent(checker, frame, last, whole.span, channels.output)
+    sent(checker, frame, last, whole.span, channels)
 }
 
 /// The frame behind the worker's declarations.
@@ -239,6 +278,9 @@ pub(crate) fn worker<'t, 'a>(
     let channels = channels_of(checker, frame, name, list)?;
     let whole = match behind(body) {
         Written::Wrong => return Err(Stop::Reported),
+        Written::Sequence { span, .. } if span.line == name.span.line => {
+            return Err(Stop::Reported);
+        }
         Written::Sequence { steps, span } => Steps {
             list: steps,
             span: *span,
@@ -247,5 +289,6 @@ pub(crate) fn worker<'t, 'a>(
     };
     let frame = frame.with_scope(channels.scope);
     let frame = declared(checker, frame, body)?;
-    check_steps(checker, frame, whole, channels)
+    check_steps(checker, frame, whole, channels)?;
+    note_traces(checker, name)
 }

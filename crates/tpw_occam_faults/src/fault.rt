@@ -27,10 +27,11 @@ pub enum FaultKind<'a> {
         name: &'a str,
         near: Option<&'a str>,
     },
-    /// A name is declared, and not in scope here.
+    /// A name is declared, and not in scope here: that of a PROC or a FUNCTION, or another one.
     OutOfScope {
         name: &'a str,
         declared: Span,
+        is_called: bool,
     },
     /// A name is used as what it is not.
     NotA {
@@ -84,9 +85,10 @@ pub enum FaultKind<'a> {
         at: i32,
         elements: u32,
     },
-    /// An array that is declared has this many elements.
+    /// An array that is declared has this many elements, of so many bytes.
     ArraySize {
         elements: i64,
+        bytes: u64,
     },
     /// An array that is declared has no size.
     NoSize,
@@ -142,8 +144,16 @@ pub enum FaultKind<'a> {
     WorkerBody,
     /// The worker does not begin with the packet.
     NoReceive,
+    /// It is received from another channel than the packet's, which has this name.
+    OtherPacket {
+        name: &'a str,
+    },
     /// The worker does not end with the result.
     NoSend,
+    /// It is sent to another channel than the result's, which has this name.
+    OtherResult {
+        name: &'a str,
+    },
     /// Variables outside of PROCs.
     OutsideProc,
     /// A limit is reached.
@@ -194,12 +204,15 @@ fn write_out_of_scope<W: fmt::Write>(
     f: &mut fmt::Formatter<W>,
     name: &str,
     declared: Span,
+    is_called: bool,
 ) -> fmt::Result {
     let line = declared.line;
-    write!(f, "`{name}`, of line {line}, is not in scope here; ")?;
-    f.write_str(
-        "a PROC or a FUNCTION has the names of where it is declared, and may not call itself",
-    )
+    write!(f, "`{name}`, of line {line}, is not in scope here: ")?;
+    f.write_str(if is_called {
+        "a PROC or a FUNCTION has the names of where it is declared, and may not call itself"
+    } else {
+        "a declaration is for the one process below it, which may be a SEQ"
+    })
 }
 
 /// That a value has another type.
@@ -246,6 +259,20 @@ fn write_arguments<W: fmt::Write>(
     )
 }
 
+/// That an array has no such size.
+fn write_size<W: fmt::Write>(f: &mut fmt::Formatter<W>, elements: i64, bytes: u64) -> fmt::Result {
+    if elements <= 0 {
+        return write!(
+            f,
+            "an array has 1 to 2,048 bytes, and no size of {elements}"
+        );
+    }
+    write!(
+        f,
+        "an array has 1 to 2,048 bytes, and {elements} elements have {bytes}"
+    )
+}
+
 /// Writes faults of arrays.
 fn write_array<W: fmt::Write>(f: &mut fmt::Formatter<W>, kind: FaultKind<'_>) -> fmt::Result {
     match kind {
@@ -263,12 +290,7 @@ fn write_array<W: fmt::Write>(f: &mut fmt::Formatter<W>, kind: FaultKind<'_>) ->
                 "{at} is no subscript of `{name}`, which has {elements} elements"
             )
         }
-        FaultKind::ArraySize { elements } => {
-            write!(
-                f,
-                "an array has 1 to 2,048 bytes, and no size of {elements}"
-            )
-        }
+        FaultKind::ArraySize { elements, bytes } => write_size(f, elements, bytes),
         FaultKind::NoWords { bytes } => {
             write!(
                 f,
@@ -291,6 +313,18 @@ fn write_value<W: fmt::Write>(f: &mut fmt::Formatter<W>, kind: FaultKind<'_>) ->
             write!(f, "this stands in the CASE already, on line {line}")
         }
         FaultKind::Turns { count } => write!(f, "{count} turns: there may be 0 to 10,000"),
+        FaultKind::OtherPacket { name } => {
+            write!(
+                f,
+                "the packet comes from the worker's first parameter, here `{name}`"
+            )
+        }
+        FaultKind::OtherResult { name } => {
+            write!(
+                f,
+                "the result goes to the worker's second parameter, here `{name}`"
+            )
+        }
         FaultKind::OtherProtocol { name, declared } => {
             let line = declared.line;
             write!(f, "`{name}`, of line {line}, carries something else")
@@ -322,7 +356,7 @@ fn text_of(kind: FaultKind<'_>) -> &'static str {
         FaultKind::NoTraces => "the traces' channel alone is passed to a PROC",
         FaultKind::NoWorker => "the worker's PROC is wanted, as the last declaration of the text",
         FaultKind::WorkerParameters => {
-            "the worker has two or three parameters, all CHAN OF: the packet's, the result's and the traces' channel"
+            "the last PROC is the worker, with two or three parameters, all CHAN OF: the packet's, the result's and the traces' channel"
         }
         FaultKind::WorkerBody => "the worker is declarations and one SEQ",
         FaultKind::NoReceive => "the worker's SEQ begins with the packet, as in packet ? x",
@@ -343,7 +377,11 @@ impl fmt::Display for FaultKind<'_> {
                 near: Some(near),
             } => write!(f, "no `{name}` is declared here: is `{near}` meant?"),
             FaultKind::Unknown { name, near: None } => write!(f, "no `{name}` is declared here"),
-            FaultKind::OutOfScope { name, declared } => write_out_of_scope(f, name, declared),
+            FaultKind::OutOfScope {
+                name,
+                declared,
+                is_called,
+            } => write_out_of_scope(f, name, declared, is_called),
             FaultKind::NotA {
                 name,
                 declared,

@@ -5,6 +5,9 @@ use crate::note::{Note, NoteKind};
 use std::alloc::{AllocError, AllocFailed, Global};
 use tpw_occam_terms::{MAX_FAULTS, Span};
 
+/// The most notes that are kept.
+const MAX_NOTES: usize = 1_000;
+
 /// Why no more is known.
 #[derive(Clone, Copy, Debug, PartialEq, Eq)]
 pub enum Stop {
@@ -56,12 +59,21 @@ impl<'a> Findings<'a> {
         Ok(())
     }
 
-    /// Notes what may not be meant, once for each place.
+    /// Notes what may not be meant, once for each place, and the same once for each line.
     pub fn note(&mut self, span: Span, kind: NoteKind<'a>) -> Result<(), AllocError> {
-        if self.notes.iter().any(|note| note.span == span) {
+        let line = span.line;
+        if self.notes.len() >= MAX_NOTES
+            || self.notes.iter().any(|note| note.span == span
+                || (note.span.line == line && note.kind == kind))
+        {
             return Ok(());
         }
         self.notes.push(Note { span, kind })?;
         Ok(())
+    }
+
+    /// Forgets all notes behind the first so many: what they are of is not done.
+    pub fn forget(&mut self, first: usize) {
+        self.notes.truncate(first);
     }
 }

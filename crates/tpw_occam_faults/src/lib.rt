@@ -9,6 +9,6 @@ mod sort;
 
 pub use fault::{Fault, FaultKind, Limit};
 pub use findings::{Findings, Stop};
-pub use note::{Note, NoteKind};
+pub use note::{Construct, Flagging, Note, NoteKind, Unused};
 pub use reports::{FIRST, reported_faults, reported_notes};
 pub use sort::{Role, Sort};

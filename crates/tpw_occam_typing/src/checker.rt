@@ -39,6 +39,8 @@ pub struct Checker<'t, 'a> {
     pub findings: Findings<'a>,
     pub cells: Cells<'a>,
     pub per_call: PerCall,
+    /// The bytes that are traced at the least up to here.
+    pub traced: u64,
     pub(crate) environment: Environment<'t, 'a>,
     /// The parameters of all PROCs and FUNCTIONs.
     pub(crate) parameters: Vec<Parameter<'a>>,
@@ -55,6 +57,7 @@ impl<'t, 'a> Checker<'t, 'a> {
             findings: Findings::new(alloc),
             cells: Cells::new(alloc),
             per_call: PerCall::new(alloc),
+            traced: 0,
             environment: Environment::new(alloc),
             parameters: Vec::new(alloc),
             tables: Vec::new(alloc),
@@ -116,12 +119,16 @@ impl<'t, 'a> Checker<'t, 'a> {
         Ok(count)
     }
 
-    /// Notes each variable and array that is never read.
-    pub fn note_unread(&mut self) -> Result<(), AllocError> {
+    /// Notes each variable and array that is never read, or that is read and never written to.
+    pub fn note_cells(&mut self) -> Result<(), AllocError> {
         for at in 0..self.cells.count() {
             if let Some(name) = self.cells.unread(at) {
                 self.findings
                     .note(name.span, NoteKind::NeverRead { name: name.text })?;
+            }
+            if let Some(name) = self.cells.unwritten(at) {
+                self.findings
+                    .note(name.span, NoteKind::NeverWritten { name: name.text })?;
             }
         }
         Ok(())

@@ -4,6 +4,7 @@
 
 use crate::checker::{Checker, Frame};
 use crate::environment::{Meaning, Scope, Storage, View};
+use crate::flags::decides;
 use crate::limits::levels_within;
 use crate::operators::{is_order, low_byte, of_one, of_two, operand_of, operands_of};
 use crate::subscripts::Subscript;
@@ -132,7 +133,7 @@ impl<'t, 'a> Checker<'t, 'a> {
     fn applied(&mut self, operator: Monadic, e: Value, span: Span) -> Result<Value, Stop> {
         match operator {
             Monadic::Convert(to) => self.converted(to, e, span),
-            other => Ok(of_one(other, e, span)),
+            other => self.noted_one(of_one(other, e, span), span),
         }
     }
 
@@ -141,7 +142,7 @@ impl<'t, 'a> Checker<'t, 'a> {
         match (e.of, to) {
             (Primitive::Bool, Primitive::Int | Primitive::Byte) => Ok(Value { of: to, ..e }),
             (Primitive::Byte, Primitive::Int) => Ok(Value { of: to, ..e }),
-            (Primitive::Int, Primitive::Byte) => Ok(low_byte(e, span)),
+            (Primitive::Int, Primitive::Byte) => self.noted_byte(e, low_byte(e, span), span),
             (from, to) => Err(self.fault(span, FaultKind::Conversion { from, to })),
         }
     }
@@ -179,7 +180,11 @@ impl<'t, 'a> Checker<'t, 'a> {
         let wanted = operands_of(operator);
         match self.expression(frame, one, wanted, depth) {
             Ok(first) => {
+                let noted = self.findings.notes.len();
                 let second = self.expression(frame, other, wanted.or(Some(first.of)), depth)?;
+                if decides(operator, first.worth) {
+                    self.findings.forget(noted);
+                }
                 Ok((first, second))
             }
             Err(Stop::Reported) => {
@@ -201,7 +206,8 @@ impl<'t, 'a> Checker<'t, 'a> {
         if is_order(operator) && left.of == Primitive::Bool {
             return Err(self.fault(span, FaultKind::NoOrder));
         }
-        Ok(of_two(operator, left, right, span))
+        let made = of_two(operator, left, right, span);
+        self.noted_two(operator, right.worth, made, span)
     }
 
     /// The constness of an element: of a table, with a constant subscript, it is a constant.

@@ -7,6 +7,7 @@ mod checker;
 mod constants;
 mod environment;
 mod expressions;
+mod flags;
 mod limits;
 mod lookup;
 mod operators;

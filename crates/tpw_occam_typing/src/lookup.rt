@@ -16,10 +16,11 @@ impl<'t, 'a> Checker<'t, 'a> {
             self.per_call.look_up(entry.name.span);
             return Ok(entry);
         }
-        if let Some(declared) = self.environment.anywhere(name.text) {
+        if let Some(entry) = self.environment.anywhere(name.text) {
             let kind = FaultKind::OutOfScope {
                 name: name.text,
-                declared,
+                declared: entry.name.span,
+                is_called: entry.meaning.is_called(),
             };
             return Err(self.fault(name.span, kind));
         }

@@ -18,7 +18,8 @@ impl<'t, 'a> Checker<'t, 'a> {
             Ok(word)
         } else {
             let elements = i64::from(word.cast_signed());
-            Err(self.fault(span, FaultKind::ArraySize { elements }))
+            let bytes = bytes_of(kind, word);
+            Err(self.fault(span, FaultKind::ArraySize { elements, bytes }))
         }
     }
 

@@ -1,0 +1,83 @@
+//! What constants show to set the error flag wherever it is worked out.
+
+use crate::checker::Checker;
+use crate::value::{Value, Worth};
+use tpw_occam_faults::{Flagging, NoteKind, Stop};
+use tpw_occam_meaning::Dyadic;
+use tpw_occam_terms::Span;
+
+/// The bits of a word, below which the count of a shift is.
+const WORD_BITS: u32 = 32;
+
+/// Whether the left operand of an operator decides, so that the right one is not worked out.
+pub(crate) fn decides(operator: Dyadic, left: Worth) -> bool {
+    match (operator, left) {
+        (Dyadic::And, Worth::Constant(word)) => word == 0,
+        (Dyadic::Or, Worth::Constant(word)) => word != 0,
+        _ => false,
+    }
+}
+
+/// What a right operand that is a constant shows, whatever the left one is.
+fn shown_by_right(operator: Dyadic, right: u32) -> Option<Flagging> {
+    match operator {
+        Dyadic::ShiftLeft | Dyadic::ShiftRight if right >= WORD_BITS => Some(Flagging::Shift {
+            count: right.cast_signed(),
+        }),
+        Dyadic::Divide | Dyadic::Remainder | Dyadic::Rem if right == 0 => Some(Flagging::Division),
+        _ => None,
+    }
+}
+
+/// What sets the flag in what an operator makes at a place, if constants show it.
+fn shown(operator: Dyadic, right: Worth, made: Worth, span: Span) -> Option<Flagging> {
+    let by_right = match right {
+        Worth::Constant(word) => shown_by_right(operator, word),
+        _ => None,
+    };
+    match made {
+        Worth::Flagged(at) if at == span => Some(by_right.unwrap_or(Flagging::Constants)),
+        _ => by_right,
+    }
+}
+
+impl<'t, 'a> Checker<'t, 'a> {
+    /// What an operator makes of two at a place; it is noted where constants show that it sets the flag.
+    pub(crate) fn noted_two(
+        &mut self,
+        operator: Dyadic,
+        right: Worth,
+        made: Value,
+        span: Span,
+    ) -> Result<Value, Stop> {
+        if let Some(flagging) = shown(operator, right, made.worth, span) {
+            self.findings.note(span, NoteKind::Flag(flagging))?;
+        }
+        Ok(made)
+    }
+
+    /// What an operator makes of one at a place; it is noted where that is no INT.
+    pub(crate) fn noted_one(&mut self, made: Value, span: Span) -> Result<Value, Stop> {
+        match made.worth {
+            Worth::Flagged(at) if at == span => {
+                self.findings
+                    .note(span, NoteKind::Flag(Flagging::Constants))?;
+            }
+            _ => {}
+        }
+        Ok(made)
+    }
+
+    /// `BYTE` of an INT at a place; it is noted where a constant is none.
+    pub(crate) fn noted_byte(&mut self, e: Value, made: Value, span: Span) -> Result<Value, Stop> {
+        match (e.worth, made.worth) {
+            (Worth::Constant(word), Worth::Flagged(_)) => {
+                let value = word.cast_signed();
+                self.findings
+                    .note(span, NoteKind::Flag(Flagging::Byte { value }))?;
+            }
+            _ => {}
+        }
+        Ok(made)
+    }
+}
