@@ -172,10 +172,7 @@ fn operation<'a>(
 
 /// An instruction.
 #[tactic(auto, unfolding(crate::specs::Grammar::instruction_said))]
-pub fn instruction_of<'a>(
-    words: &[Word<'a>],
-    first: &Word<'a>,
-) -> Result<NewLine<'a>, SourceFault>
+pub fn instruction_of<'a>(words: &[Word<'a>], first: &Word<'a>) -> Result<NewLine<'a>, SourceFault>
     ensures { result ≡ instruction_said words.now first.now }
 {
     if let Some(function) = function_of(first) {

@@ -129,7 +129,7 @@ row_line l =
     ∷ Gap ∷ Of (codes "control") ∷ Gap ∷ Of (decimal l.control) ∷ Gap ∷ Of (codes "turns") ∷ Gap ∷ Of (decimal l.count)
     ∷ Gap ∷ Of (codes "start") ∷ Gap ∷ Of (signed_decimal l.start) ∷ []
 
-row_leads : (s : Said) (named : ℕ → Bool) (count : ℕ) (done : List Loop) (l : Loop) → 
+row_leads : (s : Said) (named : ℕ → Bool) (count : ℕ) (done : List Loop) (l : Loop) →
     length done < most_loops → MayBeRow count l → ((p : ℕ) → names_from_row p l ≡ true → named p ≡ true)
     → Leads (loop_text l) (Any (Rowed s named count done)) (Any (Rowed s named count (done ++ l ∷ [])))
 unfolding is_plain keyword_named keyword_said added loop_text row_line line_said loop_placed
@@ -228,7 +228,7 @@ row_leads s named count done l few may all =
       },
     ))
 
-pub rows_lead : (s : Said) (named : ℕ → Bool) (count : ℕ) (done loops : List Loop) → 
+pub rows_lead : (s : Said) (named : ℕ → Bool) (count : ℕ) (done loops : List Loop) →
     length done + length loops ≤ most_loops → AllByRecursion (MayBeRow count) loops →
     ((p : ℕ) → list_any (names_from_row p) loops ≡ true → named p ≡ true)
     → Leads (flat_map loop_text loops) (Any (Rowed s named count done)) (Any (Rowed s named count (done ++ loops)))
