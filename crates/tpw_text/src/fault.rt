@@ -11,8 +11,6 @@ use thiserror::Error;
 pub enum TextFault {
     #[error("unknown instruction")]
     Unknown,
-    #[error("left out of this profile (docs/INSTRUCTIONS.md, \"Left out\")")]
-    LeftOut,
     #[error("an operand is missing behind it")]
     Missing,
     #[error("something stands behind the end of the statement")]
@@ -23,33 +21,21 @@ pub enum TextFault {
     OutOfRange,
     #[error("this word is not expected here")]
     Unexpected,
-    #[error("a label, a local or a constant of this name stands above")]
+    #[error("a label of this name stands above")]
     Twice,
-    #[error("no local has this name")]
-    NoLocal,
-    #[error("the local of this name has fewer words")]
-    OutsideLocal,
-    #[error("it is said once, and above what reads it")]
+    #[error("it is said once")]
     Settled,
     #[error("a name is wanted here: no mark, and not as a number begins")]
     NoName,
-    #[error("a local has at least one word")]
-    NoWords,
     #[error("initial words rise: those above reach beyond this word")]
     InitialBelow,
-    #[error("the workspace that is stated has no room for this local")]
-    NoRoom,
     #[error("no label has this name")]
     NoLabel,
-    #[error("no loop of this name is open innermost")]
-    NoLoop,
-    #[error("this loop has no end")]
-    NoEnd,
     #[error("a worker has at most 16 loops")]
     TooManyLoops,
     #[error("a spelling has 1 to 8 bytes")]
     NoLength,
-    #[error("the text has more lines, names or words than a worker can have")]
+    #[error("the text has more lines, labels or words than a worker can have")]
     TooMany,
     #[error("memory")]
     Memory,

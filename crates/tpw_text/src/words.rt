@@ -72,7 +72,7 @@ impl<'a> Word<'a> {
 pub fn is_mark(byte: u8) -> bool
     ensures { result ≡ is_mark byte }
 {
-    matches!(byte, b',' | b':' | b'[' | b']' | b'=' | b'+' | b'/')
+    matches!(byte, b':' | b'/')
 }
 
 /// Whether a byte is one of a word of any length.
