@@ -59,14 +59,14 @@ static CHARACTERS: [(&str, &str); 19] = [
 /// Directives of occam.
 static DIRECTIVES: [&str; 5] = ["#INCLUDE", "#USE", "#IMPORT", "#OPTION", "#PRAGMA"];
 
-/// What is said of another name for a variable.
+/// The remedy for another name for a variable.
 const NO_ABBREVIATION: &str = "VAL n IS e names a value; a variable has no second name";
 
-/// What is said of an IF with a replicator.
+/// The remedy for an IF with a replicator.
 const NO_REPLICATED_IF: &str =
     "there is no IF i = s FOR n: use SEQ i = s FOR n, and an IF within it";
 
-/// What stands around a place: the line, and what is in front of the place and behind it.
+/// The text around a place: the line, and its parts before and behind the place.
 #[derive(Clone, Copy)]
 struct Around<'a> {
     line: &'a str,
@@ -74,7 +74,7 @@ struct Around<'a> {
     behind: &'a str,
 }
 
-/// What stands around a span of a text.
+/// The text around a span.
 fn around(text: &str, span: Span) -> Around<'_> {
     let line = text.lines().nth(span.line.saturating_sub(1)).unwrap_or("");
     let column = span.column.saturating_sub(1);
@@ -97,7 +97,7 @@ fn is_name(line: &str) -> bool {
             .all(|byte| byte.is_ascii_alphanumeric() || byte == b'.')
 }
 
-/// What is written for a character that begins nothing.
+/// The remedy for a character that begins nothing.
 fn for_character(behind: &str) -> Option<&'static str> {
     for (character, remedy) in &CHARACTERS {
         if behind.starts_with(*character) {
@@ -107,7 +107,7 @@ fn for_character(behind: &str) -> Option<&'static str> {
     None
 }
 
-/// What is written for a directive.
+/// The remedy for a directive.
 fn for_directive(behind: &str) -> Option<&'static str> {
     if DIRECTIVES.iter().any(|one| behind.starts_with(*one)) {
         Some("there are no directives: a text is one file")
@@ -116,7 +116,7 @@ fn for_directive(behind: &str) -> Option<&'static str> {
     }
 }
 
-/// What is written where an operator is wanted.
+/// The remedy where an operator is wanted.
 fn for_operator(at: Around<'_>) -> Option<&'static str> {
     if at.behind.starts_with("!=") {
         Some("occam writes <> for unequal")
@@ -135,7 +135,7 @@ fn for_operator(at: Around<'_>) -> Option<&'static str> {
     }
 }
 
-/// What is written where an operand is wanted.
+/// The remedy where an operand is wanted.
 fn for_operand(at: Around<'_>) -> Option<&'static str> {
     if at.behind.starts_with("=") && at.before.ends_with("=") {
         Some("occam writes = for equal")
@@ -150,7 +150,7 @@ fn for_operand(at: Around<'_>) -> Option<&'static str> {
     }
 }
 
-/// What is written where no more is wanted on a line.
+/// The remedy where no more is wanted on a line.
 fn for_nothing(at: Around<'_>) -> Option<&'static str> {
     if at.behind.starts_with("IS ") {
         Some(NO_ABBREVIATION)
@@ -161,7 +161,7 @@ fn for_nothing(at: Around<'_>) -> Option<&'static str> {
     }
 }
 
-/// What is written for a fault of how a text is written.
+/// The remedy for a fault of how a text is written.
 fn for_syntax(kind: SyntaxFault, at: Around<'_>) -> Option<&'static str> {
     match kind {
         SyntaxFault::NoToken => for_character(at.behind),

@@ -5,7 +5,7 @@ use tpw_occam_faults::NoteKind;
 use tpw_occam_terms::Span;
 use tpw_occam_typing::Checker;
 
-/// What is known of a guard: whether it holds, where that is a constant, and whether it is the same in each call.
+/// The constness of a guard: whether it holds, where that is a constant, and whether it is the same in each call.
 #[derive(Clone, Copy)]
 pub(crate) struct Guard {
     pub(crate) truth: Option<bool>,

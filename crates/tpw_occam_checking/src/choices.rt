@@ -12,7 +12,7 @@ use tpw_occam_typing::{Checker, Frame, Root, Worth, levels_within, span_of};
 pub(crate) struct Selector {
     pub(crate) of: Primitive,
     pub(crate) is_bound: bool,
-    /// What it is, where that is a constant.
+    /// Its value, where that is a constant.
     word: Option<u32>,
 }
 
@@ -33,7 +33,7 @@ pub(crate) struct Seen {
     span: Span,
 }
 
-/// What is known of the guard of a choice.
+/// The constness of the guard of a choice.
 pub(crate) fn guard<'t, 'a>(
     checker: &mut Checker<'t, 'a>,
     frame: Frame,

@@ -26,7 +26,7 @@ impl Places {
 #[derive(Clone, Copy)]
 struct Known<'a> {
     name: Name<'a>,
-    /// What it is, where that is noted if it is never used.
+    /// Its kind, where a warning is due if it is never used.
     what: Option<Unused>,
     parameters: Places,
     is_used: bool,

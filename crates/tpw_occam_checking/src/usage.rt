@@ -1,4 +1,4 @@
-//! What the tree of a text shows by itself: names that are not used or stand in one list twice, variables that a PROC
+//! Warnings that the tree of a text shows by itself: names that are not used or stand in one list twice, variables that a PROC
 //! assigns to by two names, and processes below which nothing stands.
 //!
 //! Each PROC is looked at once, called or not. `depth` counts down with each process and expression that lies within
@@ -143,7 +143,7 @@ fn parameters<'t, 'a>(
     }
 }
 
-/// What is assigned to.
+/// The target of an assignment.
 fn target<'t, 'a>(usage: &mut Usage<'a>, scope: Scope, e: &'t Expression<'a>) {
     expression(usage, scope, e, MAX_LEVELS);
     if let Some((name, _)) = written_name(e) {
@@ -151,7 +151,7 @@ fn target<'t, 'a>(usage: &mut Usage<'a>, scope: Scope, e: &'t Expression<'a>) {
     }
 }
 
-/// What is assigned to, from the first on.
+/// The targets, from the first on.
 fn targets<'t, 'a>(usage: &mut Usage<'a>, scope: Scope, items: &'t Expressions<'a>) {
     let mut rest = items;
     while let Expressions::More(e, more) = rest {

@@ -33,7 +33,7 @@ struct Steps<'t, 'a> {
     span: Span,
 }
 
-/// What one of the worker's channels carries, declared as such.
+/// The protocol of one of the worker's channels, declared as such.
 fn channel<'t, 'a>(
     checker: &mut Checker<'t, 'a>,
     worker: Name<'a>,

@@ -20,7 +20,7 @@ pub enum Flagging {
     Division,
     /// `BYTE` of what is none.
     Byte { value: i32 },
-    /// What constants make is no INT.
+    /// A result of constants that is no INT.
     Constants,
 }
 
@@ -153,7 +153,7 @@ fn write_unused<W: fmt::Write>(f: &mut fmt::Formatter<W>, name: &str, what: Unus
     }
 }
 
-/// What may not be meant of a name.
+/// Writes a warning of a name.
 fn write_name<W: fmt::Write>(f: &mut fmt::Formatter<W>, kind: NoteKind<'_>) -> fmt::Result {
     match kind {
         NoteKind::NeverAssigned { name } => {

@@ -1,4 +1,4 @@
-//! What constants show to set the error flag wherever it is worked out.
+//! Operations that set the error flag wherever they are worked out, as constants show.
 
 use crate::checker::Checker;
 use crate::value::{Value, Worth};
@@ -18,7 +18,7 @@ pub(crate) fn decides(operator: Dyadic, left: Worth) -> bool {
     }
 }
 
-/// What a right operand that is a constant shows, whatever the left one is.
+/// The flag that a constant right operand sets, whatever the left one is.
 fn shown_by_right(operator: Dyadic, right: u32) -> Option<Flagging> {
     match operator {
         Dyadic::ShiftLeft | Dyadic::ShiftRight if right >= WORD_BITS => Some(Flagging::Shift {
@@ -29,7 +29,7 @@ fn shown_by_right(operator: Dyadic, right: u32) -> Option<Flagging> {
     }
 }
 
-/// What sets the flag in what an operator makes at a place, if constants show it.
+/// The flag that an operator sets at a place, if constants show it.
 fn shown(operator: Dyadic, right: Worth, made: Worth, span: Span) -> Option<Flagging> {
     let by_right = match right {
         Worth::Constant(word) => shown_by_right(operator, word),
@@ -42,7 +42,7 @@ fn shown(operator: Dyadic, right: Worth, made: Worth, span: Span) -> Option<Flag
 }
 
 impl<'t, 'a> Checker<'t, 'a> {
-    /// What an operator makes of two at a place; it is noted where constants show that it sets the flag.
+    /// The value of an operator on two at a place; a warning where constants show that it sets the flag.
     pub(crate) fn noted_two(
         &mut self,
         operator: Dyadic,
@@ -56,7 +56,7 @@ impl<'t, 'a> Checker<'t, 'a> {
         Ok(made)
     }
 
-    /// What an operator makes of one at a place; it is noted where that is no INT.
+    /// The value of an operator on one at a place; a warning where that is no INT.
     pub(crate) fn noted_one(&mut self, made: Value, span: Span) -> Result<Value, Stop> {
         match made.worth {
             Worth::Flagged(at) if at == span => {

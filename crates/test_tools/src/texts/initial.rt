@@ -1,4 +1,4 @@
-//! What initial words say.
+//! The values of initial words.
 
 use crate::asserts::unwrap;
 use std::alloc::Global;
