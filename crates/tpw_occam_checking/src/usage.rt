@@ -1,5 +1,5 @@
-//! Warnings that the tree of a text shows by itself: names that are not used or stand in one list twice, variables that a PROC
-//! assigns to by two names, and processes below which nothing stands.
+//! Warnings that the tree of a text shows by itself: names that are not used or stand in one list twice, variables
+//! that a PROC assigns to by two names, and processes below which nothing stands.
 //!
 //! Each PROC is looked at once, called or not. `depth` counts down with each process and expression that lies within
 //! another.

@@ -89,7 +89,7 @@ fn check_text<'t, 'a>(
     }
 }
 
-/// The warnings of a text, by places; or its faults: of how it is written, `misread`, or of with
+/// The warnings of a text, by places; or its faults: of how it is written, `misread`, or of
 /// what it says. It is read as `source`; where its indentation is wrong, as nothing.
 pub fn check<'t, 'a>(
     alloc: Global,
