@@ -1,7 +1,7 @@
 //! Messages.
 
 use tpw_occam_core::Kind;
-use tpw_occam_faults::{FaultKind, Stop};
+use tpw_occam_faults::{FaultKind, Interrupt};
 use tpw_occam_meaning::Expression as Tree;
 use tpw_occam_terms::{Name, Primitive};
 use tpw_occam_typing::{Channel, Checker, Frame, Protocol, Root, Shape, Storage, bytes_of};
@@ -20,7 +20,7 @@ pub(crate) fn sent_by<'t, 'a>(
     protocol: Protocol,
     e: &'t Tree<'a>,
     depth: u32,
-) -> Result<Message, Stop> {
+) -> Result<Message, Interrupt> {
     match protocol {
         Protocol::Value => {
             let value = checker.expression(frame, e, Some(Primitive::Int), depth)?;
@@ -53,7 +53,7 @@ pub(crate) fn trace<'t, 'a>(
     name: Name<'a>,
     e: &'t Tree<'a>,
     depth: u32,
-) -> Result<(), Stop> {
+) -> Result<(), Interrupt> {
     let (channel, protocol) = checker.channel_of(frame.scope, name)?;
     match channel {
         Channel::Traces => {

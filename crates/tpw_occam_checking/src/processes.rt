@@ -9,7 +9,7 @@ use crate::declarations::{Declared, Level, declare};
 use crate::limits::{MAX_GUARDS, MAX_TURNS, halves};
 use crate::messages::trace;
 use crate::trees::{cases_of, guards_of, has_else, place_of, steps_of};
-use tpw_occam_faults::{FaultKind, Limit, NoteKind, Role, Stop};
+use tpw_occam_faults::{FaultKind, Interrupt, Limit, NoteKind, Use};
 use tpw_occam_meaning::{
     Cases, Choices, Expression as Tree, Expressions, Process as Written, Processes,
 };
@@ -29,7 +29,7 @@ fn check_turns<'t, 'a>(
     frame: Frame,
     start: &'t Tree<'a>,
     count: &'t Tree<'a>,
-) -> Result<u32, Stop> {
+) -> Result<u32, Interrupt> {
     let first = checker.constant(frame, start, Primitive::Int);
     let turns = checker.constant(frame, count, Primitive::Int);
     let (first, turns) = (first?, turns?);
@@ -57,7 +57,7 @@ fn simple<'t, 'a>(
     frame: Frame,
     p: &'t Written<'a>,
     depth: u32,
-) -> Result<(), Stop> {
+) -> Result<(), Interrupt> {
     match p {
         Written::Skip { .. } => Ok(()),
         Written::Stop { .. } => Ok(()),
@@ -68,7 +68,7 @@ fn simple<'t, 'a>(
         } => assignment(checker, frame, targets, values, depth),
         Written::Send { channel, value, .. } => trace(checker, frame, *channel, value, depth),
         Written::Receive { channel, .. } => Err(checker.fault(channel.span, FaultKind::Receive)),
-        _ => Err(Stop::Reported),
+        _ => Err(Interrupt::Reported),
     }
 }
 
@@ -80,7 +80,7 @@ pub(crate) fn steps<'t, 'a>(
     list: &'t Processes<'a>,
     many: usize,
     depth: u32,
-) -> Result<(), Stop> {
+) -> Result<(), Interrupt> {
     let depth = levels_within(depth, halves(many));
     let mut is_whole = true;
     let mut rest = list;
@@ -95,7 +95,7 @@ pub(crate) fn steps<'t, 'a>(
     if is_whole {
         Ok(())
     } else {
-        Err(Stop::Reported)
+        Err(Interrupt::Reported)
     }
 }
 
@@ -105,10 +105,10 @@ fn replicated<'t, 'a>(
     checker: &mut Checker<'t, 'a>,
     frame: Frame,
     index: Name<'a>,
-    turns: Result<u32, Stop>,
+    turns: Result<u32, Interrupt>,
     list: &'t Processes<'a>,
     depth: u32,
-) -> Result<(), Stop> {
+) -> Result<(), Interrupt> {
     let meaning = Meaning::Value {
         of: Primitive::Int,
         root: Root::Named,
@@ -129,7 +129,7 @@ fn choice<'t, 'a>(
     choices: &'t Choices<'a>,
     span: Span,
     depth: u32,
-) -> Result<(), Stop> {
+) -> Result<(), Interrupt> {
     if guards_of(choices) > MAX_GUARDS {
         return Err(checker.fault(span, FaultKind::Limit(Limit::Guards)));
     }
@@ -151,7 +151,7 @@ fn choice<'t, 'a>(
         rest = more;
     }
     if !is_whole {
-        return Err(Stop::Reported);
+        return Err(Interrupt::Reported);
     }
     branches.end(checker, branches.is_closed());
     if index > 0 && !branches.is_closed() {
@@ -169,7 +169,7 @@ fn all_cases<'t, 'a>(
     cases: &'t Cases<'a>,
     span: Span,
     depth: u32,
-) -> Result<(), Stop> {
+) -> Result<(), Interrupt> {
     let many = cases_of(cases);
     let mut seen = Vec::new(checker.alloc);
     let mut branches = Branches::new(checker.traced);
@@ -199,7 +199,7 @@ fn all_cases<'t, 'a>(
     let is_closed = has_else(cases) || selector.is_some_and(|one| one.is_among(&seen));
     branches.end(checker, is_closed);
     if !is_whole {
-        return Err(Stop::Reported);
+        return Err(Interrupt::Reported);
     }
     if index > 0 && !is_closed {
         checker.findings.note(span, NoteKind::NoElse)?;
@@ -215,7 +215,7 @@ fn constants_of<'t, 'a>(
     constants: &'t Expressions<'a>,
     seen: &mut Vec<Seen>,
     depth: u32,
-) -> Result<bool, Stop> {
+) -> Result<bool, Interrupt> {
     let Some(selector) = selector else {
         return Ok(false);
     };
@@ -232,7 +232,7 @@ fn case<'t, 'a>(
     cases: &'t Cases<'a>,
     span: Span,
     depth: u32,
-) -> Result<(), Stop> {
+) -> Result<(), Interrupt> {
     let selected = chosen_by(checker, frame, e, depth);
     let selected = recovered(selected)?;
     let is_bound = selected.is_some_and(|selector| selector.is_bound);
@@ -248,7 +248,7 @@ fn procedure_call<'t, 'a>(
     name: Name<'a>,
     arguments: &'t Expressions<'a>,
     depth: u32,
-) -> Result<(), Stop> {
+) -> Result<(), Interrupt> {
     let entry = checker.find(frame.scope, name)?;
     let Meaning::Procedure {
         signature,
@@ -256,7 +256,7 @@ fn procedure_call<'t, 'a>(
         scope,
     } = entry.meaning
     else {
-        return Err(checker.not_a(name, entry, Role::Procedure));
+        return Err(checker.not_a(name, entry, Use::Procedure));
     };
     if frame.calls == 0 {
         return Err(checker.fault(name.span, FaultKind::Limit(Limit::Calls)));
@@ -278,7 +278,7 @@ fn scoped<'t, 'a>(
     frame: Frame,
     p: &'t Written<'a>,
     depth: u32,
-) -> Result<(), Stop> {
+) -> Result<(), Interrupt> {
     let mut declared = Declared::new(frame, depth);
     let mut rest = p;
     while let Written::Declared {
@@ -300,9 +300,9 @@ pub(crate) fn process<'t, 'a>(
     frame: Frame,
     p: &'t Written<'a>,
     depth: u32,
-) -> Result<(), Stop> {
+) -> Result<(), Interrupt> {
     let Some(span) = place_of(p) else {
-        return Err(Stop::Reported);
+        return Err(Interrupt::Reported);
     };
     checker.count(span)?;
     if depth == 0 {

@@ -8,7 +8,7 @@ use crate::trees::{declared_place, last_declaration};
 use crate::usage::note_usage;
 use crate::worker::worker;
 use std::alloc::{AllocError, Global};
-use tpw_occam_faults::{FIRST, Fault, FaultKind, Note, Stop, reported_faults, reported_notes};
+use tpw_occam_faults::{FIRST, Fault, FaultKind, Interrupt, Note, reported_faults, reported_notes};
 use tpw_occam_meaning::{Declaration, Declarations, Source};
 use tpw_occam_terms::Fault as Misread;
 use tpw_occam_typing::{Checker, Frame, MAX_DEPTH};
@@ -33,7 +33,10 @@ impl From<AllocError> for CheckError<'_> {
 }
 
 /// Reports what is wrong with how a text is written.
-fn report_misread<'t, 'a>(checker: &mut Checker<'t, 'a>, misread: &[Misread]) -> Result<(), Stop> {
+fn report_misread<'t, 'a>(
+    checker: &mut Checker<'t, 'a>,
+    misread: &[Misread],
+) -> Result<(), Interrupt> {
     for fault in misread {
         checker
             .findings
@@ -46,7 +49,7 @@ fn report_misread<'t, 'a>(checker: &mut Checker<'t, 'a>, misread: &[Misread]) ->
 fn others<'t, 'a>(
     checker: &mut Checker<'t, 'a>,
     list: &'t Declarations<'a>,
-) -> Result<Frame, Stop> {
+) -> Result<Frame, Interrupt> {
     let mut declared = Declared::new(Frame::OUTERMOST, MAX_DEPTH);
     let mut rest = list;
     while let Declarations::More(declaration, more) = rest {
@@ -65,12 +68,12 @@ fn check_text<'t, 'a>(
     checker: &mut Checker<'t, 'a>,
     source: Option<&'t Source<'a>>,
     misread: &[Misread],
-) -> Result<(), Stop>
+) -> Result<(), Interrupt>
     ensures { IfOk result (λ u. is_some source.entry ≡ true) }
 {
     report_misread(checker, misread)?;
     let Some(source) = source else {
-        return Err(Stop::Ended);
+        return Err(Interrupt::Ended);
     };
     let Some(last) = last_declaration(&source.declarations) else {
         return Err(checker.fault(FIRST, FaultKind::NoWorker));
@@ -103,7 +106,7 @@ pub fn check<'t, 'a>(
 {
     let mut checker = Checker::new(alloc);
     match check_text(&mut checker, source, misread) {
-        Err(Stop::Memory) => Err(CheckError::Memory),
+        Err(Interrupt::Memory) => Err(CheckError::Memory),
         Ok(()) if misread.is_empty() && checker.findings.faults.is_empty() => {
             checker.note_cells()?;
             if let Some(source) = source {

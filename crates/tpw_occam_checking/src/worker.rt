@@ -6,7 +6,7 @@ use crate::limits::MAX_TRACED;
 use crate::messages::{Message, sent_by};
 use crate::processes::steps;
 use crate::trees::{behind, last_step, steps_of};
-use tpw_occam_faults::{FaultKind, NoteKind, Stop};
+use tpw_occam_faults::{FaultKind, Interrupt, NoteKind};
 use tpw_occam_meaning::{
     Declaration, Expression as Tree, Parameters, Process as Written, Processes,
 };
@@ -40,14 +40,14 @@ fn channel<'t, 'a>(
     scope: Scope,
     parameter: Parameter<'a>,
     channel: Channel,
-) -> Result<(Scope, Protocol), Stop> {
+) -> Result<(Scope, Protocol), Interrupt> {
     match parameter.form {
         Form::Channel(protocol) => {
             let meaning = Meaning::Channel { channel, protocol };
             let scope = checker.declare(scope, parameter.name, meaning)?;
             Ok((scope, protocol))
         }
-        Form::Wrong => Err(Stop::Reported),
+        Form::Wrong => Err(Interrupt::Reported),
         _ => Err(checker.fault(worker.span, FaultKind::WorkerParameters)),
     }
 }
@@ -58,7 +58,7 @@ fn channels_of<'t, 'a>(
     frame: Frame,
     worker: Name<'a>,
     list: &'t Parameters<'a>,
-) -> Result<Channels<'a>, Stop> {
+) -> Result<Channels<'a>, Interrupt> {
     let signature = checker.signature(frame, list, Callee::Procedure)?;
     let packet = checker.parameter(signature, 0);
     let output = checker.parameter(signature, 1);
@@ -89,7 +89,7 @@ fn received_value<'t, 'a>(
     checker: &mut Checker<'t, 'a>,
     frame: Frame,
     e: &'t Tree<'a>,
-) -> Result<(), Stop> {
+) -> Result<(), Interrupt> {
     let found = target(checker, frame, e, MAX_DEPTH)?;
     checker.check_type(name_of(e), found, Primitive::Int, span_of(e))
 }
@@ -100,7 +100,7 @@ fn received_array<'t, 'a>(
     frame: Frame,
     e: &Tree<'a>,
     shape: Shape,
-) -> Result<(), Stop> {
+) -> Result<(), Interrupt> {
     let Some(name) = name_alone(e) else {
         return Err(checker.fault(span_of(e), FaultKind::ArrayWanted));
     };
@@ -117,14 +117,14 @@ fn received<'t, 'a>(
     step: &'t Written<'a>,
     line: Span,
     channels: Channels<'a>,
-) -> Result<(), Stop> {
+) -> Result<(), Interrupt> {
     let (channel, target) = match step {
         Written::Receive {
             channel,
             target,
             ..
         } => (*channel, target),
-        Written::Wrong => return Err(Stop::Reported),
+        Written::Wrong => return Err(Interrupt::Reported),
         _ => return Err(checker.fault(line, FaultKind::NoReceive)),
     };
     let (found, _) = checker.channel_of(frame.scope, channel)?;
@@ -154,7 +154,7 @@ fn note_result<'t, 'a>(
     checker: &mut Checker<'t, 'a>,
     message: Message,
     e: &Tree<'a>,
-) -> Result<(), Stop> {
+) -> Result<(), Interrupt> {
     let is_assigned = match message {
         Message::Value(Root::Variable(x)) => checker.cells.is_written(x),
         Message::Value(Root::Named) => false,
@@ -180,7 +180,7 @@ fn settle(checker: &mut Checker<'_, '_>, message: Message) {
 }
 
 /// Notes traces with which each packet is lost.
-fn note_traces<'t, 'a>(checker: &mut Checker<'t, 'a>, worker: Name<'a>) -> Result<(), Stop> {
+fn note_traces<'t, 'a>(checker: &mut Checker<'t, 'a>, worker: Name<'a>) -> Result<(), Interrupt> {
     let bytes = checker.traced;
     if bytes > MAX_TRACED {
         checker
@@ -197,12 +197,12 @@ fn sent<'t, 'a>(
     step: &'t Written<'a>,
     line: Span,
     channels: Channels<'a>,
-) -> Result<(), Stop> {
+) -> Result<(), Interrupt> {
     let (channel, value) = match step {
         Written::Send { channel, value, .. } => (*channel, value),
-        Written::Wrong => return Err(Stop::Reported),
+        Written::Wrong => return Err(Interrupt::Reported),
         Written::Declared { declaration, .. } if is_wrong(declaration) => {
-            return Err(Stop::Reported);
+            return Err(Interrupt::Reported);
         }
         _ => return Err(checker.fault(line, FaultKind::NoSend)),
     };
@@ -216,10 +216,10 @@ fn sent<'t, 'a>(
 }
 
 /// Reports a SEQ of at most one step, which does not both begin with the packet and end with the result.
-fn check_few<'t, 'a>(checker: &mut Checker<'t, 'a>, steps: Steps<'t, 'a>) -> Result<(), Stop> {
+fn check_few<'t, 'a>(checker: &mut Checker<'t, 'a>, steps: Steps<'t, 'a>) -> Result<(), Interrupt> {
     match steps.list {
         Processes::More(step, _) => match **step {
-            Written::Wrong => Err(Stop::Reported),
+            Written::Wrong => Err(Interrupt::Reported),
             Written::Receive { .. } => Err(checker.fault(steps.span, FaultKind::NoSend)),
             _ => Err(checker.fault(steps.span, FaultKind::NoReceive)),
         },
@@ -233,7 +233,7 @@ fn check_steps<'t, 'a>(
     frame: Frame,
     whole: Steps<'t, 'a>,
     channels: Channels<'a>,
-) -> Result<(), Stop> {
+) -> Result<(), Interrupt> {
     let Processes::More(first, rest) = whole.list else {
         return check_few(checker, whole);
     };
@@ -253,7 +253,7 @@ fn declared<'t, 'a>(
     checker: &mut Checker<'t, 'a>,
     frame: Frame,
     body: &'t Written<'a>,
-) -> Result<Frame, Stop> {
+) -> Result<Frame, Interrupt> {
     let mut declared = Declared::new(frame, MAX_DEPTH);
     let mut rest = body;
     while let Written::Declared {
@@ -274,12 +274,12 @@ pub(crate) fn worker<'t, 'a>(
     name: Name<'a>,
     list: &'t Parameters<'a>,
     body: &'t Written<'a>,
-) -> Result<(), Stop> {
+) -> Result<(), Interrupt> {
     let channels = channels_of(checker, frame, name, list)?;
     let whole = match behind(body) {
-        Written::Wrong => return Err(Stop::Reported),
+        Written::Wrong => return Err(Interrupt::Reported),
         Written::Sequence { span, .. } if span.line == name.span.line => {
-            return Err(Stop::Reported);
+            return Err(Interrupt::Reported);
         }
         Written::Sequence { steps, span } => Steps {
             list: steps,

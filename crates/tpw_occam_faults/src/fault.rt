@@ -1,6 +1,6 @@
 //! The faults of a text.
 
-use crate::sort::{Role, Sort, keyword, with_article};
+use crate::entity::{EntityKind, Use, keyword, with_article};
 use std::fmt;
 use tpw_occam_terms::{Primitive, Span};
 
@@ -37,8 +37,8 @@ pub enum FaultKind<'a> {
     NotA {
         name: &'a str,
         declared: Span,
-        found: Sort,
-        wanted: Role,
+        found: EntityKind,
+        wanted: Use,
     },
     /// A value has another type.
     Type {
@@ -189,8 +189,8 @@ fn write_not_a<W: fmt::Write>(
     f: &mut fmt::Formatter<W>,
     name: &str,
     declared: Span,
-    found: Sort,
-    wanted: Role,
+    found: EntityKind,
+    wanted: Use,
 ) -> fmt::Result {
     let line = declared.line;
     write!(

@@ -10,7 +10,7 @@ const MAX_NOTES: usize = 1_000;
 
 /// Why no more is known.
 #[derive(Clone, Copy, Debug, PartialEq, Eq)]
-pub enum Stop {
+pub enum Interrupt {
     /// A growth was refused.
     Memory,
     /// A fault is reported.
@@ -19,15 +19,15 @@ pub enum Stop {
     Ended,
 }
 
-impl From<AllocError> for Stop {
+impl From<AllocError> for Interrupt {
     fn from(_: AllocError) -> Self {
-        Stop::Memory
+        Interrupt::Memory
     }
 }
 
-impl<T: Drop> From<AllocFailed<T>> for Stop {
+impl<T: Drop> From<AllocFailed<T>> for Interrupt {
     fn from(_: AllocFailed<T>) -> Self {
-        Stop::Memory
+        Interrupt::Memory
     }
 }
 
@@ -48,13 +48,13 @@ impl<'a> Findings<'a> {
     }
 
     /// Reports what is wrong, once for each place. No more is looked for behind the last fault that is reported.
-    pub fn report(&mut self, span: Span, kind: FaultKind<'a>) -> Result<(), Stop> {
+    pub fn report(&mut self, span: Span, kind: FaultKind<'a>) -> Result<(), Interrupt> {
         if self.faults.iter().any(|fault| fault.span == span) {
             return Ok(());
         }
         self.faults.push(Fault { span, kind })?;
         if self.faults.len() >= MAX_FAULTS {
-            return Err(Stop::Ended);
+            return Err(Interrupt::Ended);
         }
         Ok(())
     }

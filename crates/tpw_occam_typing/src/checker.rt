@@ -6,7 +6,7 @@ use crate::limits::{MAX_CALLS, MAX_IN_LINE};
 use crate::per_call::PerCall;
 use crate::signatures::{Parameter, Signature};
 use std::alloc::{AllocError, Global};
-use tpw_occam_faults::{FaultKind, Findings, Limit, NoteKind, Stop};
+use tpw_occam_faults::{FaultKind, Findings, Interrupt, Limit, NoteKind};
 use tpw_occam_terms::{Name, Span};
 
 /// The names in scope, and how many calls may still lie within one another.
@@ -66,18 +66,18 @@ impl<'t, 'a> Checker<'t, 'a> {
     }
 
     /// Reports what is wrong; returns why no more is made of it.
-    pub fn fault(&mut self, span: Span, kind: FaultKind<'a>) -> Stop {
+    pub fn fault(&mut self, span: Span, kind: FaultKind<'a>) -> Interrupt {
         match self.findings.report(span, kind) {
-            Ok(()) => Stop::Reported,
+            Ok(()) => Interrupt::Reported,
             Err(stop) => stop,
         }
     }
 
     /// Counts an expression or a process.
-    pub fn count(&mut self, span: Span) -> Result<(), Stop> {
+    pub fn count(&mut self, span: Span) -> Result<(), Interrupt> {
         if self.left == 0 {
             self.findings.report(span, FaultKind::Limit(Limit::InLine))?;
-            return Err(Stop::Ended);
+            return Err(Interrupt::Ended);
         }
         self.left -= 1;
         Ok(())
@@ -136,18 +136,18 @@ impl<'t, 'a> Checker<'t, 'a> {
 }
 
 /// The value that was made, or another where its fault is reported.
-pub fn or_else<T: Drop>(made: Result<T, Stop>, other: T) -> Result<T, Stop> {
+pub fn or_else<T: Drop>(made: Result<T, Interrupt>, other: T) -> Result<T, Interrupt> {
     match made {
-        Err(Stop::Reported) => Ok(other),
+        Err(Interrupt::Reported) => Ok(other),
         made => made,
     }
 }
 
 /// The value that was made; nothing where its fault is reported.
-pub fn recovered<T: Drop>(made: Result<T, Stop>) -> Result<Option<T>, Stop> {
+pub fn recovered<T: Drop>(made: Result<T, Interrupt>) -> Result<Option<T>, Interrupt> {
     match made {
         Ok(made) => Ok(Some(made)),
-        Err(Stop::Reported) => Ok(None),
+        Err(Interrupt::Reported) => Ok(None),
         Err(stop) => Err(stop),
     }
 }

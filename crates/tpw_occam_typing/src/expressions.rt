@@ -9,9 +9,9 @@ use crate::limits::levels_within;
 use crate::operators::{is_order, low_byte, of_one, of_two, operand_of, operands_of};
 use crate::subscripts::Subscript;
 use crate::trees::{bare, count_of, is_number, name_of, span_of};
-use crate::value::{Root, Value, Worth, answered, computed, constant};
+use crate::value::{Constness, Root, Value, answered, computed, constant};
 use crate::words::{MOST_NEGATIVE, MOST_POSITIVE};
-use tpw_occam_faults::{FaultKind, Limit, Role, Stop};
+use tpw_occam_faults::{FaultKind, Interrupt, Limit, Use};
 use tpw_occam_meaning::{Dyadic, Expression as Tree, Expressions, Monadic};
 use tpw_occam_names::{character, element_at, element_type, number};
 use tpw_occam_terms::{FaultKind as Misread, Name, Primitive, Span};
@@ -23,7 +23,7 @@ impl<'t, 'a> Checker<'t, 'a> {
         spelled: &str,
         wanted: Option<Primitive>,
         span: Span,
-    ) -> Result<Value, Stop> {
+    ) -> Result<Value, Interrupt> {
         let Some(value) = number(spelled) else {
             return Err(self.fault(span, FaultKind::Syntax(Misread::BigNumber)));
         };
@@ -35,7 +35,7 @@ impl<'t, 'a> Checker<'t, 'a> {
     }
 
     /// A character.
-    fn character(&mut self, spelled: &str, span: Span) -> Result<Value, Stop> {
+    fn character(&mut self, spelled: &str, span: Span) -> Result<Value, Interrupt> {
         match character(spelled) {
             Some(value) => Ok(constant(Primitive::Byte, value)),
             None => Err(self.fault(span, FaultKind::Syntax(Misread::BadCharacter))),
@@ -48,7 +48,7 @@ impl<'t, 'a> Checker<'t, 'a> {
         scope: Scope,
         e: &'t Tree<'a>,
         wanted: Option<Primitive>,
-    ) -> Result<Value, Stop> {
+    ) -> Result<Value, Interrupt> {
         match e {
             Tree::Number { spelled, span } => self.number(spelled, wanted, *span),
             Tree::Character { spelled, span } => self.character(spelled, *span),
@@ -61,8 +61,8 @@ impl<'t, 'a> Checker<'t, 'a> {
             Tree::Text { span, .. } => Err(self.fault(*span, FaultKind::TableHere)),
             Tree::Table { span, .. } => Err(self.fault(*span, FaultKind::TableHere)),
             Tree::Name(name) => self.value_of(scope, *name),
-            Tree::Channel { name, .. } => Err(self.no_channel(scope, *name, Role::Value)),
-            _ => Err(Stop::Reported),
+            Tree::Channel { name, .. } => Err(self.no_channel(scope, *name, Use::Value)),
+            _ => Err(Interrupt::Reported),
         }
     }
 
@@ -74,7 +74,7 @@ impl<'t, 'a> Checker<'t, 'a> {
         e: &'t Tree<'a>,
         wanted: Option<Primitive>,
         depth: u32,
-    ) -> Result<Value, Stop> {
+    ) -> Result<Value, Interrupt> {
         let e = bare(e);
         self.count(span_of(e))?;
         if depth == 0 {
@@ -95,7 +95,7 @@ impl<'t, 'a> Checker<'t, 'a> {
         e: &'t Tree<'a>,
         wanted: Option<Primitive>,
         depth: u32,
-    ) -> Result<Value, Stop> {
+    ) -> Result<Value, Interrupt> {
         match e {
             Tree::Element {
                 array,
@@ -130,7 +130,7 @@ impl<'t, 'a> Checker<'t, 'a> {
     }
 
     /// The value of an operator on its one operand.
-    fn applied(&mut self, operator: Monadic, e: Value, span: Span) -> Result<Value, Stop> {
+    fn applied(&mut self, operator: Monadic, e: Value, span: Span) -> Result<Value, Interrupt> {
         match operator {
             Monadic::Convert(to) => self.converted(to, e, span),
             other => self.noted_one(of_one(other, e, span), span),
@@ -138,7 +138,7 @@ impl<'t, 'a> Checker<'t, 'a> {
     }
 
     /// A value of one type made of one of another.
-    fn converted(&mut self, to: Primitive, e: Value, span: Span) -> Result<Value, Stop> {
+    fn converted(&mut self, to: Primitive, e: Value, span: Span) -> Result<Value, Interrupt> {
         match (e.of, to) {
             (Primitive::Bool, Primitive::Int | Primitive::Byte) => Ok(Value { of: to, ..e }),
             (Primitive::Byte, Primitive::Int) => Ok(Value { of: to, ..e }),
@@ -156,7 +156,7 @@ impl<'t, 'a> Checker<'t, 'a> {
         operands: (&'t Tree<'a>, &'t Tree<'a>),
         span: Span,
         depth: u32,
-    ) -> Result<Value, Stop> {
+    ) -> Result<Value, Interrupt> {
         let (left, right) = operands;
         if is_number(left) {
             let turned = self.operands(frame, operator, right, left, depth)?;
@@ -176,20 +176,20 @@ impl<'t, 'a> Checker<'t, 'a> {
         one: &'t Tree<'a>,
         other: &'t Tree<'a>,
         depth: u32,
-    ) -> Result<(Value, Value), Stop> {
+    ) -> Result<(Value, Value), Interrupt> {
         let wanted = operands_of(operator);
         match self.expression(frame, one, wanted, depth) {
             Ok(first) => {
                 let noted = self.findings.notes.len();
                 let second = self.expression(frame, other, wanted.or(Some(first.of)), depth)?;
-                if decides(operator, first.worth) {
+                if decides(operator, first.constness) {
                     self.findings.forget(noted);
                 }
                 Ok((first, second))
             }
-            Err(Stop::Reported) => {
+            Err(Interrupt::Reported) => {
                 self.expression(frame, other, wanted, depth)?;
-                Err(Stop::Reported)
+                Err(Interrupt::Reported)
             }
             Err(stop) => Err(stop),
         }
@@ -202,23 +202,23 @@ impl<'t, 'a> Checker<'t, 'a> {
         left: Value,
         right: Value,
         span: Span,
-    ) -> Result<Value, Stop> {
+    ) -> Result<Value, Interrupt> {
         if is_order(operator) && left.of == Primitive::Bool {
             return Err(self.fault(span, FaultKind::NoOrder));
         }
         let made = of_two(operator, left, right, span);
-        self.noted_two(operator, right.worth, made, span)
+        self.noted_two(operator, right.constness, made, span)
     }
 
     /// The constness of an element: of a table, with a constant subscript, it is a constant.
-    fn element_worth(&self, view: View, subscript: Worth, span: Span) -> Worth {
+    fn element_constness(&self, view: View, subscript: Constness, span: Span) -> Constness {
         match (view.storage, subscript) {
-            (Storage::Table(table), Worth::Constant(at)) => match self.tables.get(table) {
+            (Storage::Table(table), Constness::Constant(at)) => match self.tables.get(table) {
                 Some(bytes) => answered(element_at(view.kind, bytes, at), span),
-                None => Worth::Computed,
+                None => Constness::Computed,
             },
-            (Storage::Table(_), worth) => worth,
-            (Storage::Array(_), _) => Worth::Computed,
+            (Storage::Table(_), constness) => constness,
+            (Storage::Array(_), _) => Constness::Computed,
         }
     }
 
@@ -227,14 +227,14 @@ impl<'t, 'a> Checker<'t, 'a> {
         &mut self,
         name: Name<'a>,
         view: View,
-        subscript: Worth,
+        subscript: Constness,
         place: Subscript,
-    ) -> Result<Value, Stop> {
+    ) -> Result<Value, Interrupt> {
         self.check_subscript(name, view, subscript, place)?;
         self.cells.read_array(view.storage);
         Ok(Value {
             of: element_type(view.kind),
-            worth: self.element_worth(view, subscript, name.span),
+            constness: self.element_constness(view, subscript, name.span),
             root: Root::Made,
         })
     }
@@ -247,12 +247,12 @@ impl<'t, 'a> Checker<'t, 'a> {
         name: Name<'a>,
         subscript: &'t Tree<'a>,
         depth: u32,
-    ) -> Result<Value, Stop> {
+    ) -> Result<Value, Interrupt> {
         let place = self.subscript_at(subscript);
         let view = self.view_of(frame.scope, name);
         let subscript = self.expression(frame, subscript, Some(Primitive::Int), depth);
         let (view, subscript) = (view?, subscript?);
-        self.element_of(name, view, subscript.worth, place)
+        self.element_of(name, view, subscript.constness, place)
     }
 
     /// `f (e, ..)`: the FUNCTION's expression, with its parameters bound.
@@ -263,7 +263,7 @@ impl<'t, 'a> Checker<'t, 'a> {
         name: Name<'a>,
         arguments: &'t Expressions<'a>,
         depth: u32,
-    ) -> Result<Value, Stop> {
+    ) -> Result<Value, Interrupt> {
         let entry = self.find(frame.scope, name)?;
         let Meaning::Function {
             of,
@@ -272,7 +272,7 @@ impl<'t, 'a> Checker<'t, 'a> {
             scope,
         } = entry.meaning
         else {
-            return Err(self.not_a(name, entry, Role::Function));
+            return Err(self.not_a(name, entry, Use::Function));
         };
         if frame.calls == 0 {
             return Err(self.fault(name.span, FaultKind::Limit(Limit::Calls)));
@@ -286,7 +286,7 @@ impl<'t, 'a> Checker<'t, 'a> {
         let depth = levels_within(depth, bound.names);
         let value = self.expression(within, value, Some(of), depth)?;
         if !bound.is_whole {
-            return Err(Stop::Reported);
+            return Err(Interrupt::Reported);
         }
         if bound.names > 0 {
             return Ok(computed(value.of, Root::Made));

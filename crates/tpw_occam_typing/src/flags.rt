@@ -1,8 +1,8 @@
 //! Operations that set the error flag wherever they are worked out, as constants show.
 
 use crate::checker::Checker;
-use crate::value::{Value, Worth};
-use tpw_occam_faults::{Flagging, NoteKind, Stop};
+use crate::value::{Constness, Value};
+use tpw_occam_faults::{Flagging, Interrupt, NoteKind};
 use tpw_occam_meaning::Dyadic;
 use tpw_occam_terms::Span;
 
@@ -10,10 +10,10 @@ use tpw_occam_terms::Span;
 const WORD_BITS: u32 = 32;
 
 /// Whether the left operand of an operator decides, so that the right one is not worked out.
-pub(crate) fn decides(operator: Dyadic, left: Worth) -> bool {
+pub(crate) fn decides(operator: Dyadic, left: Constness) -> bool {
     match (operator, left) {
-        (Dyadic::And, Worth::Constant(word)) => word == 0,
-        (Dyadic::Or, Worth::Constant(word)) => word != 0,
+        (Dyadic::And, Constness::Constant(word)) => word == 0,
+        (Dyadic::Or, Constness::Constant(word)) => word != 0,
         _ => false,
     }
 }
@@ -30,13 +30,13 @@ fn shown_by_right(operator: Dyadic, right: u32) -> Option<Flagging> {
 }
 
 /// The flag that an operator sets at a place, if constants show it.
-fn shown(operator: Dyadic, right: Worth, made: Worth, span: Span) -> Option<Flagging> {
+fn shown(operator: Dyadic, right: Constness, made: Constness, span: Span) -> Option<Flagging> {
     let by_right = match right {
-        Worth::Constant(word) => shown_by_right(operator, word),
+        Constness::Constant(word) => shown_by_right(operator, word),
         _ => None,
     };
     match made {
-        Worth::Flagged(at) if at == span => Some(by_right.unwrap_or(Flagging::Constants)),
+        Constness::Flagged(at) if at == span => Some(by_right.unwrap_or(Flagging::Constants)),
         _ => by_right,
     }
 }
@@ -46,20 +46,20 @@ impl<'t, 'a> Checker<'t, 'a> {
     pub(crate) fn noted_two(
         &mut self,
         operator: Dyadic,
-        right: Worth,
+        right: Constness,
         made: Value,
         span: Span,
-    ) -> Result<Value, Stop> {
-        if let Some(flagging) = shown(operator, right, made.worth, span) {
+    ) -> Result<Value, Interrupt> {
+        if let Some(flagging) = shown(operator, right, made.constness, span) {
             self.findings.note(span, NoteKind::Flag(flagging))?;
         }
         Ok(made)
     }
 
     /// The value of an operator on one at a place; a warning where that is no INT.
-    pub(crate) fn noted_one(&mut self, made: Value, span: Span) -> Result<Value, Stop> {
-        match made.worth {
-            Worth::Flagged(at) if at == span => {
+    pub(crate) fn noted_one(&mut self, made: Value, span: Span) -> Result<Value, Interrupt> {
+        match made.constness {
+            Constness::Flagged(at) if at == span => {
                 self.findings
                     .note(span, NoteKind::Flag(Flagging::Constants))?;
             }
@@ -69,9 +69,14 @@ impl<'t, 'a> Checker<'t, 'a> {
     }
 
     /// `BYTE` of an INT at a place; it is noted where a constant is none.
-    pub(crate) fn noted_byte(&mut self, e: Value, made: Value, span: Span) -> Result<Value, Stop> {
-        match (e.worth, made.worth) {
-            (Worth::Constant(word), Worth::Flagged(_)) => {
+    pub(crate) fn noted_byte(
+        &mut self,
+        e: Value,
+        made: Value,
+        span: Span,
+    ) -> Result<Value, Interrupt> {
+        match (e.constness, made.constness) {
+            (Constness::Constant(word), Constness::Flagged(_)) => {
                 let value = word.cast_signed();
                 self.findings
                     .note(span, NoteKind::Flag(Flagging::Byte { value }))?;

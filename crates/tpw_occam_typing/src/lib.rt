@@ -30,5 +30,5 @@ pub use per_call::{PerCall, Point};
 pub use signatures::{Callee, Form, Parameter, Shape, Signature};
 pub use subscripts::Subscript;
 pub use trees::{Size, bare, bytes_of, count_of, is_table, name_alone, name_of, size_of, span_of};
-pub use value::{Root, Value, Worth};
+pub use value::{Constness, Root, Value};
 pub use words::MOST_POSITIVE;

@@ -5,7 +5,7 @@ use tpw_occam_terms::Primitive;
 
 /// The kind of what is declared under a name.
 #[derive(Clone, Copy, Debug, PartialEq, Eq)]
-pub enum Sort {
+pub enum EntityKind {
     /// A constant, a value or an index: read, and not assigned to.
     Value(Primitive),
     /// A variable, or another name for one or for an element.
@@ -21,7 +21,7 @@ pub enum Sort {
 
 /// The use of a name.
 #[derive(Clone, Copy, Debug, PartialEq, Eq)]
-pub enum Role {
+pub enum Use {
     /// A value is read.
     Value,
     /// It is assigned to, or passed to be.
@@ -56,39 +56,39 @@ pub(crate) fn keyword(of: Primitive) -> &'static str {
     }
 }
 
-impl fmt::Display for Sort {
+impl fmt::Display for EntityKind {
     fn fmt<W: fmt::Write>(&self, f: &mut fmt::Formatter<W>) -> fmt::Result {
         match self {
-            Sort::Value(of) => {
+            EntityKind::Value(of) => {
                 let of = with_article(*of);
                 write!(f, "{of} that is not assigned to")
             }
-            Sort::Variable(of) => f.write_str(with_article(*of)),
-            Sort::Array { of, elements } => {
+            EntityKind::Variable(of) => f.write_str(with_article(*of)),
+            EntityKind::Array { of, elements } => {
                 let of = keyword(*of);
                 write!(f, "an array [{elements}]{of}")
             }
-            Sort::Table { of, elements } => {
+            EntityKind::Table { of, elements } => {
                 let of = keyword(*of);
                 write!(f, "a table [{elements}]{of}, which is not assigned to")
             }
-            Sort::Procedure => f.write_str("a PROC"),
-            Sort::Function => f.write_str("a FUNCTION"),
-            Sort::Channel => f.write_str("a channel"),
+            EntityKind::Procedure => f.write_str("a PROC"),
+            EntityKind::Function => f.write_str("a FUNCTION"),
+            EntityKind::Channel => f.write_str("a channel"),
         }
     }
 }
 
-impl fmt::Display for Role {
+impl fmt::Display for Use {
     fn fmt<W: fmt::Write>(&self, f: &mut fmt::Formatter<W>) -> fmt::Result {
         f.write_str(match self {
-            Role::Value => "a value",
-            Role::Variable => "a variable",
-            Role::Array => "an array or a table",
-            Role::WrittenArray => "an array",
-            Role::Procedure => "a PROC",
-            Role::Function => "a FUNCTION",
-            Role::Channel => "a channel",
+            Use::Value => "a value",
+            Use::Variable => "a variable",
+            Use::Array => "an array or a table",
+            Use::WrittenArray => "an array",
+            Use::Procedure => "a PROC",
+            Use::Function => "a FUNCTION",
+            Use::Channel => "a channel",
         })
     }
 }
