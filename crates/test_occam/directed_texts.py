@@ -111,6 +111,13 @@ def assignments():
            pairs(), declared=['INT i:'])
     worker('values before targets', ['x, y, z := 1, 2, 3', 'x, y, z := y, z, x', 'r := (x TIMES 100) PLUS ((y TIMES 10) PLUS z)'],
            pairs()[:2], declared=['INT x, y, z:'])
+    worker('a third value of two registers', ['x, y, z := p[0], p[1], 3', 'x, y, z := y, z, x PLUS y',
+           'r := (x TIMES 100) PLUS ((y TIMES 10) PLUS z)'], pairs()[::7], declared=['INT x, y, z:'])
+    worker('elements that may be one', ['i := p[0] /\\ 1', 'j := p[1] /\\ 1', 'p[i], p[j] := p[j] PLUS 1, 5', 'r := (p[0] TIMES 7) PLUS p[1]'],
+           pairs()[::5], declared=['INT i, j:'])
+    worker('elements in a circle', ['SEQ i = 0 FOR 4', '  a[i] := i + 1', 'i := p[0] /\\ 3', 'j := p[1] /\\ 3',
+           'a[i], a[j], a[3] := a[j], a[3], a[i]', 'SEQ i = 0 FOR 4', '  r := (r TIMES 7) PLUS a[i]'],
+           pairs()[::5], declared=['[4]INT a:', 'INT i, j:'])
     worker('a subscript that changes', ['i := p[0] /\\ 1', 'i, p[i] := 1 - i, 9', 'r := (p[0] TIMES 10) PLUS i'], pairs(), declared=['INT i:'])
     worker('subscripts that read what is written', ['SEQ i = 0 FOR 2', '  SEQ', '    a[i] := p[i] /\\ 1', '    b[i] := 1 - a[i]',
            'a[b[0] /\\ 1], b[a[0] /\\ 1] := 6, 9', 'SEQ i = 0 FOR 2', '  r := (r TIMES 7) PLUS ((a[i] TIMES 3) PLUS b[i])'],
@@ -142,6 +149,12 @@ def parameters():
            declared=['INT FUNCTION first (VAL INT a, VAL INT b) IS a:'])
     worker('sizes of open arrays', ['r := (count (p) TIMES 100) PLUS count ([1, 2, 3, 4, 5])'], pairs()[:2],
            declared=['INT FUNCTION count (VAL []INT a) IS SIZE a:'])
+    worker('the arguments of a PROC', ['put (p[0], p[1])', 'r := y'], pairs(),
+           declared=['INT y:', 'PROC put (VAL INT a, VAL INT b)', '  y := a MINUS (b TIMES 3)', ':'])
+    worker('a value in a process is one', ['x := p[0]', 'VAL INT v IS x:', 'SEQ', '  x := p[1]', '  r := (v TIMES 3) PLUS x'], pairs(),
+           declared=['INT x:'])
+    worker('a variable that hides another', ['x := p[0]', 'INT x:', 'SEQ', '  x := p[1]', '  r := x', 'r := (r TIMES 3) PLUS x'], pairs(),
+           declared=['INT x:'])
     worker('names of where it is declared', ['p[0] := f (p[1])', 'r := p[0]'], pairs(),
            declared=['VAL INT n IS 3:', 'INT FUNCTION f (VAL INT x) IS x PLUS n:', 'VAL INT n IS 4:'])
     worker('names of where a PROC is declared', ['put (p[1])', 'r := y'], pairs()[::3],

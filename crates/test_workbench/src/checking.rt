@@ -8,10 +8,12 @@ use std::sync::Wait;
 use std::thread::Threads;
 use std::time::Clock;
 use tp_accept::{Accepted, accept};
+use tpw_command_line::{OutputOptions, PacketSource, RunOptions};
+use tpw_files::{Outcome, Terminal};
 use tpw_inputs::read_occam;
 use tpw_occam_scoped::Process;
-use tpw_running::Checking;
-use tpw_runs::{Notation, Progress, Style, packets_of, run_on_members};
+use tpw_running::{Prepared, write_check};
+use tpw_runs::{Notation, Style, packets_of};
 
 /// As many multiples of a packet are summed and traced as it says.
 const SUMS: &str = "\
@@ -48,7 +50,7 @@ PROC other (CHAN OF INT packet, CHAN OF INT result, CHAN OF INT trace)
 ";
 
 /// The output of the runs of the packets 0, 2, 3 and 65: in order nothing, another trace, another result, flag and
-/// trace, and a loss.
+/// trace, and a loss. A multiple that is summed takes 12 steps, so 0 takes 24 less than 2.
 const OTHERS: &str = "\
 1  flag 0  628 of 1384  2147483642
   trace 0 2
@@ -64,6 +66,14 @@ const OTHERS: &str = "\
   the text means
 3  flag 1  -2147483591
   trace
+packets 4, lost 1, steps 604 to 640 of 1384
+checked 4, 3 differ: a fault of the compiler; please report it, with the text
+";
+
+/// The output where the runs are compared with what their own text means.
+const NONE: &str = "\
+packets 4, lost 1, steps 604 to 640 of 1384
+checked 4, each is what the text means
 ";
 
 /// The worker that a text is compiled to, accepted.
@@ -79,8 +89,31 @@ fn meaning_of(rt: &impl Abort, alloc: Global, text: &str) -> Process {
     read.compiled.core
 }
 
-/// The output of a check of the runs of a text's worker by another text's meaning, and the packets that it finds.
-fn checked<T>(rt: &T, alloc: Global, text: &str, other: &str) -> (Vec<u8>, Vec<usize>)
+/// How the runs of the packets are asked for.
+fn asked(alloc: Global) -> RunOptions {
+    let source = PacketSource {
+        words: Vec::new(alloc),
+        file: None,
+        notation: Notation::Words,
+    };
+    let style = Style {
+        hexadecimal: false,
+        trace: false,
+    };
+    RunOptions {
+        output: OutputOptions {
+            source,
+            expect: None,
+            style,
+            raw: false,
+        },
+        members: 2,
+        check: true,
+    }
+}
+
+/// The output of a check of the runs of a text's worker by another text's meaning, and its outcome.
+fn checked<T>(rt: &T, alloc: Global, text: &str, other: &str) -> (Vec<u8>, Outcome)
 where
     T: Threads + Wait + Clock + Eprint + Sync + Abort,
 {
@@ -88,38 +121,36 @@ where
     let core = meaning_of(rt, alloc, other);
     let bytes = image.packet_bytes();
     let packets = packets_of(alloc, "0\n2\n3\n65\n", bytes, Notation::Words);
-    let packets = unwrap(rt, packets);
-    let style = Style {
-        hexadecimal: false,
-        trace: true,
+    let prepared = Prepared {
+        image,
+        packets: unwrap(rt, packets),
+        expected: None,
     };
-    let mut checking = Checking::new(alloc, &core, style, image.budget());
-    let progress = Progress::new(rt, packets.len(), false);
     let mut output = Vec::new(alloc);
-    unwrap(
+    let mut errors = Vec::new(alloc);
+    let mut terminal = Terminal {
+        errors: &mut errors,
+        is_terminal: false,
+    };
+    let outcome = write_check(
         rt,
-        run_on_members(
-            rt,
-            alloc,
-            &image,
-            &packets,
-            2,
-            &progress,
-            &mut checking,
-            &mut output,
-        ),
+        alloc,
+        &prepared,
+        &asked(alloc),
+        &core,
+        &mut output,
+        &mut terminal,
     );
-    (output, checking.others)
+    (output, unwrap(rt, outcome))
 }
 
-/// A check finds each packet of which something else is made than the text means, and no other.
+/// A check finds each packet of which something else is made than the text means, and no other. It is bad where it finds one.
 #[test]
 fn check_finds_others(rt: HostRuntime) {
     let alloc = rt.alloc();
-    let others = unwrap(&rt, Vec::from_slice(alloc, &[1, 2, 3]));
-    for (other, written, found) in [(OTHER, OTHERS, others), (SUMS, "", Vec::new(alloc))] {
-        let (output, numbers) = checked(&rt, alloc, SUMS, other);
+    for (other, written, outcome) in [(OTHER, OTHERS, Outcome::Bad), (SUMS, NONE, Outcome::Good)] {
+        let (output, found) = checked(&rt, alloc, SUMS, other);
         assert_same(&rt, &unwrap(&rt, str::from_utf8(&output)), &written);
-        assert_same(&rt, &numbers, &found);
+        assert_same(&rt, &found, &outcome);
     }
 }
