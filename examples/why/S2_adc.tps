@@ -1,12 +1,19 @@
 -- Loads the second byte of a word: but adc does not move an address.
-packet  1
-result  1
-local   n
+packet 1
+result 1
+-- local 0: n
 
-        receive n
-        ldlp    n
-        adc     1
+        ldlp 0
+        mint
+        ldnlp 4
+        ldc 4
+        in
+        ldlp 0
+        adc 1
         lb
-        stl     n
-        send    n
+        stl 0
+        ldlp 0
+        mint
+        ldc 4
+        out
         stopp

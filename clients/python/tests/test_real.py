@@ -18,9 +18,73 @@ from tests.test_farm import IMAGE, Case, words
 FARMD, TPW = os.environ.get("FARMD", ""), os.environ.get("TPW", "")
 EXAMPLES = Path(__file__).parents[3] / "examples"
 # A loop of a thousand turns in another: long enough to be ended within it.
-LOOPS = " for o = 0 for 1000\n for i = 0 for 1000\n end i\n end o\n"
-LONG = f"packet 1\nresult 1\nlocal n\n receive n\n{LOOPS} send n\n stopp\n"
-TRACES_TOO_MUCH = "packet 1\nresult 1\nlocal n\n receive n\n for i = 0 for 65\n trace n\n end i\n send n\n stopp\n"
+LONG = """\
+workspace 10
+packet 1
+result 1
+loop head i_head lend i_lend control 8 turns 1000 start 0
+loop head o_head lend o_lend control 6 turns 1000 start 0
+ldlp 0
+mint
+ldnlp 4
+ldc 4
+in
+ldc 0
+stl 1
+ldc 1000
+stl 2
+o_head:
+ldc 0
+stl 3
+ldc 1000
+stl 4
+i_head:
+ldlp 3
+ldc i_behind - i_head
+i_lend:
+lend
+i_behind:
+ldlp 1
+ldc o_behind - o_head
+o_lend:
+lend
+o_behind:
+ldlp 0
+mint
+ldc 4
+out
+stopp
+"""
+TRACES_TOO_MUCH = """\
+packet 1
+result 1
+loop head i_head lend i_lend control 6 turns 65 start 0
+ldlp 0
+mint
+ldnlp 4
+ldc 4
+in
+ldc 0
+stl 1
+ldc 65
+stl 2
+i_head:
+ldlp 0
+mint
+ldnlp 1
+ldc 4
+out
+ldlp 1
+ldc i_behind - i_head
+i_lend:
+lend
+i_behind:
+ldlp 0
+mint
+ldc 4
+out
+stopp
+"""
 
 
 @unittest.skipUnless(FARMD and TPW, "FARMD and TPW name no programs")

@@ -35,7 +35,7 @@ pub(crate) fn measure<R: Runtime<A = Global> + Threads + Sync>(
     Ok(())
 }
 
-/// Prints how many packets so many threads finish, on boards and by plain atomics.
+/// Prints how many packets this many threads finish, on boards and by plain atomics.
 fn report<R: Runtime<A = Global> + Threads + Sync>(
     rt: &R,
     threads: u32,

@@ -67,7 +67,7 @@ fn wire(alloc: Global) -> Result<OwnedWire> {
     Ok(wire)
 }
 
-/// The devices of so many members.
+/// The devices of this many members.
 fn links(alloc: Global, members: u32) -> Result<Vec<Links<OwnedWire>>> {
     let mut all = Vec::new(alloc);
     for _ in 0..members {
@@ -100,7 +100,7 @@ fn count(collected: &Collected) -> (u64, u64) {
     (done, sum)
 }
 
-/// Runs one batch of so many packets.
+/// Runs one batch of this many packets.
 fn run_batch_of<R: Runtime<A = Global> + Threads + Wait + Sync>(
     rt: &R,
     image: &Accepted,

@@ -42,7 +42,7 @@ fn code_bytes(alloc: Global, text: &[u8]) -> Result<usize> {
     Ok(read_image(alloc, text)?.code.len())
 }
 
-/// What it takes to decode the code so often.
+/// The time to decode the code so often.
 fn decoding<R: Runtime<A = Global>>(rt: &R, text: &[u8], rounds: u32) -> Result<Took> {
     let image = read_image(rt.alloc(), text)?;
     decoding_of(rt, &image, rounds)

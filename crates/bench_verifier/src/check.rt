@@ -1,4 +1,4 @@
-//! What the verifier's passes take, beside `check_flow` of the same image in the same run.
+//! The time of the verifier's passes, beside `check_flow` of the same image in the same run.
 //!
 //! One image is judged once, and it is printed how many states are kept; or its times are printed with that; or it is
 //! judged so often, for the processor time that it takes. `bench/images.py` makes the images.
@@ -87,7 +87,7 @@ impl fmt::Display for Found {
     }
 }
 
-/// What the passes find, where the flow passes.
+/// The verdict of the passes, where the flow passes.
 fn judged(alloc: Global, image: &Image, listing: &Listing) -> Option<Found>
     requires { IsCutting image.now.code listing.now }
 {

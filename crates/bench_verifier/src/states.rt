@@ -1,4 +1,4 @@
-//! How many instructions a second the verifier's rules take in place: `State::go_on` over ldl, adc, stl. And how long
+//! How many instructions a second the verifier's rules take in place: `State::transfer` over ldl, adc, stl. And how long
 //! `State::join` and `State::is_below` take for two states of 512 words, all known and alike.
 //!
 //! Makes a thousand rounds; timed, millions, with the time that they took.
@@ -119,7 +119,7 @@ fn report_meetings<R: Runtime<A = Global>>(
     Ok(())
 }
 
-/// How many instructions pass in so many rounds.
+/// How many instructions pass in this many rounds.
 fn count_passed(state: &mut State, image: &Image, nest: &Nest, rounds: u32) -> u64
     requires placed { IsPlaced image.now state.old }
     requires good { HasGoodLoops image.now }
@@ -154,11 +154,11 @@ fn passes(state: &mut State, at: u8, instr: Instr, image: &Image, nest: &Nest) -
 {
     let at = usize::from(at);
     state
-        .go_on(at, at + 1, instr, Edge::Next, image, nest)
+        .transfer(at, at + 1, instr, Edge::Next, image, nest)
         .is_ok()
 }
 
-/// How many joins of so many change nothing.
+/// How many joins of this many change nothing.
 fn count_unchanged(state: &mut State, other: &State, rounds: u32) -> u64
     requires { length other.now.cells ≡ length state.old.cells }
 {
@@ -177,7 +177,7 @@ fn is_unchanged(state: &mut State, other: &State) -> bool
     state.join(other) == Ok(false)
 }
 
-/// How many times a state is below another, of so many. Two others take turns, and no round is like the one before.
+/// How many times a state is below another, of this many tries. Two others take turns, and no round is like the one before.
 fn count_below(state: &State, first: &State, second: &State, rounds: u32) -> u64
     requires first { length first.now.cells ≡ length state.now.cells }
     requires second { length second.now.cells ≡ length state.now.cells }

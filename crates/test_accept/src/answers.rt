@@ -97,7 +97,7 @@ fn answers_short_codes(rt: HostRuntime) {
     }
 }
 
-/// The answer to the first so many bytes of an image that is longer.
+/// The answer to the first this many bytes of an image that is longer.
 fn answer_to_a_beginning(rt: &impl Abort, alloc: Global, bytes: usize) -> String {
     if bytes < 4 {
         unwrap(rt, format!(in alloc; "NO F1 0"))

@@ -47,7 +47,7 @@ fn assert_sent(rt: &impl Abort, media: &Media, byte: u8) {
     assert!(rt; have_ended(media));
 }
 
-/// What is sent by a member's wires is held by that member's media, after the wires too.
+/// Bytes sent by a member's wires are held by that member's media, after the wires too.
 #[test]
 fn each_member_has_its_media(rt: HostRuntime) {
     let mut media = unwrap(&rt, media_of(rt.alloc(), 3, 4));

@@ -1,4 +1,4 @@
-//! What a text is read as.
+//! How texts are read.
 
 ghost use Rattle.tp_decode.specs.Cutting.{IsCutting};
 

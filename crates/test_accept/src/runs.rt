@@ -32,7 +32,7 @@ fn runs_long_codes(rt: HostRuntime) {
     }
 }
 
-/// The run of a packet takes so many steps, and its result is the packet.
+/// The run of a packet takes this many steps, and its result is the packet.
 fn assert_sent_back(
     rt: &(impl Abort + AllocGlobal),
     machine: &mut Machine,

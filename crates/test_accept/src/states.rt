@@ -114,10 +114,10 @@ fn begins_with_the_first_words(rt: HostRuntime) {
     assert_same(&rt, &(copy.wptr, cells), &(8, expected));
 }
 
-/// What is known of a workspace of 12 words.
+/// The abstract values of a workspace of 12 words.
 type Words = [Cell; 12];
 
-/// What is known of a worker whose packet has come, with Wptr at word 8.
+/// The abstract state of a worker whose packet has come, with Wptr at word 8.
 fn with_words(rt: &(impl Abort + AllocGlobal), a: Kind, words: &Words) -> State
     ensures wptr { result.wptr ≡ 8 }
     ensures sized { length result.cells ≡ 12 }

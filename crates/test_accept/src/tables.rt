@@ -20,7 +20,7 @@ use tp_flow::{Edge, Nest, check_flow};
 use tp_image::Image;
 use tp_state::{Cell, Kind, State, StateCode, StateFault, after};
 
-/// What the passes answer.
+/// The verdict of the passes.
 fn verdict(rt: &(impl Abort + AllocGlobal), bytes: &[u8]) -> Result<Table, StateFault> {
     let (image, listing) = read(rt, bytes);
     let nest = check_flow(&image, &listing).expect(rt, "a nest");
@@ -139,7 +139,7 @@ fn finds_a_table(rt: HostRuntime) {
     assert_cells(&rt, &table, 13, &[(9, Cell::Any)]);
 }
 
-/// What a state says but of its cells: Wptr, the phase, Areg and Breg.
+/// A state without its cells: Wptr, the phase, Areg and Breg.
 type Registers = (u32, u8, Kind, Kind);
 
 /// The same: it is a state of the image's worker.
@@ -156,7 +156,7 @@ fn placed_at<'a>(image: &Image, table: &'a Table, at: u32) -> Option<&'a State>
     None
 }
 
-/// What is known at an address, from the state at an address before it: control falls from instruction to instruction,
+/// The state at an address, from the one at an address before it: control falls from instruction to instruction,
 /// and out of loops.
 fn carried_to(
     rt: &(impl Abort + AllocGlobal),
@@ -186,7 +186,7 @@ fn carried_to(
     state
 }
 
-/// What is known at addresses along a loop, from the state that is kept at its head: before the sum, before the lend,
+/// The states along a loop, from the one that is kept at its head: before the sum, before the lend,
 /// behind the loop, and at the end.
 #[test]
 fn knows_the_registers_along_a_loop(rt: HostRuntime) {

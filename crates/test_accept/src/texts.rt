@@ -52,7 +52,7 @@ pub(crate) const NINE_HUNDRED: &[u8] = b"TPW1\x15\x07\x0C\0\x08\0\x01\0\x01\0\0\
 /// The header of 4,000 jumps: 8,013 code bytes.
 pub(crate) const FOUR_THOUSAND: &[u8] = b"TPW2\x4D\x1F\x0C\0\x08\0\x01\0\x01\0\0\0\0\0";
 
-/// What is answered to a text: YES with the code bytes and the budget, or NO with the refusal as it prints.
+/// The answer to a text: YES with the code bytes and the budget, or NO with the refusal as it prints.
 pub(crate) fn answer(rt: &impl Abort, alloc: Global, text: &[u8]) -> String {
     let text = unwrap(rt, Vec::from_slice(alloc, text));
     match accept(alloc, text) {

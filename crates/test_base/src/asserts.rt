@@ -1,4 +1,4 @@
-//! What each test asks of values: where it is not so, the test ends there and then, and says what it found.
+//! Assertions of values: where one fails, the test ends there and then, and says what it found.
 //!
 //! A call of `assert_same` is proved in a tenth of the time of an `assert_eq!` in its place. Where a test owns
 //! something, `unwrap` takes about half the time of a `?`, behind which all of that is let go of.

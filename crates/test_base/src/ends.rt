@@ -1,4 +1,4 @@
-//! What is left of a device when it ends, in a box and out of it.
+//! The end of a device, in a box and out of it: what is left of it.
 ghost use Rattle.std.specs.Prelude.{◌≡◌};
 ghost use Rattle.tp_link.specs.Device.{held_after_send, plain_send};
 ghost use Rattle.tp_link.specs.Medium.{with_bytes, wired, unwired, faultless_device};

@@ -196,7 +196,7 @@ fn reads_the_largest_fields(rt: HostRuntime) {
     assert_same(&rt, &unwrap(&rt, read(rt.alloc(), &messages)).result, &64);
 }
 
-/// The bytes before, as a header of so many code bytes and the code's first, then `ldc 0; cj 0` so
+/// The bytes before, as a header of this many code bytes and the code's first, then `ldc 0; cj 0` so
 /// many times, then the bytes after.
 fn with_long_code(
     rt: &impl Abort,

@@ -1,6 +1,6 @@
 -- What the rows of the table of short runs say.
 use Rattle.std.specs.Prelude.{◌≡◌, ℕ, ◌-◌, true, ℤ, pos, List, [], ◌∷◌, length, map, Option, Some, None, option_map}
-use Rattle.tp_decode.specs.Words.{low_word}
+use Rattle.tp_words.specs.Words.{low_word}
 use Rattle.tp_image.specs.Image.{ImageValue}
 use Rattle.tp_step.specs.State.{State}
 use Rattle.tp_step.specs.Steps.{step, steps, IsStuck}

@@ -12,7 +12,7 @@ receive = 0x10 ∷ 0x24 ∷ 0xF2 ∷ 0x54 ∷ 0x44 ∷ 0xF7 ∷ []
 abbrev pub send_and_stop : ℕ → List ℕ
 send_and_stop n = (0x10 + n) ∷ 0x24 ∷ 0xF2 ∷ 0x44 ∷ 0xFB ∷ 0x21 ∷ 0xF5 ∷ []
 
--- a worker of version 1, with so many workspace words, that does this in between, and sends a local
+-- a worker of version 1, with this many workspace words, that does this in between, and sends a local
 abbrev pub worker : (workspace : ℕ) → (body : List ℕ) → (sends : ℕ) → ImageValue
 worker workspace body sends = record {
   version = One;

@@ -11,7 +11,7 @@ use Rattle.test_effects.specs.declared.rows.Setting.TheVariants as setting
 use Rattle.test_effects.specs.declared.rows.Worker.{Worker}
 use Rattle.test_effects.specs.declared.rows.Worker.TheVariants as worker
 
--- A worker with this code and so many workspace words. Wptr begins at word 8, whose address is 80000068 hex.
+-- A worker with this code and this many workspace words. Wptr begins at word 8, whose address is 80000068 hex.
 abbrev pub roomy_trial : ℕ → List ℕ → ImageValue
 roomy_trial workspace code = record {
   version = One;

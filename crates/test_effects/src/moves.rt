@@ -31,8 +31,8 @@ pub fn move_bytes() -> &'static [Row]
     ROWS
 }
 
-/// What has no outcome: version 1, a count that is no number of words, ranges that overlap or leave the workspace, and
-/// undefined bytes or registers.
+/// Moves without an outcome: version 1, a count that is no number of words, ranges that overlap or leave the workspace,
+/// and undefined bytes or registers.
 pub fn no_move() -> &'static [Row]
     ensures { AreSo result.now }
 {

@@ -25,8 +25,8 @@ pub fn prefixes() -> &'static [Row]
     ROWS
 }
 
-/// What is in no row of the table: call (`9n`), and operations such as endp (`F3`), ret (`22 F0`), dup (`25 FA`) and
-/// those of negative codes.
+/// Codes that are in no row of the table: call (`9n`), and operations such as endp (`F3`), ret (`22 F0`), dup (`25 FA`)
+/// and those of negative codes.
 pub fn no_instruction() -> &'static [Row]
     ensures { AreSo result.now }
 {

@@ -2,7 +2,7 @@
 //!
 //! `specs/Rows.antt` says what a row means by the definitions.
 
-/// What a state has that the bare state has not, in which nothing is on the stack and each word is 0. Settings are made
+/// A difference of a state from the bare one, in which nothing is on the stack and each word is 0. Settings are made
 /// one after another. Workspace words are named by their numbers, bytes by their addresses.
 #[derive(Clone, Copy)]
 pub enum Setting {
@@ -25,7 +25,7 @@ pub enum Setting {
     Stopped,
     /// The words from this one on hold these.
     Holding(u32, &'static [u32]),
-    /// From the first word on, so many words are undefined.
+    /// From the first word on, this many words are undefined.
     Lacking(u32, u32),
     /// The byte at this address is undefined.
     LackingByte(u32),
@@ -67,9 +67,9 @@ pub enum Expected {
     /// All bytes but the last are executed, which is an in without its packet: by the definitions it is stuck, and on a
     /// machine the source refuses to give more than it has.
     LacksPacket,
-    /// After so many steps Iptr is here, and of these words each is this, if it is defined.
+    /// After this many steps Iptr is here, and of these words each is this, if it is defined.
     Shows(u32, i64, &'static [(u32, Option<u32>)]),
-    /// After so many steps it has stopped, and makes no step more.
+    /// After this many steps it has stopped, and makes no step more.
     Ends(u32),
 }
 

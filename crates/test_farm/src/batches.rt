@@ -17,7 +17,7 @@ use tp_stream::Packet;
 /// The number of the batches here.
 pub(crate) const BATCH: u64 = 7;
 
-/// What became of a packet.
+/// The end of a packet.
 #[derive(Clone, Copy, PartialEq, Eq)]
 pub(crate) enum PacketEnd {
     /// Its result as one word, its error flag, and how many instruction bytes were run.
@@ -49,7 +49,7 @@ pub(crate) fn of_entry(entry: &Entry) -> PacketEnd {
     }
 }
 
-/// What `INCREMENT` makes of a packet of this word: one more, in 16 instruction bytes, of which the sum of the greatest
+/// The end of a packet of this word on `INCREMENT`: one more, in 16 instruction bytes, of which the sum of the greatest
 /// number and one sets the error flag.
 pub(crate) fn one_more(word: u32) -> PacketEnd {
     PacketEnd::Done {
@@ -59,7 +59,7 @@ pub(crate) fn one_more(word: u32) -> PacketEnd {
     }
 }
 
-/// What `TRACES_ITS_PACKET` makes of a packet of this word: the same, in 19 instruction bytes.
+/// The end of a packet of this word on `TRACES_ITS_PACKET`: the same, in 19 instruction bytes.
 pub(crate) fn the_same(word: u32) -> PacketEnd {
     PacketEnd::Done {
         result: word,
@@ -87,7 +87,7 @@ pub(crate) fn packets(rt: &impl Abort, alloc: Global, words: &[u32]) -> Vec<Pack
     all
 }
 
-/// So many words in a row, from 0.
+/// This many words in a row, from 0.
 pub(crate) fn count_up(rt: &impl Abort, alloc: Global, count: u32) -> Vec<u32> {
     let mut words = Vec::new(alloc);
     for word in 0..count {
@@ -154,7 +154,7 @@ pub(crate) fn run_by_one<R: Abort + Threads + Wait + Sync, D: LinkDevice + Send,
     outcomes(rt, alloc, &collected)
 }
 
-/// Runs `INCREMENT` on these words by so many members, and returns their entries.
+/// Runs `INCREMENT` on these words by this many members, and returns their entries.
 pub(crate) fn increments_by<R: Abort + Threads + Wait + Sync, G: Gate>(
     rt: &R,
     alloc: Global,

@@ -121,7 +121,7 @@ impl Gate for Holding {
 }
 
 impl Holding {
-    /// The first so many numbers of a batch.
+    /// The first this many numbers of a batch.
     fn of(members: u64, packets: u64) -> Holding {
         Holding {
             members,

@@ -9,7 +9,7 @@ use test_samples::TRACES_ITS_PACKET;
 use tp_farm::Gate;
 use tp_link::{DeviceFault, LinkDevice, Links, Medium, OwnedWire};
 
-/// What one member's gate and devices have seen: packets that were taken and that were handled, and calls of devices.
+/// Notes of one member's gate and devices: packets that were taken and that were handled, and calls of devices.
 #[derive(Drop)]
 struct Notes {
     taken: AtomicU64,

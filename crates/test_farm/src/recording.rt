@@ -10,7 +10,7 @@ use test_samples::*;
 use tp_farm::Gate;
 use tp_link::Media;
 
-/// What a gate hears of the member of a number.
+/// A call that a gate hears, of the member of a number.
 #[derive(Clone, Copy, PartialEq, Eq)]
 enum Heard {
     Asked(u32),
@@ -73,7 +73,7 @@ impl<R: Wait + Sync> Gate for Recording<'_, R> {
     }
 }
 
-/// What is heard of one member that runs two packets of 1, over wires that fail in these calls.
+/// The calls heard of one member that runs two packets of 1, over wires that fail in these calls.
 fn heard_of_one<R: Abort + Threads + Wait + Sync>(
     rt: &R,
     alloc: Global,
@@ -116,7 +116,7 @@ fn each_member_asks_where_there_are_no_packets(rt: HostRuntime) {
     }
 }
 
-/// What is heard of so many members that run 60 packets.
+/// The calls heard of some members that run 60 packets.
 fn heard_of<R: Abort + Threads + Wait + Sync>(rt: &R, alloc: Global, members: usize) -> Vec<Heard> {
     let words = count_up(rt, alloc, 60);
     let gate = Recording::new(rt, alloc);
@@ -124,7 +124,7 @@ fn heard_of<R: Abort + Threads + Wait + Sync>(rt: &R, alloc: Global, members: us
     gate.into_heard()
 }
 
-/// What was heard of one member, in its order.
+/// The calls heard of one member, in its order.
 fn of_member(rt: &impl Abort, alloc: Global, heard: &[Heard], member: u32) -> Vec<Heard> {
     let mut all = Vec::new(alloc);
     for one in heard {

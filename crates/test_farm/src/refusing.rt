@@ -22,7 +22,7 @@ fn fault_over<R: Abort + Threads + Wait + Sync>(
     batch_of(rt, alloc, INCREMENT, packets, links, &OpenGate).err()
 }
 
-/// What it is refused with, with so many members; and that all of their media have ended.
+/// The refusal with this number of members; and that all of their media have ended.
 fn refusal<R: Abort + Threads + Wait + Sync>(
     rt: &R,
     alloc: Global,

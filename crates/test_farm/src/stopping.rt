@@ -104,7 +104,7 @@ fn a_closed_gate_lets_nothing_through(rt: HostRuntime) {
     assert!(rt; media.iter().all(have_ended));
 }
 
-/// How many of 1,024 packets are done, by so many members under a gate that says no at this ask and from there on; none
+/// How many of 1,024 packets are done, by this many members under a gate that says no at this ask and from there on; none
 /// where an entry is neither done nor stopped.
 fn done_before<R: Abort + Threads + Wait + Sync>(
     rt: &R,

@@ -53,7 +53,7 @@ fn done_before<R: Abort + Threads + Wait + Sync>(
     done_beside(&outcomes(rt, alloc, &collected), words, PacketEnd::Stopped)
 }
 
-/// Where the twentieth ask is the first that is answered no, at most 19 packets were taken; one member takes so many.
+/// Where the twentieth ask is the first that is answered no, at most 19 packets were taken; one member takes all 19.
 #[test]
 fn members_end_by_a_gates_no(rt: HostRuntime) {
     for count in COUNTS {

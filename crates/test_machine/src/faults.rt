@@ -58,7 +58,7 @@ fn a_full_sink_refuses(rt: HostRuntime) {
     assert_left(&rt, &media, Left::default());
 }
 
-/// What a run answers over a closed sink, and how many bytes its source still holds.
+/// The answer of a run over a closed sink, and how many bytes its source still holds.
 fn run_over_closed_sink(rt: &impl Abort, alloc: Global, media: &mut Media) -> (Answer, usize) {
     let image = unwrap(rt, read_image(alloc, INCREMENT));
     let mut links = wires(media);
@@ -84,7 +84,7 @@ fn failing_wires(media: &mut Media) -> Links<FaultyWire<'_>> {
     }
 }
 
-/// What a run answers over these wires.
+/// The answer of a run over these wires.
 fn run_over_failing(
     machine: &mut Machine,
     image: &Image,
@@ -93,10 +93,10 @@ fn run_over_failing(
     machine.run_image(image, links, 100)
 }
 
-/// What a cut off run leaves at its source: how many bytes, and how many calls that failed.
+/// The source after a run that was cut off: how many bytes, and how many calls that failed.
 type AtSource = (usize, u64);
 
-/// What two runs on one machine answer, of which the source fails in the first, and what that one leaves there.
+/// The answers of two runs on one machine, of which the source fails in the first, and what that one leaves there.
 fn run_twice_over_failing(
     rt: &impl Abort,
     alloc: Global,

@@ -48,7 +48,7 @@ pub(crate) fn place_of(iptr: i64, settings: &[Setting]) -> Place {
     place
 }
 
-/// What a setting says, but of the memory.
+/// Applies a setting, but of the memory.
 fn set(place: &mut Place, setting: Setting) {
     match setting {
         Setting::One(a) => set_stack(place, Some(a), None, None),
@@ -89,7 +89,7 @@ pub(crate) fn machine_of(rt: &impl Abort, registers: Registers, settings: &[Sett
     machine
 }
 
-/// What a setting says of the memory.
+/// Applies a setting of the memory.
 fn set_memory(rt: &impl Abort, machine: &mut Machine, setting: Setting) {
     match setting {
         Setting::Holding(word, words) => hold(rt, machine, word, words),
@@ -118,7 +118,7 @@ fn fill(machine: &mut Machine) {
     }
 }
 
-/// From the first word on, so many words are undefined.
+/// From the first word on, this many words are undefined.
 fn lack(rt: &impl Abort, machine: &mut Machine, word: u32, count: u32) {
     assert!(rt; word <= WORDS && count <= WORDS - word, "no such words");
     machine.undefine(MEM_START + 4 * word, 4 * count as usize);

@@ -9,7 +9,7 @@ use tp_link::LinkDevice;
 use tp_outcome::Outcome;
 use tpw_machine::{Machine, RunFault};
 
-/// What a run answers.
+/// The answer of a run.
 pub(crate) type Answer = Result<Outcome, RunFault>;
 
 /// That the worker has ended.
@@ -17,7 +17,7 @@ pub(crate) fn ended(error: bool, steps: u32) -> Answer {
     Ok(Outcome { error, steps })
 }
 
-/// What is run: a worker, its packet, and how many bytes of its code it may execute.
+/// A run: a worker, its packet, and how many bytes of its code it may execute.
 #[derive(Clone, Copy)]
 pub(crate) struct Task<'a> {
     pub(crate) image: &'a [u8],
@@ -25,7 +25,7 @@ pub(crate) struct Task<'a> {
     pub(crate) limit: u32,
 }
 
-/// What the three media hold after a run.
+/// The contents of the three media after a run.
 #[derive(Clone, Copy, Default)]
 pub(crate) struct Left<'a> {
     pub(crate) source: &'a [u8],
@@ -33,13 +33,13 @@ pub(crate) struct Left<'a> {
     pub(crate) trace: &'a [u8],
 }
 
-/// What a run answers over media with room enough.
+/// The answer of a run over media with room enough.
 pub(crate) fn run(rt: &impl Abort, alloc: Global, machine: &mut Machine, task: Task<'_>) -> Answer {
     let mut media = make_media(rt, alloc);
     run_over(rt, alloc, &mut media, machine, task)
 }
 
-/// What a run answers over these media, to whose source the packet is sent.
+/// The answer of a run over these media, to whose source the packet is sent.
 pub(crate) fn run_over(
     rt: &impl Abort,
     alloc: Global,

@@ -39,7 +39,7 @@ fn text(rt: &impl Abort, alloc: Global, row: &Row) -> Vec<u8> {
     text
 }
 
-/// What a run answers, the machine and its phase after it, and what the three media hold.
+/// The answer of a run, the machine and its phase after it, and the contents of the three media.
 #[derive(Drop)]
 struct Seen {
     answer: Result<Outcome, RunFault>,
@@ -61,7 +61,7 @@ fn send_messages(rt: &impl Abort, links: &mut Links<Wire<'_>>, place: &Place) {
     unwrap(rt, links.trace.send(place.traced));
 }
 
-/// The run of a row, which executes no more than so many bytes.
+/// The run of a row, which executes no more than this many bytes.
 fn run(rt: &impl Abort, alloc: Global, row: &Row, limit: u32) -> Seen {
     let image = image_of(rt, alloc, row);
     let from = place_of(0, row.from);

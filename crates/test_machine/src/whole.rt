@@ -125,7 +125,7 @@ fn starts_anew_with_each_image(rt: HostRuntime) {
     assert_same(&rt, &cells, &[Some(42), Some(0), Some(0), None]);
 }
 
-/// What a run over links that are kept answers.
+/// The answer of a run over links that are kept.
 fn run_again(machine: &mut Machine, image: &Image, links: &mut Links<Wire<'_>>) -> Answer {
     machine.run_image(image, links, 100)
 }
@@ -145,7 +145,7 @@ fn send_four_packets(rt: &impl Abort, links: &mut Links<Wire<'_>>) {
     unwrap(rt, links.source.send(&[1, 0, 0, 0, 1, 0, 0, 0]));
 }
 
-/// What four runs over these media answer, and the results that their sink receives.
+/// The answers of four runs over these media, and the results that their sink receives.
 fn run_four(rt: &impl Abort, alloc: Global, media: &mut Media) -> ([Answer; 4], [u8; 16]) {
     let image = unwrap(rt, read_image(alloc, INCREMENT));
     let moves = unwrap(rt, read_image(alloc, MOVES_A_WORD));
@@ -175,7 +175,7 @@ fn nothing_is_left_over_between_packets(rt: HostRuntime) {
 /// A device of which only its trait is known.
 type AnyDevice = Box<dyn LinkDevice + Send>;
 
-/// What the tracing worker answers over these devices, to whose source its packet is sent.
+/// The answer of the tracing worker over these devices, to whose source its packet is sent.
 fn trace_over(
     rt: &impl Abort,
     alloc: Global,

@@ -49,7 +49,7 @@ fn both<R: Threads + Wait + Sync>(
 /// More packets than a queue holds, so that it is full where its member is refused memory.
 const MANY: u32 = 70;
 
-/// So many words in a row, from 0.
+/// This many words in a row, from 0.
 fn count_up(alloc: Global, count: u32) -> Result<Vec<u32>, AllocError> {
     let mut words = Vec::new(alloc);
     for word in 0..count {
@@ -71,7 +71,7 @@ fn packets_of(alloc: Global, words: &[u32]) -> Result<Vec<Packet>, AllocError> {
     Ok(packets)
 }
 
-/// The batch of packets of these words, by so many members.
+/// The batch of packets of these words, by this many members.
 fn increments<R: Threads + Wait + Sync>(
     rt: &R,
     alloc: Global,

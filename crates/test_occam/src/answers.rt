@@ -4,7 +4,7 @@ use anyhow::Result;
 use std::alloc::{AllocError, Global};
 use tpw_occam_interpreter::Given;
 
-/// What stands for no bytes.
+/// The spelling of no bytes.
 const NOTHING: &str = "-";
 
 /// Bytes in hexadecimal.

@@ -54,7 +54,7 @@ impl Current {
         Ok(())
     }
 
-    /// What is made of a packet of this worker.
+    /// The answer to a packet of this worker.
     fn answer(&mut self, alloc: Global, packet: &str) -> Result<String> {
         let compiled = match self.compiled.take() {
             Some(compiled) => compiled,

@@ -6,18 +6,18 @@ use crate::draft::*;
 use crate::random::Random;
 use std::alloc::{AllocError, Global};
 
-/// No step is begun behind so many instructions: a step has at most 5, the ends of three loops 9, and the end 6.
+/// No step is begun behind this many instructions: a step has at most 5, the ends of three loops 9, and the end 6.
 const LAST_STEP: usize = 20;
 
 /// How many variables a code has.
 const VARIABLES: u8 = 6;
 
-/// Workspaces have so many words: one word of bits has the cells of the first, and two have those of the other.
+/// Workspaces have this many words: one word of bits has the cells of the first, and two have those of the other.
 const SMALL: u16 = 20;
 
 const LARGE: u16 = 80;
 
-/// In a large workspace all variables but the first lie so many words further on, about the end of 64 words.
+/// In a large workspace all variables but the first lie this many words further on, about the end of 64 words.
 const FAR: i32 = 52;
 
 /// Operations of two numbers, and one of one: add, sub, and, or, diff, prod, gt, rem, shr, not.
@@ -180,7 +180,7 @@ impl Writer {
         Ok(())
     }
 
-    /// Something is shifted by a variable, or the word so many words behind another is taken.
+    /// Something is shifted by a variable, or the word this many words behind another is taken.
     fn use_word(&mut self, number: u8) -> Result<(), AllocError> {
         if self.random.is_once_in(2) {
             self.draft.put(LDC, 1)?;

@@ -133,7 +133,7 @@ fn is_kept(image: &Image, listing: &Listing, nest: &Nest, at: usize) -> bool {
     at == 0 || is_head || leading >= 2
 }
 
-/// Whether two states say the same, of so many words.
+/// Whether two states say the same, of this many words.
 fn are_alike(state: &State, other: &State, words: usize) -> bool {
     let registers = (state.a, state.b, state.c) == (other.a, other.b, other.c);
     let mut cells = true;

@@ -34,7 +34,7 @@ const BLOCKS: u8 = 6;
 /// The first value of Wptr.
 const START: u16 = 8;
 
-/// What is open in a code: a jump whose target comes later, or a loop whose end does.
+/// An open part of a code: a jump whose target comes later, or a loop whose end does.
 #[derive(Clone, Copy)]
 enum Open {
     Jump(usize),
@@ -125,7 +125,7 @@ impl Draft {
         Ok(())
     }
 
-    /// What is open so many places from the last is closed, or the last.
+    /// Closes the part that was opened some places before the last, or the last.
     pub(crate) fn close(&mut self, back: usize) -> Result<(), AllocError> {
         let many = self.open.len();
         let at = if back < many {
@@ -183,7 +183,7 @@ impl Draft {
         Ok(())
     }
 
-    /// The image of the code, of version 2, with so many workspace words and these first ones.
+    /// The image of the code, of version 2, with this many workspace words and these first ones.
     pub(crate) fn image(
         &self,
         alloc: Global,

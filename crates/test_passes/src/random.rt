@@ -28,7 +28,7 @@ impl Random {
         (self.next() % u64::from(end)) as u8
     }
 
-    /// Once in so many times.
+    /// Once in this many times.
     pub(crate) fn is_once_in(&mut self, times: u8) -> bool
         requires { 0 < times }
     {

@@ -10,7 +10,7 @@ use tp_flow::{Edge, Nest, edges};
 use tp_image::Image;
 use tp_state::{State, StateFault, after};
 
-/// What is known before each instruction: by address, or nothing.
+/// The states before the instructions: by address, or nothing.
 #[derive(Drop)]
 pub(crate) struct Whole {
     pub(crate) states: Vec<Option<State>>,
@@ -104,7 +104,7 @@ impl Whole {
     }
 }
 
-/// What is known after an edge, if anything is before it.
+/// The state after an edge, if anything is before it.
 fn outcome(
     alloc: Global,
     state: &Option<State>,

@@ -1,4 +1,4 @@
-//! What `farmd` writes and ends with, from its words and streams to its statuses. There is no code here but tests.
+//! The output and statuses of `farmd`, from its words and streams on. There is no code here but tests.
 #![tactic(auto)]
 
 #[cfg(test)]

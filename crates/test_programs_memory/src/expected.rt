@@ -177,9 +177,52 @@ L15:
 ";
 
 /// The worker of docs/WORKERS.md, whose image that page works out.
-const FIBONACCI_TEXT: &str =
-    "packet 1\nresult 1\nlocal n, a, b\nreceive n\nldc 0\nstl a\nldc 1\nstl b\nfor i = 0 for 47\n\
-    ldl n\nldl i\ngt\ncj skip\ntrace a\nldl a\nldl b\nsum\nldl b\nstl a\nstl b\nskip: end i\nsend a\nstopp\n";
+const FIBONACCI_TEXT: &str = "\
+workspace 10
+packet 1
+result 1
+loop head i_head lend i_lend control 8 turns 47 start 0
+ldlp 0
+mint
+ldnlp 4
+ldc 4
+in
+ldc 0
+stl 1
+ldc 1
+stl 2
+ldc 0
+stl 3
+ldc 47
+stl 4
+i_head:
+ldl 0
+ldl 3
+gt
+cj skip
+ldlp 1
+mint
+ldnlp 1
+ldc 4
+out
+ldl 1
+ldl 2
+sum
+ldl 2
+stl 1
+stl 2
+skip:
+ldlp 3
+ldc i_behind - i_head
+i_lend:
+lend
+i_behind:
+ldlp 1
+mint
+ldc 4
+out
+stopp
+";
 
 /// 12 bytes, a loop of ten turns of 8 bytes, and 7 bytes.
 const SUM_TO_TEN_DISASSEMBLED: &str = "\
@@ -230,29 +273,47 @@ state A - B - C - Wptr 8 flag 0 w8=42
 ";
 
 /// Keeps the address of a word in a word.
-const KEPT_ADDRESS: &str =
-    "packet 1\nresult 1\nlocal n, p\nreceive n\nldlp n\nstl p\nldl p\nldnl 0\nstl n\ndone: send n\nstopp\n";
+const KEPT_ADDRESS: &str = "\
+packet 1
+result 1
+ldlp 0
+mint
+ldnlp 4
+ldc 4
+in
+ldlp 0
+stl 1
+ldl 1
+ldnl 0
+stl 0
+done:
+ldlp 0
+mint
+ldc 4
+out
+stopp
+";
 
 const KEPT_ADDRESS_EXPLAINED: &str = "\
-tpw: standard input:8:1: NO S2 9
+tpw: standard input:11:1: NO S2 9
 refused  a register is of the wrong kind
-         5 f7 in  ; line 4: receive n
-         6 10 ldlp 0  ; line 5: ldlp n
-         7 d1 stl 1  ; line 6: stl p
-         8 71 ldl 1  ; line 7: ldl p
->        9 30 ldnl 0  ; line 8: ldnl 0
-         10 d0 stl 0  ; line 9: stl n
- done:   11 10 ldlp 0  ; line 10: send n
-         12 24f2 mint  ; line 10: send n
-         14 44 ldc 4  ; line 10: send n
+         5 f7 in  ; line 7: in
+         6 10 ldlp 0  ; line 8: ldlp 0
+         7 d1 stl 1  ; line 9: stl 1
+         8 71 ldl 1  ; line 10: ldl 1
+>        9 30 ldnl 0  ; line 11: ldnl 0
+         10 d0 stl 0  ; line 12: stl 0
+ done:   11 10 ldlp 0  ; line 14: ldlp 0
+         12 24f2 mint  ; line 15: mint
+         14 44 ldc 4  ; line 16: ldc 4
 asked    Areg is the address of a word; the word n further on is in the workspace and defined
 known    Areg any number; Breg may be undefined; Creg may be undefined
          Wptr at word 5; phase 1, the packet is received and the result not sent
          words 0 to 4: may be undefined
-         words 5 to 6 (n, p): any number
+         words 5 to 6: any number
          word 7: 0
-why      Areg is what 8 ldl 1 read from word 6 (p)
-written  word 6 (p) by 7 stl 1: the address of word 5; a word does not keep that it is an address
+why      Areg is what 8 ldl 1 read from word 6
+written  word 6 by 7 stl 1: the address of word 5; a word does not keep that it is an address
 from     8 by Next: Areg any number; Breg may be undefined; Creg may be undefined
 found    in pass 1, on the edge Next of the instruction at 9
 instead  address words by ldlp, ldnlp and wsub; a word does not keep that it is an address, so make the address again

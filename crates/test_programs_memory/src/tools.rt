@@ -13,7 +13,7 @@ use test_samples::page::Page;
 use test_samples::streams::Words;
 use tpw_commands::{Output, Terminal, run};
 
-/// What a command answers, and how many bytes it has written. Where memory or a thread is refused, it reports that
+/// The answer of a command, and how many bytes it has written. Where memory or a thread is refused, it reports that
 /// fault, and what it has written is the beginning of the expected text.
 fn answer<T>(rt: &T, alloc: Global, case: &Case<'_>) -> (Answer, usize)
 where

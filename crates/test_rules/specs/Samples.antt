@@ -93,11 +93,11 @@ descheduled phase those = record (regs_words Undef Undef Undef (words_after_with
 abbrev pub next_of : Instr → State → Result State StateCode
 next_of instr t = after image 12 14 instr Next t
 
--- an image without loops, Wptr at word 8 of so many
+-- an image without loops, Wptr at word 8 of this many words
 abbrev pub worker : Version → (workspace : ℕ) → ImageValue
 worker version workspace = record (image_of version 1 1) { workspace = workspace; start = 8; loops = [] }
 
--- after the packet was taken to word 8, of so many words more
+-- after the packet was taken to word 8, of this many words more
 abbrev pub words_taken : ℕ → List Cell
 words_taken more =
     replicate 3 (cell.Known (pos 0)) ++ (replicate 5 cell.Undef ++ (cell.Any ∷ replicate more (cell.Known (pos 0))))

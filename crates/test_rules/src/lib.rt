@@ -1,4 +1,4 @@
-//! What is known after an instruction, computed on the rules: some 350 cases that were worked out by hand from the
+//! The verifier's rules, computed: some 350 cases of the state after an instruction, worked out by hand from the
 //! instruction table and the rules of the verifier, never by a program. No crate uses this one.
 //!
 //! | instructions | cases |

@@ -1,4 +1,4 @@
-//! What is known after messages, and along the edges of loops: computed examples.
+//! States after messages, and along the edges of loops: computed examples.
 
 ghost use Rattle.std.specs.Prelude.{◌≡◌, pos, [], ◌∷◌, Ok, Err, is_ok, true, Some, None};
 ghost use Rattle.tp_decode.specs.declared.instr.Instr.TheVariants.{Jump, Cj, Stl, Input, Output, Lend};

@@ -1,4 +1,4 @@
-//! What is known after operations on numbers: computed examples.
+//! States after operations on numbers: computed examples.
 
 ghost use Rattle.std.specs.Prelude.{◌≡◌, pos, Ok, Err};
 ghost use Rattle.tp_decode.specs.declared.instr.Instr.TheVariants.{Adc, Eqc, Diff, Add, Prod, Gt, Sub, Csub0, Rem, Div};

@@ -1,4 +1,4 @@
-//! What is known after instructions that read no word: computed examples.
+//! States after instructions that read no word: computed examples.
 
 ghost use Rattle.std.specs.Prelude.{◌≡◌, pos, Ok, Err};
 ghost use Rattle.tp_decode.specs.declared.instr.Instr.TheVariants.{Ldlp, Ldc, Ldnlp, Cj, Ajw, Rev, Bsub, Wsub, Seterr};

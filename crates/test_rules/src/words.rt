@@ -1,4 +1,4 @@
-//! What is known after instructions that read or write words and bytes: computed examples.
+//! States after instructions that read or write words and bytes: computed examples.
 
 ghost use Rattle.std.specs.Prelude.{◌≡◌, pos, [], ◌∷◌, ◌++◌, replicate, Ok, Err};
 ghost use Rattle.tp_decode.specs.declared.instr.Instr.TheVariants.{Ldnl, Ldl, Stl, Stnl, Lb, Sb, MoveBytes};

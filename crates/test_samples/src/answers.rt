@@ -1,4 +1,4 @@
-//! What calls answered of which one allocation was refused, and how that one is chosen.
+//! The answers of calls of which one allocation was refused, and how that one is chosen.
 
 use std::alloc::Global;
 
@@ -26,10 +26,10 @@ pub fn spend_all_but(alloc: Global, number: u64) {
     }
 }
 
-/// What a call answered.
+/// The answer of a call.
 #[derive(Clone, Copy, Debug, PartialEq, Eq)]
 pub enum Answer {
-    /// What it answers with ample memory.
+    /// The answer of ample memory.
     Same,
     /// That memory was refused.
     Memory,

@@ -22,27 +22,54 @@ budget   16
 
 /// A loop of three turns, each of seven bytes: three in the loop's body, four for its end.
 pub const LOOP: &str = "\
-local n
-receive n
-for i = 0 for 3
-ldl n
+loop head i_head lend i_lend control 6 turns 3 start 0
+ldlp 0
+mint
+ldnlp 4
+ldc 4
+in
+ldc 0
+stl 1
+ldc 3
+stl 2
+i_head:
+ldl 0
 adc 1
-stl n
-end i
-send n
+stl 0
+ldlp 1
+ldc i_behind - i_head
+i_lend:
+lend
+i_behind:
+ldlp 0
+mint
+ldc 4
+out
 stopp
 ";
 
 /// 6 steps receive, 4 begin the loop, 21 are its turns, 5 send and 2 stop.
 pub const LOOP_COUNTED: &str = "\
 steps 38
- 31.5%            12  ##############################  line 7: end i
- 15.7%             6  ###############                 line 2: receive n
- 13.1%             5  ############                    line 8: send n
- 10.5%             4  ##########                      line 3: for i = 0 for 3
-  7.8%             3  #######                         line 4: ldl n
-  7.8%             3  #######                         line 5: adc 1
-  7.8%             3  #######                         line 6: stl n
-  5.2%             2  #####                           line 9: stopp
- 55.2%            21  ################                loop i (line 3), 10 to 15
+ 15.7%             6  ##############################  line 18: lend
+  7.8%             3  ###############                 line 12: ldl 0
+  7.8%             3  ###############                 line 13: adc 1
+  7.8%             3  ###############                 line 14: stl 0
+  7.8%             3  ###############                 line 15: ldlp 1
+  7.8%             3  ###############                 line 16: ldc i_behind - i_head
+  5.2%             2  ##########                      line 3: mint
+  5.2%             2  ##########                      line 21: mint
+  5.2%             2  ##########                      line 24: stopp
+  2.6%             1  #####                           line 2: ldlp 0
+  2.6%             1  #####                           line 4: ldnlp 4
+  2.6%             1  #####                           line 5: ldc 4
+  2.6%             1  #####                           line 6: in
+  2.6%             1  #####                           line 7: ldc 0
+  2.6%             1  #####                           line 8: stl 1
+  2.6%             1  #####                           line 9: ldc 3
+  2.6%             1  #####                           line 10: stl 2
+  2.6%             1  #####                           line 20: ldlp 0
+  2.6%             1  #####                           line 22: ldc 4
+  2.6%             1  #####                           line 23: out
+ 55.2%            21  ################                loop row 0 (line 10), 10 to 15
 ";

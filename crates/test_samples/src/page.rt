@@ -34,7 +34,7 @@ impl Page {
         }
     }
 
-    /// What was written.
+    /// The bytes written.
     pub fn written(&self) -> &[u8] {
         self.bytes.get(..self.taken).unwrap_or(&[])
     }

@@ -1,4 +1,4 @@
-//! What tests run the programs on, and what they end with: command lines, and streams that fail.
+//! Command lines and streams of tests, some of which fail, and how programs end over them.
 
 use std::env::{Env, FillError};
 use std::io;
@@ -64,7 +64,7 @@ impl Write for Unflushed {
     }
 }
 
-/// What the program ended with, and what it wrote to standard error.
+/// The end of the program, and what it wrote to standard error.
 #[derive(Drop)]
 pub struct Ended {
     pub status: ExitCode,

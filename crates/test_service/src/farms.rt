@@ -12,7 +12,7 @@ use tp_session::{Farm, ServeFault, serve};
 /// The room of each medium in bytes.
 const ROOM: usize = 256;
 
-/// Serves on so many members, of which there are 1 to 64.
+/// Serves on this many members, of which there are 1 to 64.
 pub fn serve_on<T: Abort + Threads + Wait + Sync, R: Read, W: Write>(
     rt: &T,
     alloc: Global,
@@ -29,7 +29,7 @@ pub fn serve_on<T: Abort + Threads + Wait + Sync, R: Read, W: Write>(
     serve(rt, alloc, reader, writer, Farm::new(links, trace))
 }
 
-/// What is written for an input.
+/// The output for an input.
 pub fn served<T: Abort + Threads + Wait + Sync>(
     rt: &T,
     alloc: Global,

@@ -1,4 +1,4 @@
-//! What is written and flushed at full size.
+//! Output at full size, and its flushes.
 
 use crate::asserts::{assert_same, unwrap};
 use crate::farms::opened;
@@ -70,7 +70,7 @@ fn a_full_batch_is_flushed_once(rt: HostRuntime) {
     assert!(rt; writer.taken.ends_with(results.as_bytes()));
 }
 
-/// The answers to so many empty lines.
+/// The answers to this many empty lines.
 fn refusals(rt: &impl Abort, alloc: Global, lines: u32) -> String {
     let mut output = String::new(alloc);
     for index in 0..lines {

@@ -44,7 +44,7 @@ fn listings(rt: HostRuntime) {
     }
 }
 
-/// A line of so many instructions `ldc 1`, and what ends it.
+/// A line of this many instructions `ldc 1`, and what ends it.
 pub(crate) fn long_line(
     rt: &impl Abort,
     alloc: Global,
@@ -59,14 +59,14 @@ pub(crate) fn long_line(
     line
 }
 
-/// Two lines: so many instructions, and one more.
+/// Two lines: this many instructions, and one more.
 fn two_listings(rt: &impl Abort, alloc: Global, instructions: usize, end: &[u8]) -> Vec<u8> {
     let mut input = long_line(rt, alloc, instructions, end);
     unwrap(rt, input.extend_from_slice(b"LIST 604F\n"));
     input
 }
 
-/// The answer to a listing of so many instructions `ldc 1`.
+/// The answer to a listing of this many instructions `ldc 1`.
 pub(crate) fn long_listing(rt: &impl Abort, alloc: Global, instructions: u32) -> String {
     let mut output = String::new(alloc);
     for at in 0..instructions {

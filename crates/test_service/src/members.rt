@@ -113,7 +113,7 @@ fn meeter_at<'m>(rt: &impl Abort, alloc: Global, meeting: Option<&'m Meeting>) -
     }
 }
 
-/// The links of so many members, whose sources meet.
+/// The links of this many members, whose sources meet.
 fn links_of<'m>(
     rt: &impl Abort,
     alloc: Global,
@@ -132,7 +132,7 @@ fn links_of<'m>(
     links
 }
 
-/// An image, and two batches of so many packets.
+/// An image, and two batches of this many packets.
 fn two_batches(rt: &impl Abort, alloc: Global, packets: u64) -> Vec<u8> {
     let mut input = opened(rt, alloc, INCREMENT);
     for _ in 0..2u8 {

@@ -40,7 +40,7 @@ fn images_are_judged(rt: HostRuntime) {
     }
 }
 
-/// A long image: a head, a pair of instructions so many times, and the end that sends the result.
+/// A long image: a head, a pair of instructions this many times, and the end that sends the result.
 fn long_image(rt: &impl Abort, alloc: Global, head: &str, times: usize) -> Vec<u8> {
     let mut input = Vec::new(alloc);
     unwrap(rt, input.extend_from_slice(b"a IMAGE "));
@@ -53,7 +53,7 @@ fn long_image(rt: &impl Abort, alloc: Global, head: &str, times: usize) -> Vec<u
     input
 }
 
-/// What a long image begins with, how many pairs of instructions it has, and what is answered.
+/// The beginning of a long image, its number of pairs of instructions, and the answer.
 const LONG: [(&str, usize, &str); 2] = [
     (
         "5450573115070C0008000100010000001024F25444F7",

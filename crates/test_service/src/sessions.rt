@@ -137,7 +137,7 @@ fn refusals(rt: HostRuntime) {
     }
 }
 
-/// What names are spelled with.
+/// The bytes that spell names.
 const NAME_BYTES: &[u8] = b"abcdefghijklmnopqrstuvwxyz0123456789";
 
 /// Each byte as a name: a session of that name is not open, or the line is none of the protocol's.

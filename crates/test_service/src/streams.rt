@@ -128,7 +128,7 @@ fn a_byte_at_a_time(rt: HostRuntime) {
     assert!(rt; answers(&rt, rt.alloc(), 1, INPUT, OUTPUT));
 }
 
-/// What is written for an input, and how much that was at each flush.
+/// The output for an input, and how much that was at each flush.
 pub(crate) fn flushes_of<T: Abort + Threads + Wait + Sync>(
     rt: &T,
     alloc: Global,

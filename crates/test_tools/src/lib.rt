@@ -1,4 +1,4 @@
-//! What the authors' tools are made of, where `cases/` cannot see it: the faults of programs, what texts say, images that
+//! The parts of the authors' tools that `cases/` cannot see: the faults of programs, the values of texts, images that
 //! come back from their text, first refusals, and hostile texts and images. There is no code here but tests.
 #![tactic(auto)]
 

@@ -13,7 +13,7 @@ use tp_image::read_image;
 use tp_state::Cell;
 use tpw_why::{FirstRefusal, first_refusal};
 
-/// What the passes over an image's code refuse first.
+/// The first refusal of the passes over an image's code.
 fn found(rt: &(impl Abort + AllocGlobal), bytes: &[u8]) -> Option<FirstRefusal> {
     let image = read_image(rt.alloc(), bytes).expect(rt, "an image");
     let listing = decode(rt.alloc(), &image.code).expect(rt, "a listing");
@@ -40,7 +40,7 @@ const HEADER: [u8; 12] = [
     0x20, 0x00, 0x08, 0x00, 0x01, 0x00, 0x01, 0x00, 0x01, 0x00, 0x00, 0x00,
 ];
 
-/// What takes the packet, and what sets the loop's block: ldc 0, stl 21, ldc 1, stl 22.
+/// The receiving of the packet, and the start of the loop's block: ldc 0, stl 21, ldc 1, stl 22.
 const BEGINNING: [u8; 12] = [
     0x10, 0x24, 0xF2, 0x54, 0x44, 0xF7, 0x40, 0x21, 0xD5, 0x41, 0x21, 0xD6,
 ];
@@ -51,7 +51,7 @@ const HEAD: u8 = 12;
 /// The loop's block.
 const BLOCK: u8 = 21;
 
-/// What sends the result, before a word is taken as a number.
+/// The sending of the result, before a word is taken as a number.
 const SENDING: [u8; 5] = [0x10, 0x24, 0xF2, 0x44, 0xFB];
 
 /// ldlp 0, wsub, stopp.
@@ -71,7 +71,7 @@ fn spelled(function: u8, operand: u8) -> [u8; 2] {
     [0x20 | operand >> 4, function | operand & 15]
 }
 
-/// A loop that moves so many words of its workspace, from the first on, to the next place, and then takes the last one
+/// A loop that moves this many words of its workspace, from the first on, to the next place, and then takes the last one
 /// that was written as the number of a word. What the packet has brought goes one word further with each pass.
 fn moving(rt: &impl Abort, alloc: Global, words: u8) -> Vec<u8>
     requires some { 0 < words }

@@ -1,6 +1,6 @@
 //! Assembly text: what it says, the places of its lines, large texts, and images that come back from their text.
 
+mod initial;
 mod large;
-mod names;
 mod places;
 mod samples;

@@ -35,7 +35,7 @@ fn put(cells: &mut [Cell], named: &str) -> Result<()>
     Ok(())
 }
 
-/// So many words, which hold the fill but for those that are named.
+/// This many words, which hold the fill but for those that are named.
 pub(crate) fn cells(alloc: Global, words: u32, fill: &str, named: &str) -> Result<Vec<Cell>>
     ensures count { IfOk result (λ cells. length cells.items ≡ words) }
     ensures few { OnOk result (words ≤ 512) }

@@ -3,7 +3,7 @@
 use anyhow::{Context, Result, anyhow};
 use std::alloc::Global;
 
-/// What is spelled for nothing: no bytes, no words, no rows.
+/// The spelling of nothing: no bytes, no words, no rows.
 pub(crate) const NOTHING: &str = "-";
 
 /// A number.

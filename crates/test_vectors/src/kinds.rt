@@ -1,4 +1,4 @@
-//! What is known of registers and words, as it is spelled.
+//! Abstract values of registers and words, as they are spelled.
 
 use crate::fields::{byte, number, signed};
 use anyhow::{Context, Result, anyhow};

@@ -12,7 +12,7 @@ use tp_flow::{Edge, check_flow};
 use tp_image::read_image;
 use tp_state::{Cells, State, StateFault, after};
 
-/// A state of seven fields, with so many words.
+/// A state of seven fields, with this many words.
 fn state(alloc: Global, words: u32, fields: &[&str]) -> Result<State>
     ensures { IfOk result (λ state. length state.cells ≡ words) }
 {
@@ -54,7 +54,7 @@ fn edge(name: &str) -> Result<Edge> {
     }
 }
 
-/// What is known after the instruction at an address of an image, or the refusal.
+/// The state after the instruction at an address of an image, or the refusal.
 pub(crate) fn after_case(alloc: Global, asked: &str) -> Result<String> {
     let fields = parted(alloc, asked)?;
     let [image, at, taken, before @ ..] = fields.as_slice() else {
@@ -78,7 +78,7 @@ pub(crate) fn after_case(alloc: Global, asked: &str) -> Result<String> {
     }
 }
 
-/// Two states of so many words.
+/// Two states of this many words.
 fn two_states(alloc: Global, asked: &str) -> Result<(State, State)>
     ensures { IfOk result (λ states. length states.1.cells ≡ length states.0.cells) }
 {
@@ -91,7 +91,7 @@ fn two_states(alloc: Global, asked: &str) -> Result<(State, State)>
     Ok((state(alloc, words, one)?, state(alloc, words, other)?))
 }
 
-/// What holds of both of two states that meet, or why they may not.
+/// The join of two states, or why they have none.
 pub(crate) fn join_case(alloc: Global, asked: &str) -> Result<String> {
     let (mut one, other) = two_states(alloc, asked)?;
     let before = one.copy_of(alloc)?;

@@ -61,7 +61,7 @@ fn words(alloc: Global, words: &[u32]) -> Result<String> {
     Ok(listed(alloc, &texts)?)
 }
 
-/// What an image says.
+/// The fields of an image.
 fn image_text(alloc: Global, image: &Image) -> Result<String> {
     let version = image.version();
     let Image {
@@ -79,7 +79,7 @@ fn image_text(alloc: Global, image: &Image) -> Result<String> {
     )?)
 }
 
-/// What is read of bytes, which is written as these bytes again.
+/// The image that bytes spell, which is written as these bytes again.
 pub(crate) fn image_case(alloc: Global, asked: &str) -> Result<String> {
     let text = bytes(alloc, asked)?;
     match read_image(alloc, &text) {

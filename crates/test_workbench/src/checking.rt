@@ -1,4 +1,4 @@
-//! What a check finds where a worker does something else than its text means.
+//! The findings of a check where a worker does something else than its text means.
 
 use crate::asserts::{assert_same, unwrap};
 use std::alloc::Global;
@@ -49,7 +49,7 @@ PROC other (CHAN OF INT packet, CHAN OF INT result, CHAN OF INT trace)
 :
 ";
 
-/// What is written of the runs of the packets 0, 2, 3 and 65: in order nothing, another trace, another result, flag and
+/// The output of the runs of the packets 0, 2, 3 and 65: in order nothing, another trace, another result, flag and
 /// trace, and a loss. A multiple that is summed takes 12 steps, so 0 takes 24 less than 2.
 const OTHERS: &str = "\
 1  flag 0  628 of 1384  2147483642
@@ -70,7 +70,7 @@ packets 4, lost 1, steps 604 to 640 of 1384
 checked 4, 3 differ: a fault of the compiler; please report it, with the text
 ";
 
-/// What is written where the runs are compared with what their own text means.
+/// The output where the runs are compared with what their own text means.
 const NONE: &str = "\
 packets 4, lost 1, steps 604 to 640 of 1384
 checked 4, each is what the text means
@@ -112,7 +112,7 @@ fn asked(alloc: Global) -> RunOptions {
     }
 }
 
-/// What a check of the runs of a text's worker by another text's meaning writes, and its outcome.
+/// The output of a check of the runs of a text's worker by another text's meaning, and its outcome.
 fn checked<T>(rt: &T, alloc: Global, text: &str, other: &str) -> (Vec<u8>, Outcome)
 where
     T: Threads + Wait + Clock + Eprint + Sync + Abort,

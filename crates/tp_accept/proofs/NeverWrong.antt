@@ -14,7 +14,7 @@ use Rattle.tp_accept.specs.Acceptance.{IsAcceptable}
 use Rattle.tp_accept.specs.Ending.{EndsWithin, NeverGoesWrong}
 use Rattle.tp_accept.proofs.RunEnds.{Ends, ends}
 
--- a run alone within so many steps
+-- a run alone within this many steps
 record RunsWithin (image : ImageValue) (budget : ℕ) (packet : List ℕ) : Type 0 where
   run : Run
   alone : RunsAlone image packet run
@@ -55,7 +55,7 @@ steps_of image packet k run = by_end (steps image k (start image packet))
         by_test false e = absurd cc
         by_test true e = sym (ap (λ (r : Run). r.steps) (same_Some _ _ e))
 
--- no run alone within so many steps
+-- no run alone within this many steps
 abbrev NoRun : ImageValue → ℕ → List ℕ → Type 0
 NoRun image n packet = (run : Run) → RunsAlone image packet run → run.steps ≤ n → ⊥
 

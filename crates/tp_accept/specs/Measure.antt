@@ -13,7 +13,7 @@ use Rattle.tp_accept.specs.Bound.{Costs, costs_of, behind}
 abbrev pub Counts : Type 0
 Counts = LoopRow → ℕ
 
--- a loop with so many turns to make, of which one has begun: the others, and what lies behind its lend
+-- a loop with this many turns to make, of which one has begun: the others, and what lies behind its lend
 abbrev pub turns_left : List Cut → Costs → LoopRow → ℕ → ℕ
 turns_left code costs row count = (costs (behind code row.lend)).whole + (count - 1) * (costs row.head).left
 
@@ -21,7 +21,7 @@ turns_left code costs row count = (costs (behind code row.lend)).whole + (count 
 abbrev pub loops_at : List LoopRow → ℕ → List LoopRow
 loops_at rows at = filter (λ row. contains (range_of row) at) rows
 
--- at the instruction at an address, of which so many bytes were executed, with these counts of the loops around it
+-- at the instruction at an address, of which this many bytes were executed, with these counts of the loops around it
 unfoldable pub measure : List LoopRow → List Cut → ℕ → ℕ → Counts → ℕ
 measure rows code at executed counts =
     let costs = costs_of rows code in

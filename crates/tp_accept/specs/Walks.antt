@@ -8,7 +8,7 @@ use Rattle.tp_flow.specs.NestRanges.{ranges}
 use Rattle.tp_flow.specs.NestKept.{IsEdge}
 use Rattle.tp_accept.specs.Measure.{Counts, AreCountsAfter, HasTurns}
 
--- from an address on, with these counts, over one or more instructions, of so many bytes in all
+-- from an address on, with these counts, over one or more instructions, of this many bytes in all
 pub data Walk (rows : List LoopRow) (code : List Cut) : ℕ → Counts → ℕ → Type 0 where
   Ends : (at : ℕ) (counts : Counts) (cut : Cut) → cut_at code at ≡ Some cut
       → Walk rows code at counts (length cut.bytes)

@@ -8,7 +8,7 @@ ghost use Rattle.tp_accept.specs.Capped.{cap, capped, counted, table, AreCapped}
 use tp_decode::{Instr, Listing, Placed};
 use tp_image::{Image, LoopRow};
 
-/// What can be executed from an address on, in instruction bytes, at most; `u64::MAX` where that is more.
+/// The most that can be executed from an address on, in instruction bytes; `u64::MAX` where that is more.
 #[derive(Clone, Copy, Debug, PartialEq, Eq)]
 pub struct Counted {
     /// To the end of the innermost loop around it, or of the run.
@@ -18,7 +18,7 @@ pub struct Counted {
 }
 
 impl Counted {
-    /// What is known of an address before it was looked at.
+    /// The count of an address before it was looked at.
     pub(crate) const NOTHING: Counted = Counted { left: 0, whole: 0 };
 }
 

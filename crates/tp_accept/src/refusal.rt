@@ -12,7 +12,7 @@ use tp_flow::{FlowCode, FlowFault};
 use tp_image::{ImageCode, ImageFault};
 use tp_state::{StateCode, StateFault};
 
-/// What an image is refused for. The judgements are made in this order.
+/// Why an image is refused. The judgements are made in this order.
 #[derive(Clone, Copy, Debug, PartialEq, Eq)]
 pub enum RefusalCode {
     /// The bytes are no image: F1 to F10.

@@ -18,7 +18,7 @@ use Rattle.tp_answers.specs.declared.answer.Answer.TheVariants.{Listed, Yes, Kep
 abbrev pub text_line : List ℕ → List ℕ
 text_line text = text ++ line_feed ∷ []
 
--- so many instructions were listed, or so many packets run
+-- this many instructions were listed, or this many packets run
 abbrev pub done_line : ℕ → List ℕ
 done_line count = text_line (codes "DONE " ++ decimal count)
 

@@ -1,7 +1,7 @@
 //! Sessions, and the answers to lines.
 //!
-//! What is answered to a line, and the sessions after it, is said in `specs/Answers.antt`, by what the line asks for;
-//! the text of an answer in `specs/Texts.antt`. Here are the sessions themselves, the answers to all lines that run no
+//! `specs/Answers.antt` says what is answered, and the sessions after it, by what the line asks for, and
+//! `specs/Texts.antt` the text of an answer. Here are the sessions themselves, the answers to all lines that run no
 //! packets, and the writer of answers.
 #![tactic(auto)]
 

@@ -1,4 +1,4 @@
-//! What became of packets that were run.
+//! The outcomes of packets that were run.
 
 ghost use Rattle.std.specs.Prelude.{◌≡◌, ◌++◌, [], ◌∷◌, map, IfOk, OnOk};
 ghost use Rattle.tp_answers.specs.Outcomes.{result_of, outcome_of};
@@ -8,7 +8,7 @@ use std::marker::Model;
 use tp_collect::{Collected, Done, Entry};
 use tp_requests::Name;
 
-/// What the run of a packet gave, in no more room than that takes.
+/// The outcome of a packet's run, in no more room than that takes.
 #[derive(Drop)]
 pub(crate) struct PacketRun {
     pub(crate) result: Vec<u8>,
@@ -53,7 +53,7 @@ impl PacketRun {
     }
 }
 
-/// What became of the packets of a session, in order of number. A contract sees of each its run, or none where it was
+/// The outcomes of a session's packets, in order of number. A contract sees of each its run, or none where it was
 /// lost.
 #[derive(Drop)]
 pub struct Outcomes {
@@ -89,7 +89,7 @@ impl Outcomes {
     }
 }
 
-/// What became of the packets of all sessions, in the order in which they were opened. A contract sees of each session
+/// The outcomes of the packets of all sessions, in the order in which they were opened. A contract sees of each session
 /// its name and its outcomes.
 #[derive(Drop)]
 pub struct AllOutcomes {

@@ -9,7 +9,7 @@ use std::alloc::{AllocError, Global};
 use tp_accept::Accepted;
 use tp_stream::Packet;
 
-/// What a session keeps: the image, and the packets that are to be run on it.
+/// A session: the image, and the packets that are to be run on it.
 #[derive(Drop)]
 pub struct OpenSession {
     pub image: Accepted,
@@ -20,7 +20,7 @@ pub struct OpenSession {
         length p.items == 4 * image.image.packet && list_all (λ b. nat_lt b 256) p.items) packets.items) },
 }
 
-/// A session that has run its packets keeps the room of no more than so many.
+/// A session that has run its packets keeps the room of no more than a limit.
 const KEPT_ROOM: usize = 16;
 
 /// Gives back the room of many packets, where none is there.

@@ -64,7 +64,7 @@ impl Sessions {
         }
     }
 
-    /// What the session at a place keeps.
+    /// The session at a place.
     pub fn at_mut(&mut self, index: usize) -> &mut OpenSession
         requires { index < length self.old }
         ensures* lends { sem 𝓛 (LendsSession self.entry index result) }

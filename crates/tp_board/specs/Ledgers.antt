@@ -8,7 +8,7 @@ use Rattle.tp_board.specs.Counting.{AreBelow}
 use Rattle.tp_board.specs.Views.{all_drawn, all_finished, all_abandoned, all_in_hand, join_of}
 use Rattle.tp_board.specs.Rule.{total}
 
--- the ledger of a board of so many packets accounts for these views, which are all of its seats'
+-- the ledger of a board of this many packets accounts for these views, which are all of its seats'
 pub record Balances (packets : ℕ) (views : List View) (l : Ledger) : Type 0 where
   -- the numbers that the seats drew are the numbers below `drawn`, each once
   pub drew : AreBelow (all_drawn views) l.drawn

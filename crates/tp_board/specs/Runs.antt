@@ -17,7 +17,7 @@ abbrev pub replies : CoreState → List (ℕ × Event) → List Reply
 replies s [] = []
 replies s (e ∷ es) = (step s e.0 e.1).0 ∷ replies (step s e.0 e.1).1 es
 
--- each event's member is one of so many
+-- each event's member is one of this many
 abbrev pub AllMembers : ℕ → List (ℕ × Event) → Type 0
 AllMembers members [] = Unit {0}
 AllMembers members (e ∷ es) = (e.0 < members) × AllMembers members es
@@ -39,7 +39,7 @@ numbers_drawn [] rs = []
 numbers_drawn (e ∷ es) [] = []
 numbers_drawn (e ∷ es) (r ∷ rs) = number_drawn e.1 r ++ numbers_drawn es rs
 
--- so many numbers, from `first` on
+-- this many numbers, from `first` on
 abbrev pub numbers_from : ℕ → ℕ → List ℕ
 numbers_from first zero = []
 numbers_from first (suc n) = first ∷ numbers_from (first + 1) n

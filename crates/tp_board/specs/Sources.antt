@@ -47,7 +47,7 @@ claim_of (work.Packet n bytes) = claim.Packet n
 claim_of work.NoMore = claim.NoMore
 claim_of work.Stopped = claim.Stopped
 
--- a claim is answered with work where a number is one of so many packets', and nothing was in hand
+-- a claim is answered with work where a number is one of this many packets', and nothing was in hand
 abbrev pub IsAnswerable : (packets : ℕ) → Claim → Type 0
 IsAnswerable packets (claim.Packet n) = n < packets
 IsAnswerable packets (claim.Busy n) = ⊥

@@ -1,4 +1,4 @@
-//! What the calls of a board answer.
+//! The answers of the calls of a board.
 ghost use Rattle.std.specs.Prelude.{◌≡◌};
 ghost use Rattle.tp_board.specs.declared.answer.BoardFault.TheVariants.{Memory};
 
@@ -64,7 +64,7 @@ pub enum Claim {
     Busy(u32),
 }
 
-/// What became of a board's numbers.
+/// The ends of a board's numbers.
 #[derive(Clone, Copy, Debug, PartialEq, Eq)]
 pub struct Ledger {
     /// How many numbers were drawn: those below this one.

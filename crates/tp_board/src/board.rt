@@ -65,7 +65,7 @@ pub struct CloseFault {
 }
 
 impl Board {
-    /// A board of so many packets, numbered from 0, with a seat for each member. The members are
+    /// A board of this many packets, numbered from 0, with a seat for each member. The members are
     /// tested before the packets.
     pub fn new(alloc: Global, packets: u32, members: u32) -> Result<(Board, Vec<Seat>), BoardFault>
         ensures in_range { OnOk result (InRange packets members) }

@@ -1,4 +1,4 @@
-//! What a member may do to the core, and the replies.
+//! The steps that a member may make on the core, and the replies.
 
 /// One of the four counts of the core, each a word of a board.
 #[derive(Clone, Copy, Debug, PartialEq, Eq)]

@@ -2,7 +2,7 @@
 use crate::view::View;
 use atomic_table::{Join, Play, Split, TableRule};
 
-/// What the rule of a board learns once.
+/// The sizes that the rule of a board learns once.
 #[derive(Clone, Copy)]
 pub struct Size {
     pub packets: u64,

@@ -21,7 +21,7 @@ pub enum Work {
     Stopped,
 }
 
-/// What was claimed, a packet with its bytes.
+/// A claim as work: a packet with its bytes.
 #[inline(always)]
 pub fn with_bytes(claimed: Claim, packets: &[Packet]) -> Work
     requires { IsAnswerable (length packets.now) claimed }

@@ -1,4 +1,4 @@
-//! What a seat knows, for contracts and proofs alone: no value of these types is ever made.
+//! The knowledge of a seat, for contracts and proofs alone: no value of these types is ever made.
 use std::collections::LinkedList;
 
 /// The four words of a board, or what a seat has seen of them.
@@ -9,7 +9,7 @@ pub struct Counters {
     pub stop: u64,
 }
 
-/// What a seat, or several in one, knows: the board's count of packets, how many seats it is, how
+/// The knowledge of a seat, or of several in one: the board's count of packets, how many seats it is, how
 /// many atomic steps it has made, the numbers that it drew and where each of them went, how many of
 /// it learnt the end, how many of it called stop, and what it has seen of the words.
 pub struct View {

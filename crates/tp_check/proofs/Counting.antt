@@ -162,7 +162,7 @@ no_instructions cuts i end = ap (flat_map edges_of) (drop_all i (placed_from 0 c
 
 -- ---- before any edge is counted
 
--- so many loops' heads are marked
+-- this many loops' heads are marked
 abbrev pub Begun : ImageValue → ℕ → ℕ → Predecessor → Type 0
 Begun image k at predecessor.Joined = ((at == 0) || is_head image at) ≡ true
 Begun image k at predecessor.Unreached = ((at == 0) ≡ false) × ((i : ℕ) (d : LoopRow) → i < k → (get_or image.loops i d).head ≢ at)

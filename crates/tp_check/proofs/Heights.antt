@@ -98,7 +98,7 @@ kind_sinks (kind.BytePtr a b) kind.Undef ends = inr (omega arith)
 kind_sinks (kind.BytePtr a b) (kind.Int c d) ends = inr (omega arith)
 kind_sinks (kind.BytePtr a b) (kind.Ptr c d) ends = inr (omega arith)
 
--- a register has at most so many changes
+-- a register has at most this many changes
 pub kind_light : (k : Kind) → HasWordEnds k → kind_height k ≤ 2 ^ 33
 kind_light kind.Undef ends = omega arith
 kind_light (kind.Int a b) ends =

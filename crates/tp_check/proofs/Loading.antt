@@ -5,7 +5,7 @@ use Rattle.std.proofs.lemmas.Int.{ints}
 use Rattle.std.proofs.lemmas.Bool.Decides.{nat_tests}
 use Rattle.tp_decode.specs.declared.placed.Placed.{Placed}
 use Rattle.tp_decode.specs.Cutting.{Cut, IsSpelled, code_of}
-use Rattle.tp_step.specs.Numbers.{overflows}
+use Rattle.tp_words.specs.Numbers.{overflows}
 use Rattle.tp_state.specs.Sound.{LoadsWord}
 use Rattle.tp_state.proofs.CodeLemmas.{spelling_of, operand_fits}
 use Rattle.tp_check.proofs.Places.{IsInItsPlace}

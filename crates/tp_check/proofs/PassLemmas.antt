@@ -1,4 +1,4 @@
--- The passes have one verdict, and so many of them refuse nothing where more do not.
+-- The passes have one verdict, and a number of them refuse nothing where more do not.
 use Rattle.std.proofs.Common.{◌≡◌, ℕ, zero, suc, ◌+◌, List, Result, Ok, Err, refl, sym, ap, ◌∙◌, arith}
 use native.Mathlib.Numerals.{unary_clauses}
 use Rattle.tp_decode.specs.Cutting.{Cut}
@@ -27,7 +27,7 @@ pub ok_first : {A B : Type 0} (r : Result A StateFault) (f : A → Result B Stat
 ok_first (Ok a) f b is = (a, refl, is)
 ok_first (Err e) f b is = absurd cc
 
--- where so many passes refuse nothing, fewer do not
+-- where this many passes refuse nothing, fewer do not
 pub fewer : (image : ImageValue) (cuts : List Cut) (n more : ℕ) (table : Table) → passes image cuts (n + more) ≡ Ok table → (t : Table) × (passes image cuts n ≡ Ok t)
 fewer image cuts n zero table is = (table, simp unary_clauses at is)
 fewer image cuts n (suc more) table is =

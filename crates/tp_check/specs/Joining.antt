@@ -40,7 +40,7 @@ pub record IsInner (image : ImageValue) (at : ℕ) : Type 0 where
   pub first : (at == 0) ≡ false
   pub head : is_head image at ≡ false
 
--- so many edges among some lead to an address
+-- this many edges among some lead to an address
 abbrev pub leading : ImageValue → ℕ → List (Placed × Edge) → ℕ
 leading image at es = count_by (λ e. leads_to at (target_of image e)) es
 

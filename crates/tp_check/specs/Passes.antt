@@ -72,7 +72,7 @@ pass image cuts table = along_edges image (edges_in cuts) table
 abbrev pub first_table : ImageValue → Table
 first_table image = with_state 0 (entry image) no_states
 
--- the table after so many passes; the first refusal ends them
+-- the table after this many passes; the first refusal ends them
 abbrev pub passes : ImageValue → List Cut → ℕ → Result Table StateFault
 passes image cuts zero = Ok (first_table image)
 passes image cuts (suc n) = passes image cuts n >>= pass image cuts

@@ -80,7 +80,7 @@ pub record IsStarted (at : ℕ) (old new : Passes) : Type 0 where
 
 -- ---- between two passes
 
--- so many passes have been made
+-- this many passes have been made
 pub record IsAfter (image : ImageValue) (cuts : List Cut) (is_join : ℕ → Bool) (p : Passes) (number : ℕ) : Type 0 where
   pub places : HasPlaces cuts (length p.states.items)
   pub few : length p.states.items ≤ 2 ^ 32
@@ -89,7 +89,7 @@ pub record IsAfter (image : ImageValue) (cuts : List Cut) (is_join : ℕ → Boo
   pub before : IsBefore image cuts is_join p 0 whole
   pub arrives : passes image cuts number ≡ Ok whole
 
--- none has, over a code whose instructions stand at so many addresses
+-- none has, over a code whose instructions stand at this many addresses
 abbrev pub IsBeginning : ImageValue → ℕ → Passes → Type 0
 IsBeginning image places p =
     (cuts : List Cut) (is_join : ℕ → Bool) → HasPlaces cuts places → KeepsNest image.loops image.workspace cuts

@@ -32,7 +32,7 @@ pub record HasGrown (image : ImageValue) (table : Table) : Type 0 where
   pub states : (at : ℕ) (s : State) → table at ≡ Some s → IsPlacedAt image at s
   pub begins : HasAbove table 0 (entry image)
 
--- an instruction and the targets of its edges lie among so many addresses, and no edge leads back to it
+-- an instruction and the targets of its edges lie among this many addresses, and no edge leads back to it
 pub record MayBeTaken (image : ImageValue) (places : ℕ) (place : Placed) : Type 0 where
   pub inside : place.at < places
   pub targets : (edge : Edge) (to : ℕ) → target_of image (place, edge) ≡ Some to → to < places

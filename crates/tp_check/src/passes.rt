@@ -110,7 +110,7 @@ pub(crate) struct Passes {
     is_carried: bool,
     /// Whether a state was propagated from this instruction before, and so is again to the next one.
     is_again: bool,
-    /// What is known before the instruction, and then after its edge.
+    /// The state before the instruction, and then after its edge.
     carried: State,
 }
 
@@ -344,7 +344,7 @@ impl Passes {
         ensures moves { IfOk result (λ moved. Moves image.now moved self.old.states.items self.new.states.items) }
     {
         let Placed { at, instr, next } = place;
-        if let Err(code) = self.carried.go_on(at, next, instr, edge, image, nest) {
+        if let Err(code) = self.carried.transfer(at, next, instr, edge, image, nest) {
             return Err(StateFault::Refused { code, place: at });
         }
         match nest.target(at, next, instr, edge) {

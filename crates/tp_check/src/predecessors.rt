@@ -61,7 +61,7 @@ impl Model for Predecessors {
 }
 
 impl Predecessors {
-    /// Of a code whose flow has passed, and which has so many addresses.
+    /// Of a code whose flow has passed, and which has this many addresses.
     pub(crate) fn of(
         alloc: Global,
         image: &Image,

@@ -1,4 +1,4 @@
-//! What is known before the instructions of a code, by address.
+//! The states before the instructions of a code, by address.
 
 ghost use Rattle.std.specs.Prelude.{◌≡◌, ◌<◌, length, replicate, true, false, Some, None, IfOk, IfSome, OnErr};
 ghost use Rattle.tp_state.specs.Order.{IsBelow, ReportsChange};
@@ -68,7 +68,7 @@ pub fn enter(
     }
 }
 
-/// What is known before the instruction at an address, if anything is.
+/// The state before the instruction at an address, if there is one.
 pub fn state_at(states: &[Option<State>], at: usize) -> Option<&State>
     ensures some { IfSome result (λ s. table_of states.now at ≡ Some s.now) }
     ensures none { result ≡ None → table_of states.now at ≡ None }

@@ -9,7 +9,7 @@ use crate::predecessors::Predecessors;
 use std::alloc::{AllocError, Global};
 use tp_state::State;
 
-/// What is known before some instructions of a code, from which the rest can be worked out.
+/// States before some instructions of a code, from which the rest can be worked out.
 #[derive(Drop)]
 pub struct Table {
     /// The states, each with its address, by rising address: at the first address, at those that two edges reach, and
@@ -18,7 +18,7 @@ pub struct Table {
 }
 
 impl Table {
-    /// What is kept of the states that the passes have left.
+    /// The table of the states that the passes have left.
     pub(crate) fn of(
         alloc: Global,
         mut states: Vec<Option<State>>,

@@ -1,4 +1,4 @@
-//! What became of a batch.
+//! The results of a batch.
 
 use crate::done::Done;
 use std::marker::Model;
@@ -13,14 +13,14 @@ pub enum LostCause {
     Stopped,
 }
 
-/// What became of one packet.
+/// The result of one packet.
 #[derive(Drop)]
 pub enum Entry {
     Done(Done),
     Lost(LostCause),
 }
 
-/// What became of the packets of a batch: one entry for each, in the order of their numbers. A contract sees the list
+/// The results of the packets of a batch: one entry for each, in the order of their numbers. A contract sees the list
 /// of these.
 #[derive(Drop)]
 pub struct Collected {

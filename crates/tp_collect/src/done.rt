@@ -10,7 +10,7 @@ use std::marker::Model;
 use std::snapshot::Snapshot;
 use tp_image::Image;
 
-/// What the run of one packet alone gave. A contract also sees the image and the packet whose run it is (`image`,
+/// The result of the run of one packet alone. A contract also sees the image and the packet whose run it is (`image`,
 /// `bytes`); at run time they are not there.
 #[derive(Drop)]
 pub struct Done {

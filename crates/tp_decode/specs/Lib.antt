@@ -5,6 +5,6 @@ pub mod Lines
 pub mod Front
 pub mod Listings
 pub mod Codes
-pub use Rattle.tp_prefix.specs.Words
+pub use Rattle.tp_words.specs.Words
 pub use Rattle.tp_prefix.specs.Spelling
 pub use Rattle.tp_prefix.specs.Canonical

@@ -95,7 +95,7 @@ impl Listing {
         Some(usize::from(number))
     }
 
-    /// What is at an address, with its place.
+    /// The instruction at an address, with its place.
     #[tactic(auto, using(crate::proofs::NumberLemmas::place_by_number))]
     fn placed(&self, addr: usize) -> Option<Placed>
         ensures { result ≡ option_map (λ cut. record { at = addr; instr = cut.instr; next = addr + length cut.bytes })

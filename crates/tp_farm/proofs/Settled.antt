@@ -10,7 +10,7 @@ use Rattle.tp_collect.specs.Collected.{IsCollected}
 use Rattle.tp_collect.specs.Collecting.{Collection, collection, vacant}
 use Rattle.tp_outcome.specs.Devices.{devices_of}
 use Rattle.tp_farm.specs.declared.member.Filed.{Filed}
-use Rattle.tp_farm.specs.declared.worker.Returned.{Returned}
+use Rattle.tp_farm.specs.declared.thread.Returned.{Returned}
 use Rattle.tp_farm.specs.declared.gathering.MemberResults.{MemberResults}
 use Rattle.tp_farm.specs.Working.{HasWorked, HaveToSettle}
 use Rattle.tp_farm.specs.BatchWork.{BatchWork}

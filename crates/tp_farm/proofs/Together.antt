@@ -8,7 +8,7 @@ use Rattle.tp_outcome.specs.Devices.{Devices, devices_of}
 use Rattle.tp_stream.specs.Streams.{StreamView, IsHandOf, hand_progress}
 use Rattle.tp_farm.specs.declared.member.Filed.{Filed}
 use Rattle.tp_farm.specs.declared.member.Filed.TheVariants as filed
-use Rattle.tp_farm.specs.declared.worker.Returned.{Returned}
+use Rattle.tp_farm.specs.declared.thread.Returned.{Returned}
 use Rattle.tp_farm.specs.Members.{IsFiled}
 use Rattle.tp_farm.specs.Working.{HasWorked}
 use Rattle.tp_farm.specs.BatchWork.{BatchWork}

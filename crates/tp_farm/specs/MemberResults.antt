@@ -1,7 +1,7 @@
 -- What is left of a member when its hand is gone.
 use Rattle.std.specs.Prelude.{List, map}
 use Rattle.tp_farm.specs.declared.member.Filed.{Filed}
-use Rattle.tp_farm.specs.declared.worker.Returned.{Returned}
+use Rattle.tp_farm.specs.declared.thread.Returned.{Returned}
 use Rattle.tp_farm.specs.declared.gathering.MemberResults.{MemberResults}
 use Rattle.tp_farm.specs.Gathering.{all_filed}
 

@@ -35,7 +35,7 @@ GoesWell batch budget entries =
 
 -- ---- over devices that do their work, under a gate that is open for good
 
--- it is open and cannot fail, and has room for so many bytes
+-- it is open and cannot fail, and has room for this many bytes
 pub record Takes (n : ℕ) (device : DeviceState) : Type 0 where
   pub opened : device.opened ≡ true
   pub sure : device.fallible ≡ false

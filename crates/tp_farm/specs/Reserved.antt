@@ -2,7 +2,7 @@
 use Rattle.std.specs.Prelude.{◌≡◌, ℕ, ◌≤◌, [], vec_len, vec_capacity}
 use Rattle.tp_farm.specs.declared.batch.Reserved.{Reserved}
 
--- there is nothing in it, and so many have room
+-- there is nothing in it, and this many have room
 pub record HasRoom (members : ℕ) {D : Type 0} (room : Reserved D) : Type 0 where
   pub no_hands : room.hands.items ≡ []
   pub no_kept : room.kept.items ≡ []

@@ -6,8 +6,8 @@ use Rattle.tp_link.specs.declared.links.Links.{Links}
 use Rattle.tp_stream.specs.Streams.{StreamView, HandView, IsHandOf, hand_progress}
 use Rattle.tp_collect.specs.Collecting.{Collection, vacant}
 use Rattle.tp_outcome.specs.Devices.{devices_of}
-use Rattle.tp_farm.specs.declared.worker.Returned.{Returned}
-use Rattle.tp_farm.specs.declared.worker.Shared.{Shared}
+use Rattle.tp_farm.specs.declared.thread.Returned.{Returned}
+use Rattle.tp_farm.specs.declared.thread.Shared.{Shared}
 use Rattle.tp_farm.specs.Jobs.{value_of_job, AreWhole}
 use Rattle.tp_farm.specs.Turns.{no_progress}
 use Rattle.tp_farm.specs.Members.{KeepsAccounts, EndsBy}

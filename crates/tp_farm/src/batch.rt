@@ -20,7 +20,7 @@ use crate::gate::Gate;
 use crate::gathering::{MemberResults, gather_all, take_hands};
 use crate::job::Job;
 use crate::members::run_members;
-use crate::worker::{Returned, Shared};
+use crate::thread::{Returned, Shared};
 use std::alloc::{AllocError, Global};
 use std::sync::Wait;
 use std::thread::Threads;
@@ -28,14 +28,14 @@ use tp_collect::{Collected, Collector};
 use tp_link::{LinkDevice, Links};
 use tp_stream::{Feeder, Ledger, MAX_MEMBERS, MAX_PACKETS, Packet, StreamHand, StreamQueue};
 
-/// What became of a batch's packets, and the links in the order in which they were given.
+/// The results of a batch's packets, and the links in the order in which they were given.
 #[derive(Drop)]
 pub struct Batch<D> {
     pub collected: Collected,
     pub links: Vec<Links<D>>,
 }
 
-/// Whether there are so many bytes. That each is below 256 is in the type of the slice.
+/// Whether there are this many bytes. That each is below 256 is in the type of the slice.
 fn are_bytes(packet: &[u8], count: usize) -> bool
     ensures value { result ≡ (length packet.now == count) }
     ensures bytes { All (λ byte. byte < 256) packet.now }
@@ -97,7 +97,7 @@ struct Reserved<D> {
 }
 
 impl<D: Drop> Reserved<D> {
-    /// Reserved for so many members.
+    /// Reserved for this many members.
     fn for_members(alloc: Global, members: usize) -> Result<Reserved<D>, AllocError>
         ensures { IfOk result (HasRoom members) }
     {

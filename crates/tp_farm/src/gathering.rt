@@ -1,4 +1,4 @@
-//! What the members give back becomes one batch.
+//! Gathering: the members' results become one batch.
 
 ghost use Rattle.std.specs.Prelude.{◌≡◌, ◌≤◌, ◌+◌, ◌++◌, None, Some, All, map, slice_get, slice_set, OnOk, IfErr};
 ghost use Rattle.std.specs.Prelude.{vec_len, vec_capacity};
@@ -10,12 +10,12 @@ ghost use Rattle.tp_farm.specs.MemberResults.{member_results, filings_of};
 
 use crate::fault::FarmFault;
 use crate::member::{End, Filed};
-use crate::worker::Returned;
+use crate::thread::Returned;
 use tp_collect::Collector;
 use tp_link::{LinkDevice, Links};
 use tp_stream::StreamHand;
 
-/// What is left of a member when its hand is gone.
+/// The results of a member when its hand is gone.
 #[derive(Drop)]
 pub(crate) struct MemberResults<D> {
     pub(crate) links: Links<D>,

@@ -33,7 +33,7 @@ fn of_link<T>(link: Link, answer: Result<T, DeviceFault>) -> Result<T, LinkFault
 
 /// Receives all that a device holds, and throws it away.
 #[inline(never)]
-fn throw_away<D: LinkDevice>(device: &mut D) -> Result<(), DeviceFault>
+fn drain<D: LinkDevice>(device: &mut D) -> Result<(), DeviceFault>
     ensures settings { SameDevice (D.state device.old) (D.state device.new) }
     ensures rises { (D.state device.new).faults ≡ (D.state device.old).faults + failures result }
     ensures emptied { OnOk result ((D.state device.new).held ≡ []) }
@@ -57,7 +57,7 @@ fn empty<D: LinkDevice>(device: &mut D) -> Result<(), DeviceFault>
     if device.held() == 0 {
         return Ok(());
     }
-    throw_away(device)
+    drain(device)
 }
 
 /// Empties the three devices, and sends a packet to the source.
@@ -129,7 +129,7 @@ fn receive_held<D: LinkDevice>(
     device.receive(&mut into[..n])
 }
 
-/// Receives the trace of a packet that was run, where that is no more than a trace may have: of so many bytes.
+/// Receives the trace of a packet that was run, where that is no more than a trace may have: of this many bytes.
 fn receive_trace<D: LinkDevice>(
     links: &mut Links<D>,
     into: &mut [u8; MAX_MESSAGE],

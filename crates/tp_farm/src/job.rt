@@ -1,4 +1,4 @@
-//! What all members work on.
+//! The job of all members.
 
 use tp_accept::Accepted;
 use tp_stream::Packet;

@@ -1,4 +1,4 @@
-//! What follows for a batch of accepted code: each function's contract is the law.
+//! Laws of a batch of accepted code: each function's contract is the law.
 
 ghost use Rattle.std.specs.Prelude.{◌≡◌, Bool, true, List, All};
 ghost use Rattle.tp_outcome.specs.Devices.{Devices};

@@ -10,7 +10,7 @@ mod job;
 pub mod laws;
 mod member;
 mod members;
-mod worker;
+mod thread;
 
 pub use batch::{Batch, run_batch};
 pub use fault::FarmFault;

@@ -16,7 +16,7 @@ use tp_link::{LinkDevice, LinkFault, Links};
 use tp_machine::Machine;
 use tp_stream::{Packet, Work, WorkSource};
 
-/// What became of one packet.
+/// The end of one packet.
 #[derive(Drop)]
 pub(crate) enum Filed {
     Done(Done),
@@ -43,7 +43,7 @@ pub(crate) struct Member<H, D> {
     pub(crate) machine: Machine,
     pub(crate) links: Links<D>,
     pub(crate) received: Received,
-    /// What became of its packets so far.
+    /// The ends of its packets so far.
     pub(crate) filed: Vec<Filed>,
     /// The devices at its start, for contracts.
     pub(crate) entry: Snapshot<Links<D>>,

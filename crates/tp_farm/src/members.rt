@@ -11,7 +11,7 @@ ghost use Rattle.tp_farm.specs.Working.{IsSet, IsFresh, HasWorkedOn, HaveWorkedO
 
 use crate::fault::FarmFault;
 use crate::gate::Gate;
-use crate::worker::{Returned, Shared, work_as};
+use crate::thread::{Returned, Shared, work_as};
 use std::alloc::{AllocError, Global};
 use std::snapshot::Snapshot;
 use std::sync::Wait;
@@ -20,7 +20,7 @@ use std::thread::{Promise, PromisedHandle, Scope, Threads, join_promised};
 use tp_link::{LinkDevice, Links};
 use tp_stream::{Fed, Feeder, StreamHand, StreamQueue};
 
-/// What a member's thread keeps: it has done the shared's work with the devices that it had.
+/// The promise of a member's thread: it has done the shared's work with the devices that it had.
 #[derive(Drop)]
 struct MemberPromise<'j, G, D> {
     shared: &'j Shared<'j, G>,

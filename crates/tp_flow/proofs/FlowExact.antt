@@ -26,7 +26,7 @@ use Rattle.tp_flow.specs.declared.range.LoopRange.{LoopRange}
 use Rattle.tp_flow.specs.NestRanges.{range_of, ranges, contains, overlaps, lies_within, crosses, shares_an_end, number_ended_at, head_of}
 use Rattle.tp_flow.specs.Edges.{has_edge, address, jump_operand, jump_target, goes_to, target}
 use Rattle.tp_flow.specs.RowRules.{is_start, is_lend, last_index, is_bad_alone, is_bad_row, crosses_earlier, shares_with_earlier, lies_too_deep}
-use Rattle.tp_flow.specs.JumpRules.{Rule, rule, first_broken, names_no_loop, is_outside, goes_back, is_no_start, leaves}
+use Rattle.tp_flow.specs.JumpRules.{Rule, rule, first_broken, is_orphan_lend, is_outside, goes_back, is_no_start, leaves}
 use Rattle.tp_flow.specs.JumpRules.{enters_inside, breaks_the_nest, runs_off, jump_rules, rules_on_jump, broken_rule}
 use Rattle.tp_flow.specs.FlowFaults.{bad_row, fault_of, instruction_faults, first_flow_fault}
 use Rattle.tp_flow.specs.NestKept.{IsGood, IsLoop, IsEdge, KeepsNest}
@@ -279,7 +279,7 @@ module _ (image : ImageValue) (cuts : List Cut) (cutting : IsCutting image.code 
   next_within edge goes =
       unequal _ _ (within_code (at + length cut.bytes) (kept.starts at (at + length cut.bytes) edge record { cut = cut; stands = stands; goes = goes }))
 
-  unnamed_not : names_no_loop (ranges image.loops) at cut.instr ≡ false
+  unnamed_not : is_orphan_lend (ranges image.loops) at cut.instr ≡ false
   unnamed_not = not_both (is_lend cut.instr) _ λ lend.
       let same = is_lend_of cut.instr lend in
       let P : Instr → Type 0 = λ i. is_lend i ≡ true → IsSome (target (ranges image.loops) at (at + length cut.bytes) i Back) in
@@ -345,7 +345,7 @@ module _ (image : ImageValue) (cuts : List Cut) (cutting : IsCutting image.code 
   instruction_kept = by_operand (jump_operand cut.instr) refl
     where
       by_operand : (o : Option ℤ) → jump_operand cut.instr ≡ o →
-          first_broken ((rule (names_no_loop (ranges image.loops) at cut.instr) J7 ∷ []) ++
+          first_broken ((rule (is_orphan_lend (ranges image.loops) at cut.instr) J7 ∷ []) ++
           rules_on_jump image cuts at (at + length cut.bytes) o ++
           (rule (runs_off image.code (at + length cut.bytes) cut.instr) J5 ∷ [])) ≡ None
       by_operand None is = none_broken _ _ [] unnamed_not refl off_not

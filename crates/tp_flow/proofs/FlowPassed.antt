@@ -11,7 +11,7 @@ use Rattle.tp_flow.specs.declared.fault.FlowCode.TheVariants.{J5, J7}
 use Rattle.tp_flow.specs.NestRanges.{ranges}
 use Rattle.tp_flow.specs.Edges.{jump_operand}
 use Rattle.tp_flow.specs.RowRules.{is_bad_row}
-use Rattle.tp_flow.specs.JumpRules.{Rule, rule, first_broken, names_no_loop, runs_off, jump_rules, rules_on_jump, rules_on, broken_rule}
+use Rattle.tp_flow.specs.JumpRules.{Rule, rule, first_broken, is_orphan_lend, runs_off, jump_rules, rules_on_jump, rules_on, broken_rule}
 use Rattle.tp_flow.specs.FlowFaults.{bad_row, row_fault, fault_of, instruction_faults, first_flow_fault}
 use Rattle.std.proofs.lemmas.Option.{slice_get_within, get_or_from_slice_get}
 use Rattle.tp_decode.proofs.NumberLemmas.{placed, place_by_number}
@@ -75,7 +75,7 @@ unbroken_between r rules s is =
 
 -- an instruction that breaks no rule
 pub record Passes (image : ImageValue) (cuts : List Cut) (at next : ℕ) (instr : Instr) : Type 0 where
-  pub named : names_no_loop (ranges image.loops) at instr ≡ false
+  pub named : is_orphan_lend (ranges image.loops) at instr ≡ false
   pub jumps : (n : ℤ) → jump_operand instr ≡ Some n → first_broken (jump_rules image cuts at next n) ≡ None
   pub goes_on : runs_off image.code next instr ≡ false
 
@@ -112,7 +112,7 @@ module _ (image : ImageValue) (cuts : List Cut) (is : first_flow_fault image cut
       in
       let next = at + length cut.bytes in
       let each =
-      unbroken_between (rule (names_no_loop (ranges image.loops) at cut.instr) J7) (rules_on_jump image cuts at next (jump_operand cut.instr)) (rule (runs_off image.code next cut.instr) J5) kept
+      unbroken_between (rule (is_orphan_lend (ranges image.loops) at cut.instr) J7) (rules_on_jump image cuts at next (jump_operand cut.instr)) (rule (runs_off image.code next cut.instr) J5) kept
       in
       record {
         named = each.0;

@@ -16,8 +16,8 @@ use Rattle.tp_flow.specs.Edges.{has_edge, jump_operand, jump_target}
 use Rattle.tp_flow.specs.RowRules.{is_start, is_lend}
 
 -- J7: a lend that no row names
-abbrev pub names_no_loop : List LoopRange → ℕ → Instr → Bool
-names_no_loop nest at instr = is_lend instr && is_none (number_ended_at nest at)
+abbrev pub is_orphan_lend : List LoopRange → ℕ → Instr → Bool
+is_orphan_lend nest at instr = is_lend instr && is_none (number_ended_at nest at)
 
 -- J2: the target lies outside the code
 abbrev pub is_outside : List ℕ → Option ℕ → Bool
@@ -79,7 +79,7 @@ rules_on_jump image cuts at next (Some n) = jump_rules image cuts at next n
 -- the rules on an instruction at an address, in their order
 abbrev pub rules_on : ImageValue → List Cut → ℕ → ℕ → Instr → List Rule
 rules_on image cuts at next instr =
-    (rule (names_no_loop (ranges image.loops) at instr) J7 ∷ [])
+    (rule (is_orphan_lend (ranges image.loops) at instr) J7 ∷ [])
     ++ rules_on_jump image cuts at next (jump_operand instr)
     ++ (rule (runs_off image.code next instr) J5 ∷ [])
 

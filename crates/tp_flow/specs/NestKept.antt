@@ -86,7 +86,7 @@ LeavesAtLends nest cuts =
     (at to : ℕ) (edge : Edge) (range : LoopRange) → IsEdge nest cuts at edge to → Contains nest range
     → IsTrue (contains range at) → ¬ IsTrue (contains range to) → at ≡ range.lend
 
--- The loops of these rows, in a workspace of so many words, are a nest in the code, and its edges keep to them.
+-- The loops of these rows, in a workspace of this many words, are a nest in the code, and its edges keep to them.
 pub record KeepsNest (rows : List LoopRow) (workspace : ℕ) (cuts : List Cut) : Type 0 where
   pub good : All (IsGood workspace) rows
   pub loops : All (IsLoop cuts) rows

@@ -3,7 +3,7 @@
 ghost use Rattle.std.specs.Prelude.{◌≡◌, Some, slice_get};
 ghost use Rattle.tp_flow.specs.NestRanges.{ranges};
 ghost use Rattle.tp_flow.specs.FlowFaults.{instruction_faults};
-ghost use Rattle.tp_flow.specs.JumpRules.{broken_rule, names_no_loop, breaks_the_nest, runs_off, jump_rules};
+ghost use Rattle.tp_flow.specs.JumpRules.{broken_rule, is_orphan_lend, breaks_the_nest, runs_off, jump_rules};
 ghost use Rattle.tp_flow.specs.JumpRules.{first_broken};
 ghost use Rattle.tp_flow.specs.RowRules.{is_start};
 ghost use Rattle.tp_flow.specs.Stretches.{IsStretch};
@@ -44,7 +44,7 @@ fn broken_rule(
     ensures { result ≡ broken_rule image.now listing.now placed }
 {
     let Placed { at, instr, next } = placed;
-    if names_no_loop(nest, at, instr) {
+    if is_orphan_lend(nest, at, instr) {
         return Some(FlowCode::J7);
     }
     if let Some(operand) = jump_operand(instr)
@@ -59,8 +59,8 @@ fn broken_rule(
 }
 
 /// Whether it is a lend that no row names.
-fn names_no_loop(nest: &Nest, at: usize, instr: Instr) -> bool
-    ensures { result ≡ names_no_loop nest.now at instr }
+fn is_orphan_lend(nest: &Nest, at: usize, instr: Instr) -> bool
+    ensures { result ≡ is_orphan_lend nest.now at instr }
 {
     match instr {
         Instr::Lend => nest.lend_row(at).is_none(),

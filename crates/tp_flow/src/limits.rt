@@ -1,4 +1,4 @@
-//! What loops may do.
+//! Limits of loops.
 
 use tp_image::limits::MAX_LOOP_ROWS;
 

@@ -101,7 +101,7 @@ refusal_later (t ∷ ts) us e =
     let p = none_fails (t ∷ ts) e in
     cond-false _ _ _ p.0 ∙ refusal_later ts us (no_refusal ts p.1)
 
--- the tests on the size of an image of so many bytes
+-- the tests on the size of an image of this many bytes
 abbrev size_tests : Header → ℕ → List Test
 size_tests h bytes = test (ltb bytes (image_bytes h)) F2 bytes ∷ test (ltb (image_bytes h) bytes) F9 (image_bytes h) ∷ []
 
@@ -111,7 +111,7 @@ fault_of_field h bytes fault e = refusal_first (field_tests h) (size_tests h byt
 pub fault_of_size : (h : Header) (bytes : ℕ) → field_fault h ≡ None → header_fault h bytes ≡ first_refusal (size_tests h bytes)
 fault_of_size h bytes e = refusal_later (field_tests h) (size_tests h bytes) e
 
--- a header passes each test where its fields are in range and its image has so many bytes
+-- a header passes each test where its fields are in range and its image has this many bytes
 pub passes_fields : (h : Header) (bytes : ℕ) → header_fault h bytes ≡ None → field_fault h ≡ None
 passes_fields h bytes e = by_case (field_fault h) refl
   where

@@ -72,7 +72,7 @@ field_tests h =
     ∷ test (nat_lt (most_initial h.version h.workspace) h.initial) F10 initial_at
     ∷ []
 
--- the tests on a header of an image of so many bytes: its fields, then the size
+-- the tests on a header of an image of this many bytes: its fields, then the size
 abbrev pub header_tests : Header → ℕ → List Test
 header_tests h bytes =
     field_tests h
@@ -89,7 +89,7 @@ first_refusal (t ∷ ts) = if t.fails then Some (Refused t.code t.place) else fi
 abbrev pub field_fault : Header → Option ImageFault
 field_fault h = first_refusal (field_tests h)
 
--- the refusal of a header of an image of so many bytes
+-- the refusal of a header of an image of this many bytes
 abbrev pub header_fault : Header → ℕ → Option ImageFault
 header_fault h bytes = first_refusal (header_tests h bytes)
 

@@ -12,7 +12,7 @@ use crate::image::{Image, Version};
 use crate::layout::*;
 use crate::limits::*;
 
-/// What a header says.
+/// The fields of a header.
 #[derive(Clone, Copy, Debug, PartialEq, Eq)]
 pub struct Header {
     pub version: Version,
@@ -85,7 +85,7 @@ impl Header {
         }
     }
 
-    /// What the bytes say of the header of an image of this version.
+    /// The fields that bytes have as the header of an image of this version.
     fn at(version: Version, bytes: &[u8]) -> Self
         requires { header_bytes version ≤ length bytes.now }
         ensures { result ≡ header_at version bytes.now }
@@ -142,7 +142,7 @@ impl Header {
         Ok(())
     }
 
-    /// Tests the header of an image of so many bytes: each field, then the size.
+    /// Tests the header of an image of this many bytes: each field, then the size.
     fn check(&self, bytes: usize) -> Result<(), ImageFault>
         ensures { MatchResult result (λ _. header_fault self.now bytes ≡ None)
             (λ fault. header_fault self.now bytes ≡ Some fault) }

@@ -1,4 +1,4 @@
-//! What an image says of its worker.
+//! The fields of an image.
 
 ghost use Rattle.std.specs.Prelude.{◌≡◌};
 ghost use Rattle.tp_image.specs.Image.{InRange, number_of};

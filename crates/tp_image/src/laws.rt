@@ -1,4 +1,4 @@
-//! What holds of the format, whatever is read or written.
+//! Laws of the format, whatever is read or written.
 
 ghost use Rattle.std.specs.Prelude.{◌≡◌, ◌<◌, ◌↔◌, ℕ, List, All, None};
 ghost use Rattle.tp_image.specs.Image.{ImageValue, InRange};
@@ -10,7 +10,7 @@ pub fn one_image()
     ensures { (bytes : List ℕ) (a b : ImageValue) → IsTextOf bytes a → IsTextOf bytes b → a ≡ b }
 {}
 
-/// What is written passes each test, and has no other image: it is read as the same image.
+/// An image that is written passes each test, and has no other text: it is read as the same image.
 pub fn written_is_read()
     ensures passes { (image : ImageValue) → InRange image → first_fault (text image) ≡ None }
     ensures same { (image read : ImageValue) → InRange image → IsTextOf (text image) read → read ≡ image }

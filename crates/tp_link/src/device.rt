@@ -1,4 +1,4 @@
-//! What a link device is, and what its author keeps.
+//! Link devices, and what their author keeps.
 //!
 //! To its callers a device is a `DeviceState` (`specs/Device.antt`): the bytes that it holds,
 //! oldest first, its room in bytes, whether it is open, how often it has failed, and whether it can fail.

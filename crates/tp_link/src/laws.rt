@@ -1,4 +1,4 @@
-//! What holds of a faulty wire over any calls of it.
+//! Laws of a faulty wire over any calls of it.
 
 ghost use Rattle.std.specs.Prelude.{◌≡◌, ◌↔◌, ◌+◌, ℕ, List, ◌∷◌, ◌++◌, length, nat_le, ◌&&◌, if◌then◌else◌, IsErrOf};
 ghost use Rattle.tp_link.specs.Device.{Answer};

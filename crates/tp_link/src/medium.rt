@@ -6,7 +6,7 @@ use crate::device::DeviceFault;
 use std::alloc::{AllocError, Global};
 use std::marker::Model;
 
-/// What a device leads to: bytes, first in first out, up to a room in bytes.
+/// The far end of a device: bytes, first in first out, up to a room in bytes.
 ///
 /// It also keeps whether the device to it is open and, as its end mark, whether that device has
 /// ended: both can be seen after the device.

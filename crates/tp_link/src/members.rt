@@ -8,7 +8,7 @@ use crate::media::Media;
 use crate::wire::Wire;
 use std::alloc::{AllocError, Global};
 
-/// The media of so many members, each empty and with the same room in bytes.
+/// The media of this many members, each empty and with the same room in bytes.
 pub fn media_of(alloc: Global, members: usize, room: usize) -> Result<Vec<Media>, AllocError>
     ensures count { IfOk result (λ media. vec_len media ≡ members) }
     ensures empty { IfOk result (λ media. All (λ one. one ≡ empty_media room room room) media.items) }

@@ -1,4 +1,4 @@
-//! What a machine keeps.
+//! The memory and registers of a machine.
 
 /// A machine with a workspace of 512 words in itself. It keeps no tags: what a register or a byte holds where the step
 /// relation has it undefined is its own.

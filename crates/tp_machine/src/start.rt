@@ -12,7 +12,7 @@ use tp_image::Image;
 use tp_step::profile::MEM_START;
 
 /// The first value of a workspace word: an initial word of the image, or 0.
-fn first_word(image: &Image, i: u32) -> u32
+fn initial_word(image: &Image, i: u32) -> u32
     ensures { result ≡ slice_index_or image.now.initial i 0 }
 {
     match image.initial.get(i as usize) {
@@ -28,6 +28,6 @@ pub(crate) fn fill(workspace: &mut [u8; 2048], image: &Image)
         (with_bytes nothing_defined mem_start (flat_map (to_le_bytes w32) (first_words image.now))) workspace.new }
 {
     for i in 0..image.workspace {
-        store(workspace, MEM_START + 4 * i, first_word(image, i));
+        store(workspace, MEM_START + 4 * i, initial_word(image, i));
     }
 }

@@ -1,6 +1,6 @@
 use tp_link::LinkFault;
 
-/// What became of an instruction.
+/// The end of an instruction.
 #[derive(Clone, Copy)]
 pub(crate) enum Turn {
     /// It had its effect, and the worker runs on.

@@ -1,4 +1,3 @@
-pub mod Casts
 pub mod DeviceLemmas
 pub mod StartLemmas
 pub mod Receiving

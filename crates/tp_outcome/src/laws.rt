@@ -1,4 +1,4 @@
-//! What follows from the answer of a run.
+//! Laws that follow from the answer of a run.
 
 ghost use Rattle.std.specs.Prelude.{ℕ};
 ghost use Rattle.tp_image.specs.Image.{ImageValue};

@@ -1,8 +1,7 @@
-//! What both machines share: how a run ends, what it leaves its devices, and the arithmetic of words.
+//! The parts that both machines share: how a run ends, and what it leaves its devices.
 #![tactic(auto)]
 
 pub mod laws;
 mod outcome;
-pub mod words;
 
 pub use outcome::Outcome;

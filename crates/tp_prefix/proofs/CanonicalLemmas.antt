@@ -4,7 +4,7 @@ use Rattle.std.proofs.Common.{◌&&◌, nat_eq, nat_lt, if◌then◌else◌, pos
 use Rattle.std.proofs.Common.{ap, sym, ◌∙◌, arith, length-append}
 use Rattle.std.specs.List.{list_all}
 use Rattle.std.proofs.lemmas.Bool.Decides.{nat_tests}
-use Rattle.tp_prefix.specs.Words.{signed}
+use Rattle.tp_words.specs.Words.{signed}
 use Rattle.tp_prefix.specs.Spelling.{function_of, digit_of, is_pfix, is_nfix, is_prefix, shifted, shifted_complement, spelled}
 use Rattle.tp_prefix.specs.Canonical.{natural_spelling, canonical}
 use Rattle.tp_prefix.proofs.SpellingLemmas.{ArePrefixes, prefixed, prefix_first, last_byte}
@@ -136,7 +136,7 @@ negative_reads f c h small no_pfix no_nfix =
     let value : signed (shifted_complement (c / 16) + (15 - c % 16)) ≡ negsuc c = ap signed word ∙ signed_complement c h in
     spelled_behind 0 last whole are ∙ last_byte (loaded 0 whole) last (rw function (other_function f no_pfix no_nfix)) ∙ rw (function, digit', all, value) refl
 
--- it takes at most so many digits
+-- it takes at most this many digits
 pub natural_length : (digits f e : ℕ) → length (natural_spelling digits f e) ≤ digits
 unfolding natural_spelling
 natural_length zero f e = omega arith

@@ -1,11 +1,11 @@
--- How far from zero an operand may be that so many bytes spell, and how many bytes the canonical spelling takes of it.
+-- How far from zero an operand may be that this many bytes spell, and how many bytes the canonical spelling takes of it.
 use Rattle.std.proofs.Common.{◌≡◌, ◌≢◌, ℕ, zero, suc, ◌+◌, ◌-◌, ◌*◌, ◌/◌, ◌%◌, ◌^◌, ◌<◌, ◌≤◌, ◌⊎◌, inl, inr, Bool, true}
 use Rattle.std.proofs.Common.{false, nat_lt, if◌then◌else◌, ℤ, pos, negsuc, List, [], ◌∷◌, ◌++◌, length, Some, None}
 use Rattle.std.proofs.Common.{refl, ap, sym, ◌∙◌, arith, length-append}
 use Rattle.std.proofs.lemmas.Option.{same_Some}
 use Rattle.std.proofs.lemmas.Int.{ints}
 use Rattle.std.proofs.lemmas.Bool.Decides.{nat_tests}
-use Rattle.tp_prefix.specs.Words.{signed}
+use Rattle.tp_words.specs.Words.{signed}
 use Rattle.tp_prefix.specs.Spelling.{digit_of, is_pfix, is_nfix, is_prefix, shifted, shifted_complement, spelled, IsSpelling}
 use Rattle.tp_prefix.specs.Canonical.{natural_spelling, canonical}
 use Rattle.tp_prefix.proofs.SpellingLemmas.{last_byte}

@@ -5,7 +5,7 @@ use Rattle.std.proofs.Common.{append_assoc, length-drop}
 use Rattle.std.specs.List.{list_all}
 use Rattle.std.proofs.lemmas.List.{take_more, take-append-drop, length-take}
 use Rattle.std.proofs.Math.Seq.{take-length, drop-append_seam, take-append_seam}
-use Rattle.tp_prefix.specs.Words.{signed}
+use Rattle.tp_words.specs.Words.{signed}
 use Rattle.tp_prefix.specs.declared.spelled.Spelled.{Spelled}
 use Rattle.tp_prefix.specs.declared.spelled.PrefixFault.{PrefixFault}
 use Rattle.tp_prefix.specs.declared.spelled.PrefixFault.TheVariants.{D1, D2}

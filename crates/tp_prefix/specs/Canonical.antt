@@ -2,7 +2,7 @@
 use Rattle.std.specs.Prelude.{ℕ, zero, suc, ◌+◌, ◌-◌, ◌*◌, ◌/◌, ◌%◌, nat_lt, if◌then◌else◌, ℤ, pos, negsuc, List, []}
 use Rattle.std.specs.Prelude.{◌∷◌, ◌++◌}
 
--- A number of at most so many hexadecimal digits: one byte below 16, else pfix of the number shifted down by four,
+-- A number of at most this many hexadecimal digits: one byte below 16, else pfix of the number shifted down by four,
 -- spelled by the same rule, and a byte with the last digit.
 unfoldable pub natural_spelling : (digits : ℕ) → ℕ → ℕ → List ℕ
 natural_spelling zero f e = []

@@ -1,6 +1,6 @@
 -- What a reader must believe: clauses of public calls cite it.
-pub mod Words
 pub mod Spelling
 pub mod Canonical
+pub use Rattle.tp_words.specs.Words
 -- What only private steps cite.
 pub mod Reading

@@ -5,7 +5,7 @@
 use Rattle.std.specs.Prelude.{◌≡◌, ℕ, ◌+◌, ◌*◌, ◌/◌, ◌%◌, ◌<◌, ◌≤◌, Bool, ◌||◌, ◌==◌, IsTrue, if◌then◌else◌, ℤ, pos}
 use Rattle.std.specs.Prelude.{List, [], ◌∷◌, length, take, slice_range, Option, Some, None}
 use Rattle.std.specs.List.{list_all}
-use Rattle.tp_prefix.specs.Words.{signed, low_word, complement}
+use Rattle.tp_words.specs.Words.{signed, low_word, complement}
 use Rattle.tp_prefix.specs.declared.spelled.Spelled.{Spelled}
 
 -- the function in a byte, and its data

@@ -8,10 +8,12 @@
 pub mod encoding;
 pub mod laws;
 pub mod reading;
+mod register;
 pub mod spelled;
 
 pub use encoding::encode;
 pub use reading::read_one;
+pub use register::{shifted, shifted_complement};
 pub use spelled::{PrefixFault, Spelled};
 
 /// The function pfix, in the high four bits of a byte.

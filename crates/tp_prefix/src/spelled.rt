@@ -1,9 +1,9 @@
-/// What a spelling says, and where it ends.
+/// The reading of a spelling, and where it ends.
 #[derive(Clone, Copy, Debug, PartialEq, Eq)]
 pub struct Spelled {
     /// The function, 0 to 15 and neither pfix nor nfix.
     pub function: u8,
-    /// What Oreg holds when the function is executed, read as a signed word.
+    /// Oreg when the function is executed, read as a signed word.
     pub operand: i32,
     /// The address of the byte after the spelling.
     pub next: usize,

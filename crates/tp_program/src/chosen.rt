@@ -1,6 +1,6 @@
-//! What a command line may choose.
+//! The choices of a command line.
 
-/// What a command line asks of the program.
+/// The options of a command line.
 #[derive(Clone, Copy, Debug, PartialEq, Eq)]
 pub struct Options {
     /// How many members run a batch, 1 to 64.

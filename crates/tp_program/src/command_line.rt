@@ -1,4 +1,4 @@
-//! What a command line asks for.
+//! The grammar of the command line.
 
 ghost use Rattle.std.specs.Prelude.{◌≡◌, ◌∷◌, [], List, ℕ, map, IfOk, MatchResult, IfErr, true, false};
 ghost use Rattle.clap.specs.Words.{app_of, fault_of, kind_of, takes, FailsBy};
@@ -10,11 +10,11 @@ use clap::{Arg, ArgAction, Command, Error, value_parser};
 use std::alloc::Global;
 use std::convert::AsStr;
 
-/// What `--version` says behind the name: the version, the commit where a package is built, and the kit that the proofs
+/// The text of `--version` behind the name: the version, the commit where a package is built, and the kit that the proofs
 /// are made with.
 const VERSION: &str = "0.1 (unreleased, rattle-kit-13f)";
 
-/// What `--help` says below the options.
+/// The lines of `--help` below the options.
 const LINES: &str = "\
 Reads lines on standard input, and writes the answer to each on standard output:
   LIST <hex>        the instructions of a code, then DONE <instructions>
@@ -65,7 +65,7 @@ fn command<'a>(alloc: Global) -> Result<Command<'a>, Error>
     Ok(command)
 }
 
-/// What words ask for, the first of which names the program. Fails with a request for help or for the version, with
+/// The options of words, the first of which names the program. Fails with a request for help or for the version, with
 /// words that are not taken, or out of memory; the error's text is for the user.
 pub fn options<'a, S: AsStr>(alloc: Global, words: &'a [S]) -> Result<Options, Error>
     ensures asked { IfOk result (AsksFor (map S.text words.now)) }

@@ -1,4 +1,4 @@
-//! What the program `farmd` is made of, all but the naming of its streams: its words, its members, its statuses and
+//! The program `farmd`, all but the naming of its streams: its words, its members, its statuses and
 //! texts.
 #![tactic(auto)]
 

@@ -20,7 +20,7 @@ fn place_of(byte: u8, bytes: &[u8]) -> Option<usize>
     bytes.iter().position(|other| *other == byte)
 }
 
-/// What is before the first `separator`, and what is behind it.
+/// The bytes before the first `separator`, and those behind it.
 pub fn split_once(bytes: &[u8], separator: u8) -> Option<(&[u8], &[u8])>
     ensures { MatchOption result (IsWithout separator bytes.now) (λ parts.
         IsWithout separator parts.0.now × (bytes.now ≡ parts.0.now ++ separator ∷ parts.1.now)) }

@@ -1,4 +1,4 @@
-//! What a line of a session asks for.
+//! Requests, as a line of a session spells them.
 //!
 //! `specs/Protocol.antt` spells each line of the protocol, and `specs/Requests.antt` names what it asks for;
 //! `specs/Lines.antt` says how an input falls into lines.

@@ -17,7 +17,7 @@ pub(crate) const MAX_NAME: usize = 16;
 /// The name of a session: 1 to 16 of `a` to `z` and `0` to `9`.
 pub type Name = ArrayVec<u8, MAX_NAME>;
 
-/// What a line asks for.
+/// A request, as a line spells it.
 #[derive(Drop)]
 pub enum Request<'a> {
     /// The listing of a code.
@@ -34,7 +34,7 @@ pub enum Request<'a> {
     Drop(Name),
 }
 
-/// What is asked of the session of a name, by the words behind it.
+/// A request on the session of a name, by the words behind it.
 fn of_name<'a>(
     alloc: Global,
     name: Name,
@@ -63,7 +63,7 @@ fn of_name<'a>(
     }
 }
 
-/// What a line asks for, by what is before and behind its first space.
+/// The request of a line, by what is before and behind its first space.
 fn of_parts<'a>(
     alloc: Global,
     first: &[u8],
@@ -86,7 +86,7 @@ fn of_parts<'a>(
     }
 }
 
-/// What a line asks for, without its line feed: none where it is none of the protocol's lines.
+/// The request of a line, without its line feed: none where it is none of the protocol's lines.
 pub fn read_request(alloc: Global, line: &[u8]) -> Result<Option<Request<'_>>, AllocError>
     ensures { IfOk result (λ r. AsksFor line.now (option_map asked r)) }
 {

@@ -9,7 +9,7 @@ use Rattle.std.proofs.lemmas.Bool.{and_parts}
 use Rattle.std.proofs.lemmas.Bool.Decides.{nat_tests, Decides-int_eq}
 use Rattle.std.proofs.Math.Nat.{pow-le-pow_right, div-le_self}
 use Rattle.std.proofs.lemmas.Nat.{div_below}
-use Rattle.tp_step.specs.Numbers.{least_integer, greatest_integer}
+use Rattle.tp_words.specs.Numbers.{least_integer, greatest_integer}
 use Rattle.tp_state.specs.declared.kind.Kind.TheVariants as kind
 use Rattle.tp_state.specs.Kinds.{full, range}
 use Rattle.tp_state.specs.Order.{kind_below}

@@ -6,7 +6,7 @@ use Rattle.std.specs.Int.{int_min, int_max}
 use Rattle.std.proofs.lemmas.Int.{ints, clamps}
 use Rattle.std.proofs.lemmas.Bool.{and_parts}
 use Rattle.std.proofs.lemmas.Bool.Decides.{nat_tests}
-use Rattle.tp_step.specs.Numbers.{least_integer, greatest_integer, overflows}
+use Rattle.tp_words.specs.Numbers.{least_integer, greatest_integer, overflows}
 use Rattle.tp_state.specs.declared.kind.Kind.{Kind}
 use Rattle.tp_state.specs.declared.kind.Kind.TheVariants as kind
 use Rattle.tp_state.specs.Kinds.{full, range, hull, at_ends}

@@ -12,7 +12,7 @@ use Rattle.tp_decode.specs.declared.instr.Instr.{Instr}
 use Rattle.tp_image.specs.declared.image.LoopRow.{LoopRow}
 use Rattle.tp_image.specs.Image.{ImageValue, IsRow}
 use Rattle.tp_flow.specs.declared.edge.Edge.{Edge}
-use Rattle.tp_step.specs.Numbers.{least_integer, greatest_integer}
+use Rattle.tp_words.specs.Numbers.{least_integer, greatest_integer}
 use Rattle.tp_state.specs.declared.kind.Kind.{Kind}
 use Rattle.tp_state.specs.declared.cell.Cell.{Cell}
 use Rattle.tp_state.specs.declared.state.State.{State}

@@ -9,7 +9,7 @@ use Rattle.std.proofs.Math.Seq.{take-append_seam, take-length}
 pub appends_same : (a b : Option (List ℕ)) (xs ys : List ℕ) → xs ≡ ys → Appends a b xs → Appends a b ys
 appends_same a b xs ys e h = rw (← e) h
 
--- a beginning of some bytes, as so many of them
+-- a beginning of some bytes, by its length
 pub appends_front : (a b : Option (List ℕ)) (front rest all : List ℕ) → all ≡ front ++ rest → Appends a b front
     → (n : ℕ) × Appends a b (take n all)
 appends_front a b front rest all e h = (

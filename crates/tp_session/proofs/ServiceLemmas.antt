@@ -45,7 +45,7 @@ one_more P (first ∷ xs) (z ∷ ys) zero x y at all one = absurd all
 one_more P (first ∷ xs) [] (suc i) x y at all one = absurd all
 one_more P (first ∷ xs) (z ∷ ys) (suc i) x y at all one = (all.0, one_more P xs ys i x y at all.1 one)
 
--- when so many sessions have forgotten their packets
+-- when this many sessions have forgotten their packets
 abbrev pub partly : List Session → ℕ → List Session
 partly sessions i = map without_packets (take i sessions) ++ drop i sessions
 

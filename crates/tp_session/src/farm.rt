@@ -18,7 +18,7 @@ impl<D> Farm<D> {
     /// A farm of a member for each of the links, of which there are 1 to 64. With `trace`, each result is followed by
     /// the bytes that its worker sent on link 1.
     ///
-    /// What [`serve`](crate::serve) promises, it promises for devices that are open, cannot fail and have room for 256
+    /// [`serve`](crate::serve) keeps its promise for devices that are open, cannot fail and have room for 256
     /// bytes.
     pub fn new(links: Vec<Links<D>>, trace: bool) -> Farm<D>
         requires least { 1 ≤ vec_len links }

@@ -14,7 +14,7 @@ ghost use Rattle.tp_session.specs.Protocol as protocol;
 use tp_accept::laws::exact::acceptable_images_alone_may_be_run;
 use tp_accept::laws::one_text_has_one_answer;
 
-/// What is served for an input is a function of the input, and of whether traces are written.
+/// The output of a service is a function of the input, and of whether traces are written.
 pub fn one_input_has_one_answer()
     ensures { (trace : Bool) (input output output' : List ℕ) → IsServed trace input output →
         IsServed trace input output' →
@@ -23,7 +23,7 @@ pub fn one_input_has_one_answer()
     one_text_has_one_answer();
 }
 
-/// What is served is what the protocol alone says, whatever functions give the verdicts and the outcomes. These
+/// The output is what the protocol alone says, whatever functions give the verdicts and the outcomes. These
 /// determine it. So a reader of the protocol needs neither the rules of the verifier nor those of the machine.
 pub fn what_is_served_follows_the_protocol()
     ensures follows { (verdict : List ℕ → Verdict) (outcome : ImageValue → List ℕ → Option RunResult) →

@@ -5,7 +5,7 @@ ghost use Rattle.std.specs.Prelude.{◌≤◌, vec_len};
 pub(crate) struct PartialLine {
     /// The number of the line that is being read, from 1.
     pub(crate) number: u64,
-    /// What has come of it, at most [`MAX_LINE`](crate::MAX_LINE) bytes.
+    /// The beginning of the line, at most [`MAX_LINE`](crate::MAX_LINE) bytes.
     pub(crate) line: Vec<u8>,
     /// Whether more than that has come.
     pub(crate) long: bool,

@@ -21,7 +21,7 @@ use tp_answers::{
 use tp_link::{LinkDevice, Links};
 use tp_requests::{Name, Request, read_request};
 
-/// What is kept between two lines.
+/// The state of a service between two lines.
 #[derive(Drop)]
 pub(crate) struct Service<D> {
     pub(crate) sessions: Sessions,

@@ -7,11 +7,11 @@ use Rattle.std.proofs.lemmas.Bool.Decides.{nat_tests, Decides-eqb}
 use Rattle.std.proofs.lemmas.List.{take_at, drop_at}
 use Rattle.std.proofs.lemmas.Option.{same_Some}
 use Rattle.std.specs.List.{AllByRecursion}
-use Rattle.tp_decode.specs.Words.{signed, complement}
+use Rattle.tp_words.specs.Words.{signed, complement}
 use Rattle.tp_decode.specs.Spelling.{function_of, digit_of, is_prefix, is_pfix, is_nfix, shifted, shifted_complement, spelled, IsSpelling, IsSpelledAt}
 use Rattle.tp_decode.specs.Table.{entry}
 use Rattle.tp_decode.specs.Cutting.{Cut, IsSpelled, IsCutting, code_of, cut_at}
-use Rattle.tp_step.specs.Numbers.{overflows}
+use Rattle.tp_words.specs.Numbers.{overflows}
 use Rattle.tp_state.proofs.WordLemmas.{low_word_lt, signed_above, signed_below}
 
 -- ---- where it stands

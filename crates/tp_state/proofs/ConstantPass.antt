@@ -1,12 +1,12 @@
 -- What constants, locals, Wptr, rev and seterr make of a state that fits.
 use Rattle.std.proofs.Common.{◌≡◌, ℕ, ◌<◌, ◌≤◌, Bool, true, false, ◌&&◌, nat_le, nat_lt, if◌then◌else◌, ℤ, pos, negsuc, ◌+ℤ◌, slice_set, Some, None, Ok, Err, refl, ap, ◌∙◌, subst, arith}
 use Rattle.std.proofs.lemmas.Bool.Decides.{nat_tests}
-use Rattle.tp_decode.specs.Words.{low_word}
+use Rattle.tp_words.specs.Words.{low_word}
 use Rattle.tp_decode.specs.declared.instr.Instr.TheVariants.{Ldc, Ldlp, Ldl, Stl, Ajw, Rev, Seterr, Mint}
 use Rattle.tp_image.specs.Image.{ImageValue}
 use Rattle.tp_flow.specs.declared.edge.Edge.{Edge}
 use Rattle.tp_step.specs.Memory.{word_at, with_word}
-use Rattle.tp_step.specs.Numbers.{overflows, words_on, least_integer}
+use Rattle.tp_words.specs.Numbers.{overflows, words_on, least_integer}
 use Rattle.tp_step.specs.State.{State as Machine, load, store, local as machine_local, push as machine_push, pop as machine_pop}
 use Rattle.tp_step.specs.Effects.{effect}
 use Rattle.tp_state.specs.declared.kind.Kind.TheVariants as kind

@@ -7,7 +7,7 @@ use Rattle.std.specs.Option.{option_map}
 use Rattle.std.specs.List.{list_any}
 use Rattle.std.proofs.lemmas.Option.{same_Some}
 use Rattle.std.proofs.lemmas.Int.{ints}
-use Rattle.tp_decode.specs.Words.{signed, low_word}
+use Rattle.tp_words.specs.Words.{signed, low_word}
 use Rattle.tp_decode.specs.declared.instr.Instr.{Instr}
 use Rattle.tp_decode.specs.declared.instr.Instr.TheVariants.{Jump, Ldlp, Ldnl, Ldc, Ldnlp, Ldl, Adc, Cj, Ajw, Eqc, Stl}
 use Rattle.tp_decode.specs.declared.instr.Instr.TheVariants.{Stnl, Rev, Lb, Bsub, Diff, Add, Input, Prod, Gt, Wsub}
@@ -19,7 +19,7 @@ use Rattle.tp_flow.specs.declared.edge.Edge.TheVariants.{Next, Taken, Back, Out}
 use Rattle.tp_flow.specs.NestRanges.{ranges}
 use Rattle.tp_flow.specs.Edges.{edges, is_edge, has_edge, address, jump_target, goes_to, target}
 use Rattle.tp_flow.specs.AroundKept.{KeepsAround}
-use Rattle.tp_step.specs.Numbers.{words_on}
+use Rattle.tp_words.specs.Numbers.{words_on}
 use Rattle.tp_step.specs.Maybe.{◌>>◌, only_if}
 use Rattle.tp_step.specs.State.{State, load, store, pop, descheduled}
 use Rattle.tp_step.specs.Effects.{effect, go, sent_on, divided, turn_ended}

@@ -10,7 +10,7 @@ use Rattle.std.proofs.lemmas.List.Elements.{All-nil, All-cons, All-append}
 use Rattle.std.specs.Prelude.{flat_map}
 use Rattle.std.specs.Int.{w32, to_le_bytes, bytes_low_first, byte_at}
 use Rattle.std.proofs.lemmas.List.{length-replicate, length-map, get_or-map, get_or-replicate, get_or_append_left, get_or-append-add, get_or_past}
-use Rattle.tp_decode.specs.Words.{signed}
+use Rattle.tp_words.specs.Words.{signed}
 use Rattle.tp_image.specs.declared.image.Version.{Version}
 use Rattle.tp_image.specs.declared.image.Version.TheVariants.{One, Two}
 use Rattle.tp_image.specs.Image.{ImageValue, InRange, most_initial}

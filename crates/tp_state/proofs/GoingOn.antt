@@ -32,7 +32,7 @@ use Rattle.tp_flow.proofs.LoopMoves.{found_passes, one_of, keeps_around}
 use Rattle.tp_step.specs.Memory.{Memory}
 use Rattle.tp_step.specs.State.{State as Machine}
 use Rattle.tp_step.specs.Effects.{effect}
-use Rattle.tp_step.specs.Numbers.{overflows}
+use Rattle.tp_words.specs.Numbers.{overflows}
 use Rattle.tp_step.proofs.SpellingLemmas.{instruction_runs}
 use Rattle.tp_step.specs.Steps.{step, steps, IsStuck}
 use Rattle.tp_step.proofs.StepLemmas.{steps_add}

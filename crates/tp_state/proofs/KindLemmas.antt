@@ -5,10 +5,10 @@ use Rattle.std.proofs.lemmas.Bool.{and_parts}
 use Rattle.std.proofs.lemmas.Bool.Decides.{nat_tests, Decides-int_eq, Decides-eqb}
 use Rattle.std.specs.Ordering.{int_eq}
 use Rattle.std.specs.Int.{int_min, int_max}
-use Rattle.tp_decode.specs.Words.{signed, low_word}
+use Rattle.tp_words.specs.Words.{signed, low_word}
 use Rattle.tp_image.specs.declared.image.LoopRow.{LoopRow}
 use Rattle.tp_image.specs.Image.{ImageValue}
-use Rattle.tp_step.specs.Numbers.{overflows}
+use Rattle.tp_words.specs.Numbers.{overflows}
 use Rattle.tp_step.specs.State.{mem_start}
 use Rattle.tp_state.specs.declared.kind.Kind.{Kind}
 use Rattle.tp_state.specs.declared.kind.Kind.TheVariants as kind

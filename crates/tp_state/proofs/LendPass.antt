@@ -8,7 +8,7 @@ use Rattle.std.proofs.lemmas.Int.{ints}
 use Rattle.std.proofs.lemmas.Bool.{cases_lt, cases_eq, false_from_ne_true}
 use Rattle.std.proofs.lemmas.Bool.Decides.{nat_tests, Decides-eqb}
 use Rattle.std.proofs.lemmas.Option.{same_Some}
-use Rattle.tp_decode.specs.Words.{signed, low_word}
+use Rattle.tp_words.specs.Words.{signed, low_word}
 use Rattle.tp_decode.specs.declared.instr.Instr.TheVariants.{Lend}
 use Rattle.tp_image.specs.declared.image.LoopRow.{LoopRow}
 use Rattle.tp_image.specs.Image.{ImageValue}
@@ -17,7 +17,7 @@ use Rattle.tp_flow.specs.RowRules.{last_index}
 use Rattle.tp_flow.specs.LoopsAround.{without}
 use Rattle.tp_flow.specs.NestKept.{IsGood}
 use Rattle.tp_step.specs.Memory.{Memory, with_cells, with_bytes, word_at, with_word, undefined}
-use Rattle.tp_step.specs.Numbers.{overflows, words_on}
+use Rattle.tp_words.specs.Numbers.{overflows, words_on}
 use Rattle.tp_step.specs.State.{State as Machine, in_workspace, is_word, descheduled as machine_descheduled, load, store}
 use Rattle.tp_step.specs.Effects.{effect, go}
 use Rattle.tp_step.proofs.MemoryLemmas.{word_alike, cell_below, cell_above}

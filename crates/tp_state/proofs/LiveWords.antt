@@ -5,7 +5,7 @@ use Rattle.std.proofs.Common.{◌∷◌, map, replicate, All, refl, sym, ap, ◌
 use Rattle.std.specs.Option.{option_and_then}
 use Rattle.std.proofs.lemmas.Bool.{cases_lt, and_parts}
 use Rattle.std.proofs.lemmas.List.Elements.{All-nil, All-cons, All-append}
-use Rattle.tp_decode.specs.Words.{signed}
+use Rattle.tp_words.specs.Words.{signed}
 use Rattle.tp_state.specs.Entry.{first_cells}
 use Rattle.std.proofs.lemmas.List.{get_or_past}
 use Rattle.tp_decode.specs.declared.instr.Instr.{Instr}

@@ -3,7 +3,7 @@ use Rattle.std.proofs.Common.{◌≡◌, ℕ, ◌<◌, ◌≤◌, Bool, ℤ, pos
 use Rattle.std.specs.Option.{option_and_then}
 use Rattle.tp_image.specs.Image.{ImageValue}
 use Rattle.tp_step.specs.Memory.{word_at, with_word}
-use Rattle.tp_step.specs.Numbers.{words_on}
+use Rattle.tp_words.specs.Numbers.{words_on}
 use Rattle.tp_step.specs.State.{State as Machine, load, store, local as machine_local}
 use Rattle.tp_state.specs.declared.state.State.{State}
 use Rattle.tp_state.specs.Rules.{local}

@@ -10,13 +10,13 @@ use Rattle.std.proofs.lemmas.Bool.Decides.{nat_tests, Decides-int_eq}
 use Rattle.std.proofs.lemmas.Bool.{and_parts}
 use Rattle.std.proofs.Math.Nat.{div-le_self, pow-le-pow_right}
 use Rattle.std.proofs.lemmas.Nat.{and_le_l, and_le_r, or_lt, xor_lt, div_below}
-use Rattle.tp_decode.specs.Words.{signed, low_word, complement}
+use Rattle.tp_words.specs.Words.{signed, low_word, complement}
 use Rattle.tp_decode.specs.declared.instr.Instr.{Instr}
 use Rattle.tp_decode.specs.declared.instr.Instr.TheVariants.{Adc, Eqc, Diff, Add, Prod, Gt, Sub, Csub0, Rem, Div, BitNot, BitXor, Shr, Shl, BitAnd, BitOr, Sum, Mul}
 use Rattle.tp_image.specs.Image.{ImageValue}
 use Rattle.tp_flow.specs.declared.edge.Edge.{Edge}
 use Rattle.tp_step.specs.Maybe.{only_if, ◌>>◌ as ◌>>?◌}
-use Rattle.tp_step.specs.Numbers.{overflows, truth, least_integer, greatest_integer, minus_one}
+use Rattle.tp_words.specs.Numbers.{overflows, truth, least_integer, greatest_integer, minus_one}
 use Rattle.tp_step.specs.State.{State as Machine, replace_pair as machine_replace_pair}
 use Rattle.tp_step.specs.Effects.{effect, divided, is_shift_count as machine_shift_count}
 use Rattle.tp_state.specs.declared.kind.Kind.{Kind}

@@ -241,7 +241,7 @@ joins_kept values other_values old others mid w d b changed words other_words re
     before : ((i : ℕ) × (i < 64 * w) × ¬ (cell_in values mid i ≡ cell_in values old i)) → (i : ℕ) × (i < 64 * (w + 1)) × ¬ (cell_in values (slice_set mid w b) i ≡ cell_in values old i)
     before (i, lt, other) = (i, omega (arith, lt), λ e. other (sym (ap (λ planes. cell_in values planes i) same) ∙ e))
 
--- so many bits in all that have changed, and then more
+-- this many bits in all that have changed, and then more
 pub none_before : (before moved : ℕ) → not (bit_or before moved == 0) ≡ false → (not (before == 0) ≡ false) × (moved ≡ 0)
 none_before before moved e =
     let none : bit_or before moved ≡ 0 = is_none (bit_or before moved) e in

@@ -7,14 +7,14 @@ use Rattle.std.proofs.lemmas.Bool.{cases_eq}
 use Rattle.std.proofs.lemmas.Bool.Decides.{Decides-eqb}
 use Rattle.std.proofs.lemmas.List.Elements.{All-nil, All-cons}
 use Rattle.std.specs.Option.{option_and_then}
-use Rattle.tp_decode.specs.Words.{signed, low_word}
+use Rattle.tp_words.specs.Words.{signed, low_word}
 use Rattle.tp_decode.specs.declared.instr.Instr.TheVariants.{Ldnl, Ldnlp, Stnl, Lb, Bsub, Wsub, Sb}
 use Rattle.tp_image.specs.declared.image.LoopRow.{LoopRow}
 use Rattle.tp_image.specs.Image.{ImageValue}
 use Rattle.tp_flow.specs.declared.edge.Edge.{Edge}
 use Rattle.tp_step.specs.Maybe.{only_if, ◌>>◌ as ◌>>?◌}
 use Rattle.tp_step.specs.Memory.{Memory, word_at, with_word, with_bytes}
-use Rattle.tp_step.specs.Numbers.{words_on as machine_words_on}
+use Rattle.tp_words.specs.Numbers.{words_on as machine_words_on}
 use Rattle.tp_step.specs.State.{State as Machine, mem_start, in_workspace, load, store, pop_two as machine_pop_two, set_areg as machine_set_areg}
 use Rattle.tp_step.specs.Effects.{effect}
 use Rattle.tp_state.specs.declared.kind.Kind.{Kind}

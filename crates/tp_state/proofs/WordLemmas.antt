@@ -3,9 +3,9 @@ use Rattle.std.proofs.Common.{◌≡◌, ◌⊎◌, inl, inr, w32, ℕ, suc, ◌
 use Rattle.std.proofs.lemmas.Int.{ints, to_z_pos}
 use Rattle.std.proofs.lemmas.Bool.{cases_lt}
 use Rattle.std.proofs.lemmas.Bool.Decides.{nat_tests}
-use Rattle.tp_decode.specs.Words.{signed, low_word}
+use Rattle.tp_words.specs.Words.{signed, low_word}
 use Rattle.tp_image.specs.Image.{ImageValue}
-use Rattle.tp_step.specs.Numbers.{overflows, words_on, least_integer, greatest_integer}
+use Rattle.tp_words.specs.Numbers.{overflows, words_on, least_integer, greatest_integer}
 use Rattle.tp_step.specs.State.{mem_start, in_workspace, is_word}
 use Rattle.tp_state.specs.Fits.{word_address}
 

@@ -1,7 +1,7 @@
 -- The edges of instructions and what instructions do.
 use Rattle.std.specs.Prelude.{◌≡◌, ℕ, pos, ◌-ℤ◌, List, Some}
 use Rattle.std.specs.Option.{option_map}
-use Rattle.tp_decode.specs.Words.{signed}
+use Rattle.tp_words.specs.Words.{signed}
 use Rattle.tp_decode.specs.declared.instr.Instr.{Instr}
 use Rattle.tp_decode.specs.declared.instr.Instr.TheVariants.{Lend}
 use Rattle.tp_flow.specs.declared.edge.Edge.{Edge}

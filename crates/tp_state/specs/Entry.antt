@@ -1,6 +1,6 @@
 -- What is known before the first instruction.
 use Rattle.std.specs.Prelude.{◌-◌, pos, List, ◌++◌, map, length, replicate}
-use Rattle.tp_decode.specs.Words.{signed}
+use Rattle.tp_words.specs.Words.{signed}
 use Rattle.tp_image.specs.Image.{ImageValue}
 use Rattle.tp_state.specs.declared.kind.Kind.TheVariants as kind
 use Rattle.tp_state.specs.declared.cell.Cell.{Cell}

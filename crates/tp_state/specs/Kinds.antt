@@ -4,7 +4,7 @@ use Rattle.std.specs.Prelude.{Ok, Err, FitsSigned}
 use Rattle.std.specs.Ordering.{int_eq}
 use Rattle.std.specs.Int.{w32, int_min, int_max}
 use Rattle.tp_image.specs.Image.{ImageValue}
-use Rattle.tp_step.specs.Numbers.{least_integer, greatest_integer, overflows}
+use Rattle.tp_words.specs.Numbers.{least_integer, greatest_integer, overflows}
 use Rattle.tp_state.specs.declared.kind.Kind.{Kind}
 use Rattle.tp_state.specs.declared.kind.Kind.TheVariants.{Undef, Int, Ptr, BytePtr}
 use Rattle.tp_state.specs.declared.fault.StateCode.{StateCode}

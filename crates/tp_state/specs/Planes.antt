@@ -3,7 +3,7 @@ use Rattle.std.specs.Prelude.{◌≡◌, ℕ, ◌+◌, ◌-◌, ◌*◌, ◌/◌
 use Rattle.std.specs.Prelude.{if◌then◌else◌, List, map, length, slice_index_or, bit_and, bit_or, bit_xor, ◌⊎◌}
 use Rattle.std.specs.Int.{bit_at}
 use Rattle.std.specs.List.{range_with_len}
-use Rattle.tp_decode.specs.Words.{signed}
+use Rattle.tp_words.specs.Words.{signed}
 use Rattle.tp_state.specs.declared.cell.Cell.{Cell}
 use Rattle.tp_state.specs.declared.cell.Cell.TheVariants.{Undef, Any, Known, Index, Count}
 use Rattle.tp_state.specs.declared.planes.Bits.{Bits}
@@ -93,7 +93,7 @@ pub record IsWhole (values : List ℕ) (planes : List Bits) : Type 0 where
   pub padded : (x : ℕ) → length values ≤ x → x < 64 * length planes → cell_in values planes x ≡ Undef
   pub rows : (x : ℕ) → x < length values → HasByteRow (cell_in values planes x)
 
--- so many words are known, with the values that they have; and behind these nothing is
+-- this many words are known, with the values that they have; and behind these nothing is
 abbrev pub AreKnown : ℕ → List Bits → Type 0
 AreKnown words planes =
     (values : List ℕ) (i : ℕ) → i < words → cell_in values planes i ≡ cell_of false false (slice_index_or values i 0)

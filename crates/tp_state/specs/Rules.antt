@@ -10,7 +10,7 @@ use Rattle.std.specs.Prelude.{if◌then◌else◌, ℤ, pos, negsuc, ◌+ℤ◌,
 use Rattle.std.specs.Prelude.{replicate, slice_get, slice_set, Option, Result, Ok, Err}
 use Rattle.std.specs.Ordering.{int_eq}
 use Rattle.std.specs.Option.{option_and_then}
-use Rattle.tp_decode.specs.Words.{signed}
+use Rattle.tp_words.specs.Words.{signed}
 use Rattle.tp_decode.specs.declared.instr.Instr.{Instr}
 use Rattle.tp_decode.specs.declared.instr.Instr.TheVariants.{Jump, Ldlp, Ldnl, Ldc, Ldnlp, Ldl, Adc, Cj, Ajw, Eqc, Stl}
 use Rattle.tp_decode.specs.declared.instr.Instr.TheVariants.{Stnl, Rev, Lb, Bsub, Diff, Add, Input, Prod, Gt, Wsub}
@@ -22,7 +22,7 @@ use Rattle.tp_image.specs.Image.{ImageValue}
 use Rattle.tp_flow.specs.declared.edge.Edge.{Edge}
 use Rattle.tp_flow.specs.declared.edge.Edge.TheVariants.{Taken, Out}
 use Rattle.tp_flow.specs.NestRanges.{ranges, number_ended_at}
-use Rattle.tp_step.specs.Numbers.{least_integer}
+use Rattle.tp_words.specs.Numbers.{least_integer}
 use Rattle.tp_step.specs.Effects.{link0_output, link1_output, link0_input, most_trace_message, has_move}
 use Rattle.tp_state.specs.declared.kind.Kind.{Kind}
 use Rattle.tp_state.specs.declared.kind.Kind.TheVariants as kind
@@ -213,7 +213,7 @@ message_in image x n = unless S3 (nat_le (x + n) image.workspace)
 abbrev pub channel : ℕ → ℤ
 channel address = signed address
 
--- the words of a trace message of so many bytes: 1 to 64
+-- the words of a trace message of this many bytes: 1 to 64
 abbrev pub is_trace_length : ℕ → Bool
 is_trace_length n = (n % 4 == 0) && nat_le 4 n && nat_le n most_trace_message
 

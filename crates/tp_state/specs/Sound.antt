@@ -5,7 +5,7 @@ use Rattle.tp_decode.specs.declared.instr.Instr.{Instr}
 use Rattle.tp_decode.specs.Table.{entry as code_entry}
 use Rattle.tp_image.specs.declared.image.LoopRow.{LoopRow}
 use Rattle.tp_image.specs.Image.{ImageValue}
-use Rattle.tp_step.specs.Numbers.{least_integer, greatest_integer}
+use Rattle.tp_words.specs.Numbers.{least_integer, greatest_integer}
 use Rattle.tp_state.specs.declared.kind.Kind.{Kind}
 use Rattle.tp_state.specs.declared.kind.Kind.TheVariants as kind
 use Rattle.tp_state.specs.declared.cell.Cell.{Cell}

@@ -1,4 +1,4 @@
-//! What is known of a workspace word.
+//! Abstract values of workspace words.
 
 ghost use Rattle.std.specs.Prelude.{◌≡◌, ◌≤◌, ◌≤ℤ◌, ◌^◌, ◌-◌, pos};
 ghost use Rattle.tp_flow.specs.RowRules.{last_index};
@@ -11,7 +11,7 @@ use crate::kind::Kind;
 use crate::ranges::FULL;
 use tp_image::{Image, LoopRow};
 
-/// What is known of a workspace word.
+/// The abstract value of a workspace word.
 #[derive(Clone, Copy, Debug, PartialEq, Eq)]
 pub enum Cell {
     /// Nothing: a byte of it may be undefined.
@@ -34,7 +34,7 @@ impl Cell {
         !matches!(self, Cell::Index(_) | Cell::Count(_))
     }
 
-    /// What is known of a copy of the word.
+    /// The abstract value of a copy of the word.
     pub(crate) fn copied(self) -> Cell
         ensures { result ≡ copied self }
     {
@@ -66,7 +66,7 @@ impl Cell {
         }
     }
 
-    /// What is read from the word.
+    /// The abstract value of a register that is loaded with the word.
     #[tactic(auto, unfolding(crate::specs::CellRules::read))]
     pub(crate) fn read(self, image: &Image) -> Result<Kind, StateCode>
         requires { HasGoodLoops image.now }

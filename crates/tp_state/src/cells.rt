@@ -1,4 +1,4 @@
-//! What is known of the words of a workspace.
+//! Abstract values of the words of a workspace.
 
 ghost use Rattle.std.specs.Prelude.{◌≡◌, ◌+◌, ◌≤◌, ◌<◌, length, map, replicate, take, drop, slice_set, min, IsTrue};
 ghost use Rattle.std.specs.Prelude.{IfOk, ◌++◌, ◌-◌, true, false};
@@ -17,7 +17,7 @@ use std::alloc::{AllocError, Global};
 use std::marker::Model;
 use tp_image::Image;
 
-/// What is known of each workspace word, by its number: a contract sees the list of these.
+/// The abstract value of each workspace word, by its number: a contract sees the list of these.
 ///
 /// Two bits of each word say which cell it is, in planes: 64 words are joined or compared at once. Beside them
 /// is a value for each word, which means something only where a word is known or a live control word.
@@ -40,7 +40,7 @@ impl Model for Cells {
 }
 
 impl Cells {
-    /// What is known of a word; nothing of a word outside the workspace.
+    /// The abstract value of a word; `Undef` outside the workspace.
     pub fn get(&self, x: usize) -> Cell
         ensures { result ≡ cell_at self.now x }
     {
@@ -81,7 +81,7 @@ impl Cells {
         set_word(&mut self.values, &mut self.planes, x, cell);
     }
 
-    /// What is known of a worker's words before its first instruction.
+    /// The abstract values of a worker's words before its first instruction.
     pub(crate) fn entry(alloc: Global, image: &Image) -> Result<Cells, AllocError>
         ensures { IfOk result (λ cells. cells ≡ first_cells image.now) }
     {
@@ -122,7 +122,7 @@ impl Cells {
         set_planes(&mut self.planes, &others.planes);
     }
 
-    /// What holds of both, word by word. Where words that have a value in both are known to have the same, no value is
+    /// The join of both, word by word. Where words that have a value in both are known to have the same, no value is
     /// looked at. It answers whether anything changed.
     pub(crate) fn join(&mut self, others: &Cells, agree: bool) -> bool
         requires sized { length others.now ≡ length self.old }
@@ -200,7 +200,7 @@ fn part(len: usize, x: usize, n: usize) -> (usize, usize)
     (first, first + n.min(len - first))
 }
 
-/// What is known of a word; nothing of a word outside the workspace.
+/// The abstract value of a word; `Undef` outside the workspace.
 #[tactic(auto, using(crate::proofs::SeenLemmas::length_seen))]
 fn word_at(values: &[u32], planes: &[Bits], x: usize) -> Cell
     requires { IsWhole values.now planes.now }
@@ -250,7 +250,7 @@ fn first_values(alloc: Global, initial: &[u32], words: usize) -> Result<Vec<u32>
     Ok(values)
 }
 
-/// What holds of both, word by word. Where words that have a value in both are known to have the same, no value is
+/// The join of both, word by word. Where words that have a value in both are known to have the same, no value is
 /// looked at. It answers whether anything changed.
 #[tactic(auto, using(crate::proofs::SeenLemmas::length_seen))]
 fn join_words(

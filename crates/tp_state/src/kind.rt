@@ -1,4 +1,4 @@
-//! What is known of a register.
+//! Abstract values of registers.
 
 ghost use Rattle.std.specs.Prelude.{◌≡◌, ◌<◌, ◌^◌, IfOk};
 ghost use Rattle.tp_state.specs.Order.{kind_below, join_kinds};
@@ -8,7 +8,7 @@ ghost use Rattle.tp_state.specs.Kinds.{HasWordEnds};
 use crate::cell::Cell;
 use crate::fault::StateCode;
 
-/// What is known of a register.
+/// The abstract value of a register.
 #[derive(Clone, Copy, Debug, PartialEq, Eq)]
 pub enum Kind {
     /// Nothing: it may be undefined.
@@ -24,7 +24,7 @@ pub enum Kind {
 impl Kind {
     ghost use Rattle.tp_state.specs.CellRules.{written};
 
-    /// What is known of a word that takes it.
+    /// The abstract value of a word that takes the register's.
     pub(crate) fn written(self) -> Cell
         ensures { result ≡ written self }
     {

@@ -1,4 +1,4 @@
-//! What is known after an instruction.
+//! The transfer function, as a value.
 
 ghost use Rattle.std.specs.Prelude.{◌≡◌, Ok, IfOk, IfErr};
 ghost use Rattle.tp_flow.specs.NestRanges.{ranges};
@@ -15,7 +15,7 @@ use tp_image::Image;
 
 /// The transfer function: what is known after the instruction at an address, on an edge that it has, where the next
 /// instruction is behind it; stopp, which has no edge, is asked with Next and returns the state. Fails at the
-/// instruction's address. [`State::go_on`] is the same in place.
+/// instruction's address. [`State::transfer`] is the same in place.
 pub fn after(
     alloc: Global,
     state: &State,
@@ -34,7 +34,7 @@ pub fn after(
     ensures refused { IfErr result (IsFaultAt at (after image.now at next instr edge state.now)) }
 {
     let mut state = state.copy_of(alloc)?;
-    match state.go_on(at, next, instr, edge, image, nest) {
+    match state.transfer(at, next, instr, edge, image, nest) {
         Ok(()) => Ok(state),
         Err(code) => Err(StateFault::Refused { code, place: at }),
     }

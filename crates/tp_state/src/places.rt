@@ -81,7 +81,7 @@ pub(crate) fn bytes_on(image: &Image, p: (u64, u64), n: (i32, i32)) -> Result<(u
     Ok((first, last))
 }
 
-/// What is n words on from a register: a place in the workspace, or a number.
+/// The value n words on from a register: a place in the workspace, or a number.
 #[tactic(auto, unfolding(crate::specs::Rules::words_further))]
 pub(crate) fn words_further(image: &Image, n: i32, kind: Kind) -> Result<Kind, StateCode>
     ensures { result ≡ words_further image.now n kind }

@@ -211,7 +211,7 @@ impl Bits {
     }
 }
 
-/// The planes of so many words whose values are known.
+/// The planes of this many words whose values are known.
 pub(crate) fn whole_planes(words: usize) -> Planes
     requires { words ≤ 512 }
     ensures enough { words ≤ 64 * length result.items }

@@ -22,7 +22,7 @@ pub(crate) fn range(low: i64, high: i64) -> Kind
 }
 
 /// The least range that has four numbers.
-#[tactic(auto, using(crate::proofs::Casts::casts), unfolding(crate::specs::Kinds::hull))]
+#[tactic(auto, using(tp_words::proofs::Casts::casts), unfolding(crate::specs::Kinds::hull))]
 fn hull(a: i64, b: i64, c: i64, d: i64) -> Kind
     ensures { result ≡ hull a b c d }
 {
@@ -30,7 +30,7 @@ fn hull(a: i64, b: i64, c: i64, d: i64) -> Kind
 }
 
 /// Sums of two numbers, as those at the ends of their ranges.
-#[tactic(auto, using(crate::proofs::Casts::casts))]
+#[tactic(auto, using(tp_words::proofs::Casts::casts))]
 pub(crate) fn sums(b: (i32, i32), a: (i32, i32)) -> Kind
     ensures { result ≡ at_ends sum_of b a }
 {
@@ -54,7 +54,7 @@ pub(crate) fn raised(a: (i32, i32), n: i32) -> Kind
 }
 
 /// Differences of two numbers, likewise.
-#[tactic(auto, using(crate::proofs::Casts::casts))]
+#[tactic(auto, using(tp_words::proofs::Casts::casts))]
 pub(crate) fn differences(b: (i32, i32), a: (i32, i32)) -> Kind
     ensures { result ≡ at_ends difference b a }
 {
@@ -90,7 +90,7 @@ fn is_positive(a: (i32, i32)) -> bool
 }
 
 /// Quotients by one divisor above 0; any number by another.
-#[tactic(auto, using(crate::proofs::Casts::casts))]
+#[tactic(auto, using(tp_words::proofs::Casts::casts))]
 pub(crate) fn quotients(b: (i32, i32), a: (i32, i32)) -> Kind
     ensures { result ≡ quotients b a }
 {
@@ -114,7 +114,7 @@ pub(crate) fn remainders(b: (i32, i32), a: (i32, i32)) -> Kind
     }
 }
 
-/// What has the bits of two numbers in common.
+/// The bits that two numbers have in common.
 pub(crate) fn conjunctions(b: (i32, i32), a: (i32, i32)) -> Kind
     ensures { result ≡ conjunctions b a }
 {

@@ -24,7 +24,7 @@ impl State {
     /// The transfer function, in place: what is known after the instruction at an address, on an edge that it has,
     /// where the next instruction is behind it. After a refusal the state is not to be used. It takes no memory.
     #[tactic(auto, unfolding(crate::specs::After::after))]
-    pub fn go_on(
+    pub fn transfer(
         &mut self,
         at: usize,
         next: usize,
@@ -39,12 +39,12 @@ impl State {
         ensures value { answered result self.new ≡ after image.now at next instr edge self.old }
         ensures placed { IsPlaced image.now self.new }
     {
-        self.obey(at, next, instr, edge, image, nest)?;
+        self.apply_rule(at, next, instr, edge, image, nest)?;
         self.enter(image, entered_at(nest, at, next, instr, edge))
     }
 
     /// The instruction's own rule.
-    fn obey(
+    fn apply_rule(
         &mut self,
         at: usize,
         next: usize,

@@ -19,25 +19,25 @@ use std::alloc::{AllocError, Global};
 use tp_image::Image;
 use tp_step::profile::FRAME_WORDS;
 
-/// What is known of a worker before an instruction.
+/// An abstract state: what is known of a worker before an instruction.
 #[derive(Drop)]
 pub struct State {
     /// Wptr, as the number of a workspace word.
     pub wptr: u32,
-    /// What is known of Areg.
+    /// The abstract value of Areg.
     pub a: Kind,
-    /// What is known of Breg.
+    /// The abstract value of Breg.
     pub b: Kind,
-    /// What is known of Creg.
+    /// The abstract value of Creg.
     pub c: Kind,
     /// 0 before the packet, 1 after it, 2 after the result.
     pub phase: u8,
-    /// What is known of the workspace.
+    /// The abstract values of the workspace.
     pub cells: Cells,
 }
 
 impl State {
-    /// What is known before the first instruction of an image's code.
+    /// The state before the first instruction of an image's code.
     pub fn entry(alloc: Global, image: &Image) -> Result<State, AllocError>
         ensures value { IfOk result (λ t. t ≡ entry image.now) }
         ensures placed { IfOk result (IsPlaced image.now) }

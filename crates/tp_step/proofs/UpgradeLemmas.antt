@@ -1,7 +1,7 @@
 -- Steps of an image are steps of the upgraded one.
 use Rattle.std.proofs.Common.{◌≡◌, ℕ, zero, suc, ◌+◌, Bool, true, false, ◌&&◌, not, if◌then◌else◌, pos, List, Option, Some, None, refl, sym, ap, ◌∙◌, subst}
 use Rattle.std.specs.Prelude.{option_and_then, ◌+ℤ◌}
-use Rattle.tp_decode.specs.Words.{signed}
+use Rattle.tp_words.specs.Words.{signed}
 use Rattle.tp_decode.specs.Spelling.{function_of, digit_of, is_pfix, is_nfix}
 use Rattle.tp_decode.specs.Table.{instruction}
 use Rattle.tp_decode.specs.declared.instr.Instr.{Instr}

@@ -8,7 +8,7 @@ use Rattle.std.specs.Option.{option_map_or}
 use Rattle.std.proofs.lemmas.Bool.Decides.{nat_tests}
 use Rattle.std.proofs.lemmas.List.{length-replicate, length-map, length-take-le}
 use Rattle.std.proofs.lemmas.Option.{same_Some}
-use Rattle.tp_decode.specs.Words.{signed, low_word}
+use Rattle.tp_words.specs.Words.{signed, low_word}
 use Rattle.tp_decode.specs.Spelling.{function_of, digit_of, is_pfix, is_nfix, shifted, shifted_complement}
 use Rattle.tp_decode.specs.Table.{instruction}
 use Rattle.tp_decode.specs.declared.instr.Instr.{Instr}
@@ -22,7 +22,7 @@ use Rattle.tp_image.specs.declared.image.Version.TheVariants.{One, Two}
 use Rattle.tp_image.specs.Limits.{most_workspace}
 use Rattle.tp_image.specs.Image.{ImageValue, InRange}
 use Rattle.tp_step.specs.Maybe.{◌>>=◌, ◌>>◌, only_if}
-use Rattle.tp_step.specs.Numbers.{words_on}
+use Rattle.tp_words.specs.Numbers.{words_on}
 use Rattle.tp_step.specs.Memory.{Memory, with_cells, with_bytes, undefined, bytes_at, with_word}
 use Rattle.tp_step.specs.State.{State, mem_start, in_workspace, is_word, load, store, local, descheduled}
 use Rattle.tp_step.specs.Effects.{effect, is_packet, has_move, may_move, is_result, is_trace, sent_on, divided, turn_ended}

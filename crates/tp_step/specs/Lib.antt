@@ -1,6 +1,5 @@
 -- What a reader must believe: clauses of public calls cite it.
 pub mod Maybe
-pub mod Numbers
 pub mod Memory
 pub mod State
 pub mod Effects
@@ -8,7 +7,8 @@ pub mod Steps
 pub mod Runs
 pub mod Lasting
 pub mod Writes
-pub use Rattle.tp_decode.specs.Words
+pub use Rattle.tp_words.specs.Words
+pub use Rattle.tp_words.specs.Numbers
 pub use Rattle.tp_decode.specs.Spelling
 pub use Rattle.tp_decode.specs.Table
 pub use Rattle.tp_image.specs.Image

@@ -2,13 +2,13 @@
 use Rattle.std.specs.Prelude.{◌≡◌, ℕ, ◌+◌, ◌-◌, ◌*◌, ◌<◌, ◌≤◌, ◌⊎◌, List, [], ◌∷◌, All, Option, if◌then◌else◌, ◌||◌}
 use Rattle.std.specs.Prelude.{None}
 use Rattle.std.specs.Option.{option_map_or, option_and_then}
-use Rattle.tp_decode.specs.Words.{signed}
+use Rattle.tp_words.specs.Words.{signed}
 use Rattle.tp_decode.specs.Spelling.{function_of, digit_of, is_pfix, is_nfix}
 use Rattle.tp_decode.specs.Table.{instruction}
 use Rattle.tp_decode.specs.declared.instr.Instr.{Instr}
 use Rattle.tp_decode.specs.declared.instr.Instr.TheVariants.{Jump, Stl, Stnl, Input, Output, Lend, Sb, MoveBytes}
 use Rattle.tp_image.specs.Image.{ImageValue}
-use Rattle.tp_step.specs.Numbers.{words_on}
+use Rattle.tp_words.specs.Numbers.{words_on}
 use Rattle.tp_step.specs.Memory.{Memory}
 use Rattle.tp_step.specs.State.{State, mem_start, local}
 use Rattle.tp_step.specs.Steps.{code_byte}

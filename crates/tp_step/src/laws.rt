@@ -112,7 +112,7 @@ pub fn steps_change_the_workspace_alone()
         steps image n s ≡ Some t → ChangesOnly (workspace image ∷ []) s.memory t.memory }
 {}
 
-/// What an image does, the upgraded image does: its steps are steps of the upgraded one, and so is each run. Nothing
+/// The upgraded image does what the image does: its steps are steps of the upgraded one, and so is each run. Nothing
 /// but move reads the version, and an image of version 1 has no step there, where the upgraded one may have.
 pub fn upgraded_images_do_the_same()
     ensures steps { (image : ImageValue) (n : ℕ) (s t : State) →

@@ -1,4 +1,4 @@
-//! What worker code does when it runs: the transputer's step relation.
+//! The transputer's step relation: what worker code does when it runs.
 //!
 //! The definitions are in `specs/`: the machine's state, the effect of each instruction, a step, being stuck, and the
 //! run of a packet alone. The laws about them are the contracts of the functions of [`laws`]. The numbers that the

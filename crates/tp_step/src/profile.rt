@@ -1,4 +1,4 @@
-//! What the profile fixes in numbers, for the crates that run or judge worker code. The definitions have the same
+//! The profile's numbers, for the crates that run or judge worker code. The definitions have the same
 //! numbers.
 
 ghost use Rattle.std.specs.Prelude.{◌≡◌};

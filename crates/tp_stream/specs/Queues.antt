@@ -75,7 +75,7 @@ IsNext v End = Unit {0}
 abbrev pub Took : PassView → Item → PassView → Type 0
 Took v x w = (w ≡ after_take v x) × IsNext v x
 
--- so many numbers, from `from` on, and then so many marks
+-- this many numbers, from `from` on, and then this many marks
 abbrev pub queue : ℕ → ℕ → ℕ → List Item
 queue from count marks = map (λ n. Number n) (numbers_from from count) ++ replicate marks End
 

@@ -169,7 +169,7 @@ NextAfter before v claim.Stopped w =
     (v.ended ≡ 0)
     × (((v.seen.stop ≡ 1) × Makes v [] w) ⊎ ((v.seen.stop ≡ 0) × Makes v (before ++ sees_stop ∷ []) w))
 
--- it may have found the queue empty, so many times, and looked at the stop mark each time
+-- it may have found the queue empty, this many times, and looked at the stop mark each time
 abbrev pub NextMakes : View → Claim → View → Type 0
 NextMakes v claimed w = (tries : ℕ) × NextAfter (replicate tries sees_no_stop) v claimed w
 

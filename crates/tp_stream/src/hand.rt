@@ -21,7 +21,7 @@ pub enum Fed {
     Over,
 }
 
-/// What became of a stream's packets.
+/// The ends of a stream's packets.
 #[derive(Clone, Copy, Debug, PartialEq, Eq)]
 pub struct StreamLedger {
     /// How many packets were pushed.

@@ -18,7 +18,7 @@ use std::sync::Wait;
 /// How many items the queue has room for.
 pub const CAPACITY: usize = 32;
 
-/// What the queue holds.
+/// An item of the queue.
 #[derive(Clone, Copy)]
 pub enum Item {
     /// A packet, by its number.
@@ -27,7 +27,7 @@ pub enum Item {
     End,
 }
 
-/// What a pass knows: the stream's sizes, its part of the queue, whether it feeds, how many
+/// The knowledge of a pass: the stream's sizes, its part of the queue, whether it feeds, how many
 /// packets and marks it pushed, which numbers it popped, and how many marks. For contracts and
 /// proofs alone: no value of it is ever made.
 pub struct PassView {
@@ -147,7 +147,7 @@ pub type Queue = RuledArrayQueue<Item, PassView, InOrder>;
 
 pub type QueuePass = Pass<Item, PassView>;
 
-/// A queue for so many packets and members, with the pass that feeds and the first of the hands.
+/// A queue for this many packets and members, with the pass that feeds and the first of the hands.
 pub fn open_queue(
     alloc: Global,
     packets: u32,

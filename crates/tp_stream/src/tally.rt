@@ -70,7 +70,7 @@ pub type Tally = Table<(), View, Size, ThreeWords, Global>;
 
 pub type Token = Seat<(), View>;
 
-/// The words of a stream for so many packets, with so many seats in one.
+/// The words of a stream for this many packets, with this many seats in one.
 pub fn open_tally(alloc: Global, packets: u32, seats: u32) -> Result<(Tally, Token), AllocError>
     requires { seats ≤ 65 }
     ensures words { IfOk result (λ r. (r.0.shared.table_id.words ≡ 3) × (r.0.shared.table_id.slots ≡ 0)) }

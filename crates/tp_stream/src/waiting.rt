@@ -12,7 +12,7 @@ use std::sync::atomic::{AtomicU64, Ordering};
 use std::thread::Parker;
 use std::time::Duration;
 
-/// So many numbers that one side has moved wake the other.
+/// This many numbers that one side has moved wake the other.
 const WAKE_EVERY: u32 = CAPACITY as u32 / 2;
 
 /// The longest sleep, in microseconds: no wait depends on a wake.

@@ -49,7 +49,7 @@ said program loops code = record {
   code = code;
 }
 
--- what a program says, where its lines are so many bytes long
+-- what a program says, where its lines are this many bytes long
 abbrev pub assembled : Program → List ℕ → ImageValue
 assembled program lengths =
     said program (map (row_of (addresses_from 0 lengths)) program.loops.items) (code_of lengths program.lines.items)

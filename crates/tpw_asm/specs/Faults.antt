@@ -14,7 +14,7 @@ use Rattle.tpw_asm.specs.declared.fault.LineFault.TheVariants.{TooWide, NoPlace,
 use Rattle.tpw_asm.specs.declared.fault.AssemblyFault.{AssemblyFault}
 use Rattle.tpw_asm.specs.declared.fault.AssemblyFault.TheVariants.{Line as LineRefused, Row, Narrow}
 
--- of a way from one place to another, among so many lines
+-- of a way from one place to another, among this many lines
 abbrev pub way_fault : ℕ → ℕ → ℕ → Option LineFault
 way_fault count from to = if nat_lt count to then Some NoPlace else if nat_lt to from then Some Backward else None
 
@@ -29,7 +29,7 @@ line_fault count number (Byte byte) = None
 line_fault count number (Spelled operation bytes) =
     if nat_lt 8 (unwrap_or bytes 0) then Some TooWide else operation_fault count number operation
 
--- the fault of the first line that has one, in a program of so many lines; the first of these has a number
+-- the fault of the first line that has one, in a program of this many lines; the first of these has a number
 abbrev pub first_fault : ℕ → ℕ → List Line → Option AssemblyFault
 first_fault count number [] = None
 first_fault count number (line ∷ lines) =
@@ -40,7 +40,7 @@ first_fault count number (line ∷ lines) =
 abbrev pub AreSound : List Line → Type 0
 AreSound lines = first_fault (length lines) 0 lines ≡ None
 
--- a place behind the last one, among so many lines
+-- a place behind the last one, among this many lines
 abbrev pub is_behind : ℕ → Spot → Bool
 is_behind count (Place place) = nat_lt count place
 is_behind count (Address address) = false

@@ -17,7 +17,7 @@ use Rattle.tpw_asm.specs.declared.program.Program.{Program}
 use Rattle.tpw_asm.specs.Layout.{addresses_from, IsLeastLayout}
 use Rattle.tpw_asm.specs.CodeLines.{AreLinesOf}
 
--- the place that lies so many bytes behind another
+-- the place that lies this many bytes behind another
 abbrev pub place_ahead : List ℕ → ℕ → ℤ → Option ℕ
 place_ahead addresses from (pos bytes) =
     option_map (λ k. from + k)

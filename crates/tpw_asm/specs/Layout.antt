@@ -10,7 +10,7 @@ use Rattle.tpw_asm.specs.declared.program.Operation.TheVariants.{Plain, JumpTo, 
 use Rattle.tpw_asm.specs.declared.program.Line.{Line}
 use Rattle.tpw_asm.specs.declared.program.Line.TheVariants.{Byte, Spelled}
 
--- the addresses of the places of lines that are so many bytes long, the first of which is at an address: one more
+-- the addresses of the places of lines that are this many bytes long, the first of which is at an address: one more
 -- than lines
 abbrev pub addresses_from : ℕ → List ℕ → List ℕ
 addresses_from at [] = at ∷ []
@@ -27,7 +27,7 @@ instr_at addresses line (JumpTo target) = Jump (pos (distance addresses (line + 
 instr_at addresses line (CjTo target) = Cj (pos (distance addresses (line + 1) target))
 instr_at addresses line (Distance from to) = Ldc (pos (distance addresses from to))
 
--- a spelling filled up by pfix 0 to so many bytes
+-- a spelling filled up by pfix 0 to this many bytes
 abbrev pub filled : ℕ → List ℕ → List ℕ
 filled bytes spelling = replicate (bytes - length spelling) 0x20 ++ spelling
 
@@ -43,11 +43,11 @@ spelled_from addresses number [] = []
 spelled_from addresses number (line ∷ lines) = spelled_at addresses number line ∷ spelled_from addresses (number + 1)
     lines
 
--- what lines that are so many bytes long are spelled as
+-- what lines that are this many bytes long are spelled as
 abbrev pub spellings : List ℕ → List Line → List (List ℕ)
 spellings lengths lines = spelled_from (addresses_from 0 lengths) 0 lines
 
--- a layout: where lines are so many bytes long, that many bytes spell them
+-- a layout: where lines are this many bytes long, that many bytes spell them
 abbrev pub IsLayout : List Line → List ℕ → Type 0
 IsLayout lines lengths = map length (spellings lengths lines) ≡ lengths
 

@@ -13,7 +13,7 @@ pub record AreAddresses (addresses : List ℕ) : Type 0 where
   pub rising : (from to : ℕ) → from ≤ to → to < length addresses → slice_index addresses from ≤ slice_index addresses to
   pub small : (place : ℕ) → place < length addresses → slice_index addresses place < 2 ^ 16
 
--- the least layout, whose code has at most so many bytes
+-- the least layout, whose code has at most this many bytes
 pub record IsLaidOut (lines : List Line) (most : ℕ) (layout : Layout) : Type 0 where
   pub least : IsLeastLayout lines layout.lengths.items
   pub addresses : layout.addresses.items ≡ addresses_from 0 layout.lengths.items

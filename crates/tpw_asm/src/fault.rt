@@ -8,7 +8,7 @@ use thiserror::Error;
 use tp_image::ImageCode;
 use tp_image::limits::{MAX_CODE_BYTES_1, MAX_CODE_BYTES_2};
 
-/// What is wrong with a line by itself.
+/// Why a line is wrong by itself.
 #[derive(Clone, Copy, Debug, PartialEq, Eq, Error)]
 pub enum LineFault {
     /// More than 8 bytes are stated.

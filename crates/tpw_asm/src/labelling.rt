@@ -19,7 +19,7 @@ fn place_with(addresses: &[u32], address: u32) -> Option<usize>
     addresses.iter().position(|a| *a == address)
 }
 
-/// The place that lies so many bytes behind another.
+/// The place that lies this many bytes behind another.
 fn place_behind(addresses: &[u32], from: usize, bytes: u32) -> Option<usize>
     requires addresses { AreAddresses addresses.now }
     requires within { from < length addresses.now }

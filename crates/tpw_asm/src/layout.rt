@@ -93,7 +93,7 @@ fn lengths_of(alloc: Global, addresses: &[u32], lines: &[Line]) -> Result<Vec<u8
     Ok(lengths)
 }
 
-/// The least layout of lines, if its code has at most so many bytes. It begins with a byte for each line, and lines
+/// The least layout of lines, if its code has at most this many bytes. It begins with a byte for each line, and lines
 /// only grow.
 pub fn least_layout(alloc: Global, lines: &[Line], most: usize) -> Result<Layout, AssemblyFault>
     requires most { most ≤ MAX_BYTES }

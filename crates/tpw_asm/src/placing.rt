@@ -9,7 +9,7 @@ use crate::fault::{AssemblyFault, LineFault};
 use crate::program::{Line, Loop, Operation, Spot};
 use tp_prefix::MAX_SPELLING;
 
-/// What is wrong with a way from one place to another of a program with so many lines.
+/// The fault of a way from one place to another of a program with this many lines, if there is one.
 fn way_fault(count: usize, from: usize, to: usize) -> Option<LineFault>
     ensures { result ≡ way_fault count from to }
 {
@@ -22,7 +22,7 @@ fn way_fault(count: usize, from: usize, to: usize) -> Option<LineFault>
     }
 }
 
-/// What is wrong with an operation in a line.
+/// The fault of an operation in a line, if there is one.
 fn operation_fault(count: usize, line: usize, operation: Operation) -> Option<LineFault>
     requires { line < count }
     ensures { result ≡ operation_fault count line operation }
@@ -34,7 +34,7 @@ fn operation_fault(count: usize, line: usize, operation: Operation) -> Option<Li
     }
 }
 
-/// What is wrong with a line by itself.
+/// The fault of a line by itself, if there is one.
 fn line_fault(count: usize, place: usize, line: Line) -> Option<LineFault>
     requires { place < count }
     ensures { result ≡ line_fault count place line }
@@ -79,7 +79,7 @@ fn is_row_behind(count: usize, row: &Loop) -> bool
     is_behind(count, row.head) || is_behind(count, row.lend)
 }
 
-/// Finds the first loop with a place behind the last one of a program with so many lines.
+/// Finds the first loop with a place behind the last one of a program with this many lines.
 pub fn check_rows(count: usize, loops: &[Loop]) -> Result<(), AssemblyFault>
     ensures { result_err result ≡ first_row count 0 loops.now }
 {

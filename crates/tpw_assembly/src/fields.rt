@@ -17,12 +17,9 @@ fn asked_of(code: ImageCode, version: Version) -> Option<(&'static str, &'static
     match (code, version) {
         (ImageCode::F4, Version::One) => Some((
             "workspace",
-            "workspace: 8 to 256 words, those below the start word and the locals counted; version 2 has 512 words",
+            "workspace: 8 to 256 words; version 2 has 512 words",
         )),
-        (ImageCode::F4, Version::Two) => Some((
-            "workspace",
-            "workspace: 8 to 512 words, those below the start word and the locals counted",
-        )),
+        (ImageCode::F4, Version::Two) => Some(("workspace", "workspace: 8 to 512 words")),
         (ImageCode::F5, _) => Some(("start", "start: a word of the workspace, 5 or more")),
         (ImageCode::F6, _) => Some(("packet", "packet: 1 to 64 words")),
         (ImageCode::F7, _) => Some(("result", "result: 1 to 64 words")),
@@ -59,18 +56,7 @@ fn position_of(alloc: Global, text: &str, word: &str) -> Result<Option<Position>
 /// The message for a text without code.
 const NO_CODE: &str = "the text has no instruction";
 
-/// The statement that makes a workspace large that none states: `start` where it is beyond any by itself, else `local`.
-fn larger(program: &Program) -> &'static str {
-    let (_, words) = program.version.most();
-    if program.start >= words {
-        "start"
-    } else {
-        "local"
-    }
-}
-
-/// The same failure, of a field that is out of range at the statement that says it: a workspace that none says is as
-/// large as its locals need.
+/// The same failure, of a field that is out of range at the statement that says it.
 fn at_statement(
     alloc: Global,
     text: &str,
@@ -90,11 +76,7 @@ fn at_statement(
     let Some((word, range)) = asked_of(code, program.version) else {
         return Ok(whole);
     };
-    let position = match position_of(alloc, text, word)? {
-        None if code == ImageCode::F4 => position_of(alloc, text, larger(program))?,
-        position => position,
-    };
-    match position {
+    match position_of(alloc, text, word)? {
         Some(position) => Ok(Failure::Input(InputFault::Field(position, range))),
         None => Ok(whole),
     }

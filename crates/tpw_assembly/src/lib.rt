@@ -2,8 +2,8 @@
 #![tactic(auto)]
 
 mod assembly;
+mod expected;
 mod fields;
-mod hints;
 mod reports;
 mod symbols;
 

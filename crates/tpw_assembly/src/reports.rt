@@ -1,6 +1,6 @@
 //! Faults of a text as diagnostics: all that it has.
 
-use crate::hints::{expected_at, help_at};
+use crate::expected::expected_at;
 use std::alloc::{AllocError, Global};
 use tpw_debug::{Diagnostic, MAX_DIAGNOSTICS, Severity, Span};
 use tpw_files::{Failure, InputFault};
@@ -22,7 +22,7 @@ pub fn line_of(text: &str, number: usize) -> &str {
 
 /// Whether a character is a word by itself, or ends one.
 fn ends_word(c: char) -> bool {
-    c.is_ascii_whitespace() || matches!(c, ',' | ':' | '[' | ']' | '=' | '+' | '/' | ';')
+    c.is_ascii_whitespace() || matches!(c, ':' | '/' | ';')
 }
 
 /// The word of a line at a column.
@@ -53,14 +53,10 @@ fn without_lines(alloc: Global, text: &str, left_out: &[usize]) -> Result<String
     Ok(rest)
 }
 
-/// Whether a fault of a name comes from a line that is left out, which has the name.
+/// Whether a fault of a label comes from a line that is left out, which has the label.
 fn is_caused(text: &str, left_out: &[usize], fault: SourceFault) -> bool {
-    let is_of_name = matches!(
-        fault.fault,
-        TextFault::NoLocal | TextFault::NoLabel | TextFault::NoLoop | TextFault::NoEnd
-    );
     let word = word_at(line_of(text, fault.line), fault.column);
-    is_of_name
+    fault.fault == TextFault::NoLabel
         && left_out
             .iter()
             .any(|number| has_word(line_of(text, *number), word))
@@ -76,12 +72,12 @@ fn span_of(text: &str, position: Position) -> Span {
     }
 }
 
-/// The message of a fault: with the word at its place, and the line above that gives a name given twice.
+/// The message of a fault: with the word at its place, and the line above that gives a label given twice.
 fn message_of(alloc: Global, text: &str, fault: SourceFault) -> Result<String, AllocError> {
     let kind = fault.fault;
     let word = word_at(line_of(text, fault.line), fault.column);
     let above = match kind {
-        TextFault::Twice => line_giving(alloc, text, word)?,
+        TextFault::Twice => line_giving(text, word),
         _ => None,
     };
     match above {
@@ -98,56 +94,22 @@ fn diagnostic_of(alloc: Global, text: &str, fault: SourceFault) -> Result<Diagno
         span: span_of(text, Position { line, column }),
         message: message_of(alloc, text, fault)?,
         expected: expected_at(alloc, text, fault)?,
-        help: help_at(text, fault),
+        help: None,
         nearest: None,
     })
 }
 
-/// Appends the names that a line gives: a label's, and those behind `local`, `const` and `for`.
-fn push_names<'a>(names: &mut Vec<&'a str>, line: &'a str) -> Result<(), AllocError> {
-    let said = line.split("--").next().unwrap_or("");
-    let behind = match said.split_once(':') {
-        Some((label, behind)) => {
-            names.push(label.trim_ascii())?;
-            behind
-        }
-        None => said,
-    };
-    let Some((first, rest)) = behind
-        .trim_ascii()
-        .split_once(|c: char| c.is_ascii_whitespace())
-    else {
-        return Ok(());
-    };
-    if !["local", "const", "for"]
-        .iter()
-        .any(|word| first.eq_ignore_ascii_case(*word))
-    {
-        return Ok(());
-    }
-    push_listed(names, rest)
-}
-
-/// Appends the names of a list: of each item the first word.
-fn push_listed<'a>(names: &mut Vec<&'a str>, list: &'a str) -> Result<(), AllocError> {
-    for item in list.split(',') {
-        let item = item.trim_ascii();
-        let name = item.split(|c: char| ends_word(c)).next().unwrap_or("");
-        names.push(name)?;
-    }
-    Ok(())
-}
-
-/// The number of the first line that gives a name.
-fn line_giving(alloc: Global, text: &str, name: &str) -> Result<Option<usize>, AllocError> {
+/// The number of the first line that gives a label.
+fn line_giving(text: &str, name: &str) -> Option<usize> {
     for (i, line) in text.lines().enumerate() {
-        let mut names = Vec::new(alloc);
-        push_names(&mut names, line)?;
-        if names.contains(&name) {
-            return Ok(Some(i.saturating_add(1)));
+        let said = line.split("--").next().unwrap_or("");
+        if let Some((label, _)) = said.split_once(':') {
+            if label.trim_ascii() == name {
+                return Some(i.saturating_add(1));
+            }
         }
     }
-    Ok(None)
+    None
 }
 
 /// The next fault of a text, where some of its lines are left out.

@@ -1,9 +1,9 @@
 //! Debug information of an assembly text.
 
 use std::alloc::Global;
-use tpw_debug::{DebugInfo, Label, Named, Printable, Statement};
+use tpw_debug::{DebugInfo, Label, Printable, Statement};
 use tpw_files::{Failure, Input};
-use tpw_text::{Local, Position, Source, statement_of};
+use tpw_text::{Position, Source, statement_of};
 
 /// The statements of a text, each at the address of an instruction that it says.
 fn statements_of<'a>(
@@ -48,26 +48,6 @@ fn labels_of<'a>(
     Ok(labels)
 }
 
-/// The names of local words, as names of workspace words.
-fn words_of<'a>(alloc: Global, source: &Source<'a>) -> Result<Vec<Named<'a>>, Failure> {
-    let start = source.program.start as usize;
-    let mut words = Vec::new(alloc);
-    for Local {
-        name,
-        first,
-        words: size,
-    } in &source.locals {
-        words.push(Named {
-            first: start.saturating_add(*first),
-            words: *size,
-            name: *name,
-            from: 0,
-            to: usize::MAX,
-        })?;
-    }
-    Ok(words)
-}
-
 /// Debug information of the text of an input, whose program has its places at these addresses.
 pub fn debug_info<'a>(
     alloc: Global,
@@ -80,6 +60,6 @@ pub fn debug_info<'a>(
         name: format!(in alloc; "{input}")?,
         statements: statements_of(alloc, text, &source.positions, addresses)?,
         labels: labels_of(alloc, source, addresses)?,
-        words: words_of(alloc, source)?,
+        words: Vec::new(alloc),
     })
 }

@@ -8,7 +8,7 @@ use crate::ending::Ending;
 use crate::evaluator::EVAL;
 use crate::explainer::WHY;
 use crate::lister::LIST;
-use crate::options::{FILE, IN_OCCAM};
+use crate::options::{DENY_WARNINGS, FILE, IN_OCCAM};
 use crate::output_options::OutputOptions;
 use crate::profiler::{PROFILE, ProfileOptions, profiling_of};
 use crate::refusal::Refusal;
@@ -26,6 +26,8 @@ pub struct Asked {
     pub task: Task,
     pub input: Input,
     pub language: Language,
+    /// Whether a worker with warnings is refused.
+    pub denies_warnings: bool,
 }
 
 /// A task on a text.
@@ -132,11 +134,13 @@ pub fn asked_by<S: AsStr>(alloc: Global, words: &[S]) -> Result<Asked, Ending> {
     let task = task_of(alloc, name, found)?;
     let input = input_of(alloc, found)?;
     let language = language_of(found, &task, &input);
+    let denies_warnings = !matches!(task, Task::Disassemble) && found.get_flag(DENY_WARNINGS);
     check_standard(&task, &input)?;
     check_language(&task, language)?;
     Ok(Asked {
         task,
         input,
         language,
+        denies_warnings,
     })
 }

@@ -4,7 +4,7 @@ use crate::argument::{Argument, Kind};
 use crate::ending::Ending;
 use crate::options::LINE;
 use crate::refusal::Refusal;
-use crate::shared::{FILE_ARGUMENT, OCCAM_ARGUMENT};
+use crate::shared::{DENY_ARGUMENT, FILE_ARGUMENT, OCCAM_ARGUMENT};
 use crate::subcommand::Subcommand;
 use clap::ArgMatches;
 use std::alloc::Global;
@@ -27,7 +27,7 @@ pub(crate) const ASM_COMMAND: Subcommand = Subcommand {
 Reads a text, in assembly or in occam, and writes its image as hexadecimal on one line.
 Status 1: the text says no worker; standard error names the place, FILE:LINE:COLUMN, and the fault.
 docs/WORKERS.md shows a text.",
-    arguments: &[FILE_ARGUMENT, OCCAM_ARGUMENT, LINE_ARGUMENT],
+    arguments: &[FILE_ARGUMENT, OCCAM_ARGUMENT, DENY_ARGUMENT, LINE_ARGUMENT],
 };
 
 /// The longest name of a session.

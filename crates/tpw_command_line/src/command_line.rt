@@ -14,7 +14,7 @@ use clap::{ArgMatches, Command, Error};
 use std::alloc::Global;
 use std::convert::AsStr;
 
-/// What `--version` says behind the name: the version, the commit where a package is built, and the kit that the proofs
+/// The text of `--version` behind the name: the version, the commit where a package is built, and the kit that the proofs
 /// are made with.
 const VERSION: &str = "0.1 (unreleased, rattle-kit-13f)";
 
@@ -51,8 +51,8 @@ fn program_with_commands<'a>(alloc: Global) -> Result<Command<'a>, Error> {
     Ok(program)
 }
 
-/// What words give, the first of which names the program. Fails with a text that is asked for, with words that are not
-/// taken, or out of memory.
+/// The matches of words, the first of which names the program. Fails with a text that is asked for, with words that are
+/// not taken, or out of memory.
 pub fn matches_of<'a, S: AsStr>(alloc: Global, words: &'a [S]) -> Result<ArgMatches<'a>, Error> {
     program_with_commands(alloc)?.try_get_matches_from(words)
 }

@@ -1,8 +1,8 @@
 //! `eval`, as the command line has it.
 
 use crate::shared::{
-    EXPECT_ARGUMENT, FILE_ARGUMENT, HEX_ARGUMENT, HEX_EXPECT_ARGUMENT, HEX_PACKETS_ARGUMENT,
-    PACKETS_ARGUMENT, RAW_ARGUMENT, TRACE_ARGUMENT, WORDS_ARGUMENT,
+    DENY_ARGUMENT, EXPECT_ARGUMENT, FILE_ARGUMENT, HEX_ARGUMENT, HEX_EXPECT_ARGUMENT,
+    HEX_PACKETS_ARGUMENT, PACKETS_ARGUMENT, RAW_ARGUMENT, TRACE_ARGUMENT, WORDS_ARGUMENT,
 };
 use crate::subcommand::Subcommand;
 
@@ -20,6 +20,7 @@ Status 0: each packet has a result, the one expected. Status 1: not so, or the t
 docs/OCCAM.md has the language.",
     arguments: &[
         FILE_ARGUMENT,
+        DENY_ARGUMENT,
         WORDS_ARGUMENT,
         PACKETS_ARGUMENT,
         HEX_PACKETS_ARGUMENT,

@@ -1,6 +1,6 @@
 //! `list`, as the command line has it.
 
-use crate::shared::{FILE_ARGUMENT, OCCAM_ARGUMENT};
+use crate::shared::{DENY_ARGUMENT, FILE_ARGUMENT, OCCAM_ARGUMENT};
 use crate::subcommand::Subcommand;
 
 /// The name of the command.
@@ -15,5 +15,5 @@ Reads an image as hexadecimal, one line, or a worker in occam or as assembly tex
 instruction bytes of a run, and the bytes of a turn of each loop; and each instruction: its address, its bytes, the most bytes
 that are executed from there to the end of the loop around it, or of the run, and the line of the text that says it.
 Status 0: the image is accepted. Status 1: it is refused, or what is read says none.",
-    arguments: &[FILE_ARGUMENT, OCCAM_ARGUMENT],
+    arguments: &[FILE_ARGUMENT, OCCAM_ARGUMENT, DENY_ARGUMENT],
 };

@@ -6,6 +6,9 @@ pub(crate) const FILE: &str = "file";
 /// The worker is in occam.
 pub(crate) const IN_OCCAM: &str = "occam";
 
+/// A worker with warnings is refused.
+pub(crate) const DENY_WARNINGS: &str = "deny-warnings";
+
 /// A packet.
 pub(crate) const WORDS: &str = "words";
 

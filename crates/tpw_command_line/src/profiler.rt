@@ -4,8 +4,8 @@ use crate::arguments::{members, packet_source};
 use crate::ending::Ending;
 use crate::packet_source::PacketSource;
 use crate::shared::{
-    FILE_ARGUMENT, HEX_PACKETS_ARGUMENT, MEMBERS_ARGUMENT, OCCAM_ARGUMENT, PACKETS_ARGUMENT,
-    WORDS_ARGUMENT,
+    DENY_ARGUMENT, FILE_ARGUMENT, HEX_PACKETS_ARGUMENT, MEMBERS_ARGUMENT, OCCAM_ARGUMENT,
+    PACKETS_ARGUMENT, WORDS_ARGUMENT,
 };
 use crate::subcommand::Subcommand;
 use clap::ArgMatches;
@@ -27,6 +27,7 @@ Status 0: each worker stopped. Status 1: not so, or what is read says no worker.
     arguments: &[
         FILE_ARGUMENT,
         OCCAM_ARGUMENT,
+        DENY_ARGUMENT,
         WORDS_ARGUMENT,
         PACKETS_ARGUMENT,
         HEX_PACKETS_ARGUMENT,

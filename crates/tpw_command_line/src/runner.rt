@@ -6,9 +6,9 @@ use crate::ending::Ending;
 use crate::options::{CHECK, EXPECT, RAW};
 use crate::output_options::OutputOptions;
 use crate::shared::{
-    EXPECT_ARGUMENT, FILE_ARGUMENT, HEX_ARGUMENT, HEX_EXPECT_ARGUMENT, HEX_PACKETS_ARGUMENT,
-    MEMBERS_ARGUMENT, OCCAM_ARGUMENT, PACKETS_ARGUMENT, RAW_ARGUMENT, TRACE_ARGUMENT,
-    WORDS_ARGUMENT,
+    DENY_ARGUMENT, EXPECT_ARGUMENT, FILE_ARGUMENT, HEX_ARGUMENT, HEX_EXPECT_ARGUMENT,
+    HEX_PACKETS_ARGUMENT, MEMBERS_ARGUMENT, OCCAM_ARGUMENT, PACKETS_ARGUMENT, RAW_ARGUMENT,
+    TRACE_ARGUMENT, WORDS_ARGUMENT,
 };
 use crate::subcommand::Subcommand;
 use clap::ArgMatches;
@@ -38,6 +38,7 @@ so, or the worker is refused, as `why` explains it.",
     arguments: &[
         FILE_ARGUMENT,
         OCCAM_ARGUMENT,
+        DENY_ARGUMENT,
         WORDS_ARGUMENT,
         PACKETS_ARGUMENT,
         HEX_PACKETS_ARGUMENT,

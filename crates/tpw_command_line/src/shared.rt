@@ -2,7 +2,8 @@
 
 use crate::argument::{Argument, Kind};
 use crate::options::{
-    EXPECT, FILE, HEX, HEX_EXPECT, HEX_PACKETS, IN_OCCAM, MEMBERS, PACKETS, RAW, TRACE, WORDS,
+    DENY_WARNINGS, EXPECT, FILE, HEX, HEX_EXPECT, HEX_PACKETS, IN_OCCAM, MEMBERS, PACKETS, RAW,
+    TRACE, WORDS,
 };
 
 /// Where a command reads.
@@ -17,6 +18,13 @@ pub(crate) const OCCAM_ARGUMENT: Argument = Argument {
     name: IN_OCCAM,
     kind: Kind::Flag,
     help: "The worker is in occam, as that of a FILE named .occ is",
+};
+
+/// Whether a worker with warnings is refused.
+pub(crate) const DENY_ARGUMENT: Argument = Argument {
+    name: DENY_WARNINGS,
+    kind: Kind::Flag,
+    help: "Refuse a worker in occam with warnings, with status 1",
 };
 
 /// A packet.

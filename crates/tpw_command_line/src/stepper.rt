@@ -9,7 +9,8 @@ use crate::options::{FROM, HEX, NUMBER, UNTIL, WATCH};
 use crate::packet_source::PacketSource;
 use crate::refusal::Refusal;
 use crate::shared::{
-    FILE_ARGUMENT, HEX_PACKETS_ARGUMENT, OCCAM_ARGUMENT, PACKETS_ARGUMENT, WORDS_ARGUMENT,
+    DENY_ARGUMENT, FILE_ARGUMENT, HEX_PACKETS_ARGUMENT, OCCAM_ARGUMENT, PACKETS_ARGUMENT,
+    WORDS_ARGUMENT,
 };
 use crate::subcommand::Subcommand;
 use clap::ArgMatches;
@@ -69,6 +70,7 @@ docs/WORKERS.md reads a run.",
     arguments: &[
         FILE_ARGUMENT,
         OCCAM_ARGUMENT,
+        DENY_ARGUMENT,
         WORDS_ARGUMENT,
         PACKETS_ARGUMENT,
         HEX_PACKETS_ARGUMENT,
@@ -105,7 +107,7 @@ impl Picked {
     }
 }
 
-/// What `step` is to show: a packet's run, from the place that a word names and as far as another, and of it the
+/// The view of `step`: a packet's run, from the place that a word names and as far as another, and of it the
 /// changes of some words.
 #[derive(Drop)]
 pub struct StepOptions {

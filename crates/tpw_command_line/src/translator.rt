@@ -1,6 +1,6 @@
 //! `occam`, as the command line has it.
 
-use crate::shared::FILE_ARGUMENT;
+use crate::shared::{DENY_ARGUMENT, FILE_ARGUMENT};
 use crate::subcommand::Subcommand;
 
 /// The name of the command.
@@ -15,5 +15,5 @@ Reads a text in occam, and writes the assembly text that it becomes, each statem
 same image of both.
 Status 1: the text says no worker; standard error names each place, FILE:LINE:COLUMN, and the fault.
 docs/OCCAM.md has the language.",
-    arguments: &[FILE_ARGUMENT],
+    arguments: &[FILE_ARGUMENT, DENY_ARGUMENT],
 };

@@ -21,6 +21,7 @@ use std::sync::Wait;
 use std::thread::Threads;
 use std::time::Clock;
 use tpw_command_line::{Asked, Ending, Task, asked_by, words_of};
+use tpw_debug::Diagnostic;
 use tpw_files::{Failure, Input, Inputs, Language, Outcome, Terminal};
 use tpw_inputs::{Occam, build, read_occam};
 use tpw_judging::disassemble_image;
@@ -39,6 +40,11 @@ fn read_reported<'a, E: Write>(
     Ok(occam)
 }
 
+/// Whether a worker is refused for its warnings.
+fn is_denied(asked: &Asked, warnings: &[Diagnostic]) -> bool {
+    asked.denies_warnings && !warnings.is_empty()
+}
+
 /// Writes the image that a text says, behind a name where one is given.
 fn assemble<W: Write, E: Write>(
     alloc: Global,
@@ -54,6 +60,9 @@ fn assemble<W: Write, E: Write>(
         Language::Occam => {
             let built = build(alloc, input, Language::Occam, text)?;
             report(alloc, terminal.errors, input, text, built.warnings())?;
+            if is_denied(asked, built.warnings()) {
+                return Ok(Outcome::Bad);
+            }
             check_acceptance(alloc, &built)?;
             write_image(alloc, &built.bytes, writer, name)
         }
@@ -79,14 +88,23 @@ where
         Task::Work(work) => {
             let built = build(alloc, input, asked.language, text)?;
             report(alloc, terminal.errors, input, text, built.warnings())?;
+            if is_denied(asked, built.warnings()) {
+                return Ok(Outcome::Bad);
+            }
             perform_on(rt, inputs, alloc, &built, writer, terminal, asked, work)
         }
         Task::Evaluate(output) => {
             let occam = read_reported(alloc, terminal.errors, input, text)?;
+            if is_denied(asked, &occam.compiled.warnings) {
+                return Ok(Outcome::Bad);
+            }
             evaluate_text(alloc, inputs, &occam, writer, terminal, output)
         }
         Task::Translate => {
             let occam = read_reported(alloc, terminal.errors, input, text)?;
+            if is_denied(asked, &occam.compiled.warnings) {
+                return Ok(Outcome::Bad);
+            }
             Ok(translate(alloc, &occam, writer)?)
         }
         Task::Assemble(name) => Ok(assemble(

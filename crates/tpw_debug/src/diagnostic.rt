@@ -144,6 +144,9 @@ impl fmt::Display for Report<'_> {
                 _ => {}
             }
         }
-        Ok(())
+        match self.diagnostics.len().saturating_sub(MAX_DIAGNOSTICS) {
+            0 => Ok(()),
+            more => write!(f, "{name}: and {more} more\n"),
+        }
     }
 }

@@ -6,7 +6,7 @@ use Rattle.tp_step.specs.State.{State}
 use Rattle.tp_step.specs.Steps.{step, steps}
 use Rattle.tp_step.specs.Runs.{start}
 use Rattle.tp_step.proofs.StepLemmas.{steps_add}
-use Rattle.tp_decode.specs.Words.{low_word}
+use Rattle.tp_words.specs.Words.{low_word}
 use Rattle.tpw_machine.specs.declared.machine.Machine.{Machine}
 use Rattle.tp_outcome.specs.declared.outcome.Outcome.{Outcome}
 use Rattle.tpw_machine.specs.declared.fault.RunFault.{RunFault}

@@ -1,5 +1,5 @@
 //! The instructions that move messages, and the end: each effect is that of the instruction table.
-#![tactic(auto, using(tp_outcome::proofs::Casts::casts), unfolding(tp_step::specs::Effects::effect))]
+#![tactic(auto, using(tp_words::proofs::Casts::casts), unfolding(tp_step::specs::Effects::effect))]
 
 ghost use Rattle.std.specs.Prelude.{◌≡◌, ◌+◌, ◌-◌, ◌*◌, ◌==◌, ◌≤◌, ◌<◌, ◌&&◌, true, if◌then◌else◌, Some, None, Ok};
 ghost use Rattle.std.specs.Prelude.{take, drop, MatchResult};

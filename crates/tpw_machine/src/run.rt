@@ -42,7 +42,7 @@ impl Machine {
     /// Goes on from where the machine is, with the worker in this phase. A debugger or a test uses it, which has set
     /// the registers and the workspace; [`Machine::run_image`] is this from an image's start.
     ///
-    /// What [`Machine::run_image`] says of devices, faults and the limit holds here too, counted from here. After an
+    /// Devices, faults and the limit are as in [`Machine::run_image`], counted from here. After an
     /// outcome, and at the limit, the machine and the phase are where the steps have led. After another fault they are
     /// left between two states.
     pub fn resume<D: LinkDevice>(

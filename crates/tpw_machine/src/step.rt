@@ -14,7 +14,7 @@ use crate::turn::Turn;
 use tp_decode::Instr;
 use tp_image::Image;
 use tp_link::{LinkDevice, Links};
-use tp_outcome::words::{shifted, shifted_complement};
+use tp_prefix::{shifted, shifted_complement};
 
 impl Machine {
     ghost use Rattle.tpw_machine.specs.Meaning.{state_of, Made, Turned, Messages};

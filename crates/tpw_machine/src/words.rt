@@ -1,7 +1,7 @@
 //! Numbers as words.
 
 ghost use Rattle.std.specs.Prelude.{◌≡◌, ◌*◌, ◌%◌, ◌/◌, ◌^◌, ◌<◌, pos, negsuc};
-ghost use Rattle.tp_decode.specs.Words.{low_word};
+ghost use Rattle.tp_words.specs.Words.{low_word};
 
 /// A number as a word.
 pub(crate) fn low_word(n: i32) -> u32

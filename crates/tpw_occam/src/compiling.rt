@@ -31,7 +31,7 @@ const ROOM: u32 = 10_000;
 /// A text, compiled.
 #[derive(Drop)]
 pub struct CompiledText<'t> {
-    /// What the text means.
+    /// The meaning of the text.
     pub core: Process,
     pub program: Program,
     /// The image of the program, accepted or not, and the address of each place of the program.

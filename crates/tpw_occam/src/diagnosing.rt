@@ -3,6 +3,7 @@
 ghost use Rattle.std.specs.Prelude.{◌≤◌, All, IfOk, length};
 ghost use Rattle.tpw_occam.specs.Compilation.{IsPlaced};
 
+use crate::remedies::remedy_of;
 use std::alloc::{AllocError, Global};
 use tpw_debug::{Diagnostic, MAX_DIAGNOSTICS, Severity, Span};
 use tpw_occam_faults::{Fault, FaultKind, Note};
@@ -24,7 +25,7 @@ fn span_of(text: &str, span: TreeSpan) -> Span
     }
 }
 
-/// What is said of a fault. Where an operator is wanted, the token is named that is in its place.
+/// The message of a fault. Where an operator is wanted, it names the token that is in its place.
 fn message_of(
     alloc: Global,
     text: &str,
@@ -82,7 +83,7 @@ pub(crate) fn faults_of(
             span: span_of(text, fault.span),
             message: message_of(alloc, text, kind, fault.span)?,
             expected: None,
-            help: None,
+            help: remedy_of(text, kind, fault.span),
             nearest: owned(alloc, near)?,
         })?;
     }

@@ -10,13 +10,13 @@ use tpw_debug::Diagnostic;
 use tpw_occam_names::Fault as ResolvingFault;
 use tpw_occam_placing::Fault as PlacingFault;
 
-/// What the compiler does wrong with a text. None is known.
+/// A defect of the compiler on a text. None is known.
 #[derive(Clone, Copy, Debug, PartialEq, Eq, Error)]
 pub enum Defect {
     /// The tree that is made of the text is written otherwise.
     #[error("the tree that it makes of the text is written otherwise")]
     Misread,
-    /// What the text says breaks a rule of the language's core.
+    /// The text breaks a rule of the language's core.
     #[error("what it makes of the text is no sound worker")]
     Unsound,
     /// The program that is made has no image.
@@ -33,7 +33,7 @@ pub enum Defect {
 /// Why a text has no program.
 #[derive(Debug, Drop)]
 pub enum OccamFault {
-    /// What is wrong with the text: one diagnostic to twenty.
+    /// The faults of the text: one diagnostic to twenty.
     Refused(Vec<Diagnostic>),
     /// A fault of the compiler.
     Compiler(Defect),

@@ -1,4 +1,4 @@
-//! What follows for batches of compiled texts: each function's contract is the law.
+//! Laws of batches of compiled texts: each function's contract is the law.
 
 ghost use Rattle.std.specs.Prelude.{◌≡◌, Bool, List, ℕ, Option};
 ghost use Rattle.tp_image.specs.Image.{ImageValue};
@@ -42,8 +42,9 @@ pub fn batches_give_meanings(job: &Job<'_>)
         AreMeant (meaning made.core) (value_of_job job.now) entries }
 {}
 
-/// What a service writes for packets of a compiled text is what the text means by them: a line `R n flag steps result`,
-/// with the trace where it is asked for, where something is meant, and `LOST n` where the traces are too long.
+/// The lines that a service writes for packets of a compiled text carry the text's meaning of them: a line `R n flag
+/// steps result`, with the trace where it is asked for, where something is meant, and `LOST n` where the traces are too
+/// long.
 ///
 /// The premises: the text is compiled (`compile_text` answers that), and the output is what is served for the input
 /// (`serve` answers that). Whichever sessions are open, this holds for those whose image is the one that the text's

@@ -6,6 +6,7 @@ mod diagnosing;
 mod fault;
 pub mod laws;
 mod names;
+mod remedies;
 
 pub use compiling::{CompiledText, compile_text};
 pub use diagnosing::fault_at;

@@ -8,7 +8,7 @@ use tpw_occam_symbolic::{Item, Placed, START};
 use tpw_occam_terms::Span;
 
 /// A name of a variable or of an array, its words of the workspace, and a stretch of the code in which it names them.
-/// What is never in scope together may have the same words.
+/// A name with its words. Names that are never in scope together may have the same ones.
 #[derive(Clone, Copy, Debug, PartialEq, Eq)]
 pub struct Located<'t> {
     pub name: &'t str,
@@ -34,7 +34,7 @@ struct Stretch {
     to: u32,
 }
 
-/// What stands at a place of a text, by its lines.
+/// The text at a span, by its lines.
 fn said_at<'t>(lines: &[&'t str], span: Span) -> Option<&'t str> {
     let line = lines.get(span.line.saturating_sub(1))?;
     let first = span.column.saturating_sub(1);

@@ -1,7 +1,7 @@
 //! Assignments.
 
 use crate::trees::only;
-use tpw_occam_faults::{FaultKind, Role, Stop};
+use tpw_occam_faults::{FaultKind, Interrupt, Use};
 use tpw_occam_meaning::{Expression as Tree, Expressions};
 use tpw_occam_names::element_type;
 use tpw_occam_terms::{Name, Primitive};
@@ -14,7 +14,7 @@ fn named_target<'t, 'a>(
     checker: &mut Checker<'t, 'a>,
     frame: Frame,
     name: Name<'a>,
-) -> Result<Primitive, Stop> {
+) -> Result<Primitive, Interrupt> {
     let entry = checker.find(frame.scope, name)?;
     match entry.meaning {
         Meaning::Variable { of, variable } => {
@@ -25,7 +25,7 @@ fn named_target<'t, 'a>(
             checker.cells.write_array(storage);
             Ok(of)
         }
-        _ => Err(checker.not_a(name, entry, Role::Variable)),
+        _ => Err(checker.not_a(name, entry, Use::Variable)),
     }
 }
 
@@ -36,12 +36,12 @@ fn element_target<'t, 'a>(
     array: Name<'a>,
     subscript: &'t Tree<'a>,
     depth: u32,
-) -> Result<Primitive, Stop> {
+) -> Result<Primitive, Interrupt> {
     let place = checker.subscript_at(subscript);
     let view = checker.written_view(frame.scope, array);
     let subscript = checker.expression(frame, subscript, Some(Primitive::Int), depth);
     let (view, subscript) = (view?, subscript?);
-    checker.check_subscript(array, view, subscript.worth, place)?;
+    checker.check_subscript(array, view, subscript.constness, place)?;
     checker.cells.write_array(view.storage);
     Ok(element_type(view.kind))
 }
@@ -52,7 +52,7 @@ pub(crate) fn target<'t, 'a>(
     frame: Frame,
     e: &'t Tree<'a>,
     depth: u32,
-) -> Result<Primitive, Stop> {
+) -> Result<Primitive, Interrupt> {
     match bare(e) {
         Tree::Name(name) => named_target(checker, frame, *name),
         Tree::Element {
@@ -63,7 +63,7 @@ pub(crate) fn target<'t, 'a>(
             let array = checker.array_name(array)?;
             element_target(checker, frame, array, subscript, depth)
         }
-        Tree::Wrong { .. } => Err(Stop::Reported),
+        Tree::Wrong { .. } => Err(Interrupt::Reported),
         other => Err(checker.fault(span_of(other), FaultKind::VariableWanted)),
     }
 }
@@ -75,17 +75,17 @@ fn pair<'t, 'a>(
     to: &'t Tree<'a>,
     value: &'t Tree<'a>,
     depth: u32,
-) -> Result<(), Stop> {
+) -> Result<(), Interrupt> {
     match target(checker, frame, to, depth) {
         Ok(of) => {
             checker.expression(frame, value, Some(of), depth)?;
             Ok(())
         }
-        Err(Stop::Reported) => {
+        Err(Interrupt::Reported) => {
             if checker.named_array(frame.scope, value).is_none() {
                 checker.expression(frame, value, None, depth)?;
             }
-            Err(Stop::Reported)
+            Err(Interrupt::Reported)
         }
         Err(stop) => Err(stop),
     }
@@ -98,7 +98,7 @@ fn copy<'t, 'a>(
     target: Name<'a>,
     value: &'t Tree<'a>,
     depth: u32,
-) -> Result<(), Stop> {
+) -> Result<(), Interrupt> {
     let to = checker.written_view(frame.scope, target)?;
     let shape = Shape {
         kind: to.kind,
@@ -131,7 +131,7 @@ fn pairs<'t, 'a>(
     targets: &'t Expressions<'a>,
     values: &'t Expressions<'a>,
     depth: u32,
-) -> Result<(), Stop> {
+) -> Result<(), Interrupt> {
     let mut is_whole = true;
     let mut values = values;
     let mut rest = targets;
@@ -141,7 +141,7 @@ fn pairs<'t, 'a>(
         };
         match pair(checker, frame, target, value, depth) {
             Ok(()) => {}
-            Err(Stop::Reported) => is_whole = false,
+            Err(Interrupt::Reported) => is_whole = false,
             Err(stop) => return Err(stop),
         }
         values = further;
@@ -150,7 +150,7 @@ fn pairs<'t, 'a>(
     if is_whole {
         Ok(())
     } else {
-        Err(Stop::Reported)
+        Err(Interrupt::Reported)
     }
 }
 
@@ -161,9 +161,9 @@ pub(crate) fn assignment<'t, 'a>(
     targets: &'t Expressions<'a>,
     values: &'t Expressions<'a>,
     depth: u32,
-) -> Result<(), Stop> {
+) -> Result<(), Interrupt> {
     if count_of(targets) != count_of(values) {
-        return Err(Stop::Reported);
+        return Err(Interrupt::Reported);
     }
     if let (Some(target), Some(value)) = (only(targets), only(values)) {
         if let Some(name) = whole_array(checker, frame, target) {

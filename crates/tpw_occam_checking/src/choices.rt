@@ -1,16 +1,29 @@
 //! The guards of IF, and the constants of CASE.
 
+use crate::branches::Guard;
 use crate::limits::MAX_GUARDS;
-use tpw_occam_faults::{FaultKind, Limit, Stop};
+use tpw_occam_faults::{FaultKind, Interrupt, Limit};
 use tpw_occam_meaning::{Expression as Tree, Expressions};
 use tpw_occam_terms::{Primitive, Span};
-use tpw_occam_typing::{Checker, Frame, Root, Worth, levels_within, span_of};
+use tpw_occam_typing::{Checker, Constness, Frame, Root, levels_within, span_of};
 
-/// What a CASE chooses by: its type, and whether a name is bound for it.
+/// The selector of a CASE: its type, and whether a name is bound for it.
 #[derive(Clone, Copy)]
 pub(crate) struct Selector {
     pub(crate) of: Primitive,
     pub(crate) is_bound: bool,
+    /// Its value, where that is a constant.
+    word: Option<u32>,
+}
+
+impl Selector {
+    /// Whether it is a constant, and one of those that were seen.
+    pub(crate) fn is_among(self, seen: &[Seen]) -> bool {
+        match self.word {
+            Some(word) => seen.iter().any(|one| one.word == word),
+            None => false,
+        }
+    }
 }
 
 /// A constant of a CASE, and where it stands.
@@ -20,39 +33,46 @@ pub(crate) struct Seen {
     span: Span,
 }
 
-/// Whether the guard of a choice is TRUE as it is written.
+/// The constness of the guard of a choice.
 pub(crate) fn guard<'t, 'a>(
     checker: &mut Checker<'t, 'a>,
     frame: Frame,
     e: &'t Tree<'a>,
     depth: u32,
-) -> Result<bool, Stop> {
+) -> Result<Guard, Interrupt> {
+    let before = checker.per_call.point();
     let value = checker.expression(frame, e, Some(Primitive::Bool), depth)?;
-    Ok(match value.worth {
-        Worth::Constant(word) => word != 0,
-        _ => false,
-    })
+    let truth = match value.constness {
+        Constness::Constant(word) => Some(word != 0),
+        _ => None,
+    };
+    let is_same = checker.per_call.point() == before;
+    Ok(Guard { truth, is_same })
 }
 
-/// What a CASE chooses by.
+/// The selector of a CASE.
 pub(crate) fn chosen_by<'t, 'a>(
     checker: &mut Checker<'t, 'a>,
     frame: Frame,
     e: &'t Tree<'a>,
     depth: u32,
-) -> Result<Selector, Stop> {
+) -> Result<Selector, Interrupt> {
     let value = checker.expression(frame, e, None, depth)?;
     let of = value.of;
     if of == Primitive::Bool {
         return Err(checker.fault(span_of(e), FaultKind::CaseOfBools));
     }
-    let is_bound = match (value.worth, value.root) {
-        (Worth::Constant(_), _) => false,
+    let is_bound = match (value.constness, value.root) {
+        (Constness::Constant(_), _) => false,
         (_, Root::Named) => false,
         (_, Root::Variable(_)) => false,
         (_, Root::Made) => true,
     };
-    Ok(Selector { of, is_bound })
+    let word = match value.constness {
+        Constness::Constant(word) => Some(word),
+        _ => None,
+    };
+    Ok(Selector { of, is_bound, word })
 }
 
 /// A constant of a CASE, which stands in it once.
@@ -62,7 +82,7 @@ fn case_constant<'t, 'a>(
     e: &'t Tree<'a>,
     of: Primitive,
     seen: &mut Vec<Seen>,
-) -> Result<(), Stop> {
+) -> Result<(), Interrupt> {
     let word = checker.constant(frame, e, of)?;
     let span = span_of(e);
     if seen.len() >= MAX_GUARDS {
@@ -82,13 +102,13 @@ fn case_constants<'t, 'a>(
     list: &'t Expressions<'a>,
     of: Primitive,
     seen: &mut Vec<Seen>,
-) -> Result<usize, Stop> {
+) -> Result<usize, Interrupt> {
     let mut count: usize = 0;
     let mut rest = list;
     while let Expressions::More(e, more) = rest {
         match case_constant(checker, frame, e, of, seen) {
             Ok(()) => count = count.saturating_add(1),
-            Err(Stop::Reported) => {}
+            Err(Interrupt::Reported) => {}
             Err(stop) => return Err(stop),
         }
         rest = more;
@@ -104,10 +124,10 @@ pub(crate) fn case_guard<'t, 'a>(
     of: Primitive,
     seen: &mut Vec<Seen>,
     depth: u32,
-) -> Result<(), Stop> {
+) -> Result<(), Interrupt> {
     let count = case_constants(checker, frame, constants, of, seen)?;
     let Expressions::More(first, _) = constants else {
-        return Err(Stop::Reported);
+        return Err(Interrupt::Reported);
     };
     if levels_within(depth, count) == 0 {
         return Err(checker.fault(span_of(first), FaultKind::Limit(Limit::Depth)));

@@ -3,14 +3,14 @@
 use crate::trees::first_of;
 use std::alloc::AllocError;
 use tpw_occam_core::Kind;
-use tpw_occam_faults::{FaultKind, Stop};
+use tpw_occam_faults::{FaultKind, Interrupt, NoteKind};
 use tpw_occam_meaning::{
     Declaration, Expression as Tree, Expressions, Names, Parameters, Process, Type,
 };
 use tpw_occam_terms::{Name, Primitive};
 use tpw_occam_typing::{
-    Access, Callee, Checker, Frame, MAX_DEPTH, Meaning, Point, Root, Shape, Size, Storage, Value,
-    View, Worth, bare, bytes_of, is_table, levels_within, or_else, size_of, span_of,
+    Access, Callee, Checker, Constness, Frame, MAX_DEPTH, Meaning, Point, Root, Shape, Size,
+    Storage, Value, View, bare, bytes_of, is_table, levels_within, or_else, size_of, span_of,
 };
 
 /// Where declarations stand.
@@ -24,7 +24,7 @@ pub(crate) enum Level {
     Process,
 }
 
-/// What is in scope behind declarations, how deep these may be, and how many names they bind around the process.
+/// The scope behind declarations, how deep these may be, and how many names they bind around the process.
 #[derive(Clone, Copy)]
 pub(crate) struct Declared {
     pub(crate) frame: Frame,
@@ -52,7 +52,7 @@ impl Declared {
     }
 }
 
-/// What a name is declared to stand for, and whether a name is bound around the process for it.
+/// The binding of a declared name, and whether a name is bound around the process for it.
 #[derive(Clone, Copy)]
 struct Made<'t, 'a> {
     meaning: Meaning<'t, 'a>,
@@ -73,7 +73,7 @@ fn put<'t, 'a>(
     declared: Declared,
     name: Name<'a>,
     made: Made<'t, 'a>,
-) -> Result<Declared, Stop> {
+) -> Result<Declared, Interrupt> {
     checker.count(name.span)?;
     let scope = checker.declare(declared.frame.scope, name, made.meaning)?;
     Ok(Declared {
@@ -95,23 +95,31 @@ fn add_per_call<'t, 'a>(
     checker.per_call.add(name.span)
 }
 
-/// What a name stands for that is declared to have a value. In front of the worker's SEQ the value is worked out at once.
+/// The binding of a name that is declared to have a value. In front of the worker's SEQ the value is worked out at once.
 fn named_value<'t, 'a>(
     checker: &mut Checker<'t, 'a>,
+    name: Name<'a>,
     e: &Tree<'a>,
     value: Value,
     level: Level,
-) -> Result<Made<'t, 'a>, Stop> {
+) -> Result<Made<'t, 'a>, Interrupt> {
     let of = value.of;
-    match (value.worth, level) {
-        (Worth::Constant(word), _) => Ok(unbound(Meaning::Constant { of, word })),
-        (Worth::Flagged(span), _) => Err(checker.fault(span, FaultKind::SetsFlag)),
-        (Worth::Computed, Level::Text) => Err(checker.fault(span_of(e), FaultKind::NotConstant)),
-        (Worth::Computed, Level::Worker) => Ok(unbound(Meaning::Value {
-            of,
-            root: Root::Made,
-        })),
-        (Worth::Computed, Level::Process) => Ok(Made {
+    match (value.constness, level) {
+        (Constness::Constant(word), _) => Ok(unbound(Meaning::Constant { of, word })),
+        (Constness::Flagged(span), _) => Err(checker.fault(span, FaultKind::SetsFlag)),
+        (Constness::Computed, Level::Text) => Err(checker.fault(
+            span_of(e),
+            FaultKind::NotConstant,
+        )),
+        (Constness::Computed, Level::Worker) => {
+            let kind = NoteKind::BeforePacket { name: name.text };
+            checker.findings.note(name.span, kind)?;
+            Ok(unbound(Meaning::Value {
+                of,
+                root: Root::Made,
+            }))
+        }
+        (Constness::Computed, Level::Process) => Ok(Made {
             meaning: Meaning::Value {
                 of,
                 root: Root::Named,
@@ -127,7 +135,7 @@ fn named_table<'t, 'a>(
     frame: Frame,
     e: &'t Tree<'a>,
     shape: Shape,
-) -> Result<Made<'t, 'a>, Stop> {
+) -> Result<Made<'t, 'a>, Interrupt> {
     if !is_table(e) {
         return Err(checker.fault(span_of(e), FaultKind::TableWanted));
     }
@@ -135,12 +143,12 @@ fn named_table<'t, 'a>(
     Ok(unbound(Meaning::Array(view)))
 }
 
-/// What the elements of a list are: what its first constant is.
+/// The kind of the elements of a list: that of its first constant.
 fn kind_of_list<'t, 'a>(
     checker: &mut Checker<'t, 'a>,
     frame: Frame,
     items: &'t Expressions<'a>,
-) -> Result<Kind, Stop> {
+) -> Result<Kind, Interrupt> {
     let Expressions::More(first, _) = items else {
         return Ok(Kind::Word);
     };
@@ -153,7 +161,7 @@ fn shape_of_table<'t, 'a>(
     checker: &mut Checker<'t, 'a>,
     frame: Frame,
     e: &'t Tree<'a>,
-) -> Result<Shape, Stop> {
+) -> Result<Shape, Interrupt> {
     let kind = match bare(e) {
         Tree::Table { items, .. } => kind_of_list(checker, frame, items)?,
         _ => Kind::Byte,
@@ -169,14 +177,15 @@ fn single<'t, 'a>(
     checker: &mut Checker<'t, 'a>,
     declared: Declared,
     of: Option<Primitive>,
+    name: Name<'a>,
     e: &'t Tree<'a>,
     level: Level,
-) -> Result<Made<'t, 'a>, Stop> {
+) -> Result<Made<'t, 'a>, Interrupt> {
     let value = checker.expression(declared.frame, e, of, declared.levels(level))?;
-    named_value(checker, e, value, level)
+    named_value(checker, name, e, value, level)
 }
 
-/// What `VAL n IS e` makes of a name.
+/// The binding of a name by `VAL n IS e`.
 fn value<'t, 'a>(
     checker: &mut Checker<'t, 'a>,
     declared: Declared,
@@ -184,16 +193,16 @@ fn value<'t, 'a>(
     name: Name<'a>,
     e: &'t Tree<'a>,
     level: Level,
-) -> Result<Made<'t, 'a>, Stop> {
+) -> Result<Made<'t, 'a>, Interrupt> {
     let frame = declared.frame;
     match of {
         None if is_table(e) => {
             let shape = shape_of_table(checker, frame, e)?;
             named_table(checker, frame, e, shape)
         }
-        None => single(checker, declared, None, e, level),
+        None => single(checker, declared, None, name, e, level),
         Some(of) if matches!(size_of(of), Size::One) => {
-            single(checker, declared, Some(of.of), e, level)
+            single(checker, declared, Some(of.of), name, e, level)
         }
         Some(of) => {
             let shape = checker.shape(frame, of, name.span)?;
@@ -207,7 +216,7 @@ fn variable_array<'t, 'a>(
     checker: &mut Checker<'t, 'a>,
     name: Name<'a>,
     shape: Shape,
-) -> Result<Made<'t, 'a>, Stop> {
+) -> Result<Made<'t, 'a>, Interrupt> {
     let Some(elements) = shape.elements else {
         return Err(checker.fault(name.span, FaultKind::NoSize));
     };
@@ -228,7 +237,7 @@ fn variable<'t, 'a>(
     checker: &mut Checker<'t, 'a>,
     name: Name<'a>,
     of: Primitive,
-) -> Result<Made<'t, 'a>, Stop> {
+) -> Result<Made<'t, 'a>, Interrupt> {
     let variable = checker.cells.add(name)?;
     Ok(Made {
         meaning: Meaning::Variable { of, variable },
@@ -236,14 +245,14 @@ fn variable<'t, 'a>(
     })
 }
 
-/// What variables or arrays of one type are.
+/// Variables or arrays of one type.
 #[derive(Clone, Copy)]
 enum Kept {
     Variable(Primitive),
-    Array(Result<Shape, Stop>),
+    Array(Result<Shape, Interrupt>),
 }
 
-/// What variables or arrays of a type are.
+/// Variables or arrays of a type.
 fn kept_of<'t, 'a>(
     checker: &mut Checker<'t, 'a>,
     frame: Frame,
@@ -263,7 +272,7 @@ fn made_of<'t, 'a>(
     name: Name<'a>,
     kept: Kept,
     level: Level,
-) -> Result<Made<'t, 'a>, Stop> {
+) -> Result<Made<'t, 'a>, Interrupt> {
     match (level, kept) {
         (Level::Text, _) => { Err(checker.fault(name.span, FaultKind::OutsideProc)) }
         (_, Kept::Variable(of)) => variable(checker, name, of),
@@ -278,7 +287,7 @@ fn variables<'t, 'a>(
     of: &'t Type<'a>,
     names: &'t Names<'a>,
     level: Level,
-) -> Result<Declared, Stop> {
+) -> Result<Declared, Interrupt> {
     let before = checker.per_call.point();
     let kept = kept_of(checker, declared.frame, of, names);
     let mut declared = declared;
@@ -300,7 +309,7 @@ fn retyped<'t, 'a>(
     of: &'t Type<'a>,
     name: Name<'a>,
     array: Name<'a>,
-) -> Result<Made<'t, 'a>, Stop> {
+) -> Result<Made<'t, 'a>, Interrupt> {
     let view = checker.view_of(frame.scope, array)?;
     let shape = checker.shape(frame, of, name.span)?;
     let bytes = bytes_of(view.kind, view.elements);
@@ -324,7 +333,7 @@ fn procedure<'t, 'a>(
     frame: Frame,
     parameters: &'t Parameters<'a>,
     body: &'t Process<'a>,
-) -> Result<Made<'t, 'a>, Stop> {
+) -> Result<Made<'t, 'a>, Interrupt> {
     let signature = checker.signature(frame, parameters, Callee::Procedure)?;
     Ok(unbound(Meaning::Procedure {
         signature,
@@ -340,7 +349,7 @@ fn function<'t, 'a>(
     of: Primitive,
     parameters: &'t Parameters<'a>,
     value: &'t Tree<'a>,
-) -> Result<Made<'t, 'a>, Stop> {
+) -> Result<Made<'t, 'a>, Interrupt> {
     checker.check_values(parameters)?;
     let signature = checker.signature(frame, parameters, Callee::Function)?;
     Ok(unbound(Meaning::Function {
@@ -356,7 +365,7 @@ fn wrong<'t, 'a>(
     checker: &mut Checker<'t, 'a>,
     declared: Declared,
     names: &'t Names<'a>,
-) -> Result<Declared, Stop> {
+) -> Result<Declared, Interrupt> {
     let mut declared = declared;
     let mut rest = names;
     while let Names::More(name, more) = rest {
@@ -372,7 +381,7 @@ pub(crate) fn declare<'t, 'a>(
     declared: Declared,
     declaration: &'t Declaration<'a>,
     level: Level,
-) -> Result<Declared, Stop> {
+) -> Result<Declared, Interrupt> {
     let frame = declared.frame;
     let before = checker.per_call.point();
     let (name, made) = match declaration {

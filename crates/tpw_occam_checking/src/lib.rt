@@ -2,12 +2,15 @@
 #![tactic(auto)]
 
 mod assignments;
+mod branches;
 mod choices;
 mod declarations;
+mod known;
 mod limits;
 mod messages;
 mod processes;
 mod trees;
+mod usage;
 mod whole;
 mod worker;
 

@@ -1,6 +1,6 @@
 //! Limits of processes.
 
-/// How deep a step lies within a SEQ of so many, which is halved again and again.
+/// How deep a step lies within a SEQ of this many steps, which is halved again and again.
 pub(crate) fn halves(steps: usize) -> usize {
     match steps {
         0..=1 => 0,
@@ -16,6 +16,9 @@ pub(crate) fn halves(steps: usize) -> usize {
 
 /// The most guards of an IF, and the most constants of a CASE.
 pub(crate) const MAX_GUARDS: usize = 2_000;
+
+/// The most bytes of all traces of a packet.
+pub(crate) const MAX_TRACED: u64 = 256;
 
 /// The most turns of a replicated SEQ.
 pub(crate) const MAX_TURNS: u32 = 10_000;

@@ -1,25 +1,26 @@
 //! Messages.
 
-use tpw_occam_faults::{FaultKind, Stop};
+use tpw_occam_core::Kind;
+use tpw_occam_faults::{FaultKind, Interrupt};
 use tpw_occam_meaning::Expression as Tree;
 use tpw_occam_terms::{Name, Primitive};
-use tpw_occam_typing::{Channel, Checker, Frame, Protocol, Root, Shape, Storage};
+use tpw_occam_typing::{Channel, Checker, Frame, Protocol, Root, Shape, Storage, bytes_of};
 
-/// What a message is of.
+/// The value or array of a message.
 #[derive(Clone, Copy)]
 pub(crate) enum Message {
     Value(Root),
     Array(Storage),
 }
 
-/// What a channel sends.
+/// The message on a channel.
 pub(crate) fn sent_by<'t, 'a>(
     checker: &mut Checker<'t, 'a>,
     frame: Frame,
     protocol: Protocol,
     e: &'t Tree<'a>,
     depth: u32,
-) -> Result<Message, Stop> {
+) -> Result<Message, Interrupt> {
     match protocol {
         Protocol::Value => {
             let value = checker.expression(frame, e, Some(Primitive::Int), depth)?;
@@ -37,6 +38,14 @@ pub(crate) fn sent_by<'t, 'a>(
     }
 }
 
+/// How many bytes a message has.
+fn message_bytes(protocol: Protocol) -> u64 {
+    match protocol {
+        Protocol::Value => bytes_of(Kind::Word, 1),
+        Protocol::Array { kind, elements } => bytes_of(kind, elements),
+    }
+}
+
 /// `trace ! x`.
 pub(crate) fn trace<'t, 'a>(
     checker: &mut Checker<'t, 'a>,
@@ -44,11 +53,12 @@ pub(crate) fn trace<'t, 'a>(
     name: Name<'a>,
     e: &'t Tree<'a>,
     depth: u32,
-) -> Result<(), Stop> {
+) -> Result<(), Interrupt> {
     let (channel, protocol) = checker.channel_of(frame.scope, name)?;
     match channel {
         Channel::Traces => {
             sent_by(checker, frame, protocol, e, depth)?;
+            checker.traced = checker.traced.saturating_add(message_bytes(protocol));
             Ok(())
         }
         Channel::Packet => Err(checker.fault(name.span, FaultKind::SendsPacket)),

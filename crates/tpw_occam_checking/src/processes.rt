@@ -1,14 +1,15 @@
-//! Processes, with the bodies of PROCs in line.
+//! Processes, with the bodies of PROCs inlined.
 //!
-//! `depth` counts down with each process that lies within another, calls in line among them.
+//! `depth` counts down with each process that lies within another, inlined calls among them.
 
 use crate::assignments::assignment;
+use crate::branches::Branches;
 use crate::choices::{Seen, Selector, case_guard, chosen_by, guard};
 use crate::declarations::{Declared, Level, declare};
 use crate::limits::{MAX_GUARDS, MAX_TURNS, halves};
 use crate::messages::trace;
-use crate::trees::{cases_of, guards_of, place_of, steps_of};
-use tpw_occam_faults::{FaultKind, Limit, NoteKind, Role, Stop};
+use crate::trees::{cases_of, guards_of, has_else, place_of, steps_of};
+use tpw_occam_faults::{FaultKind, Interrupt, Limit, NoteKind, Use};
 use tpw_occam_meaning::{
     Cases, Choices, Expression as Tree, Expressions, Process as Written, Processes,
 };
@@ -17,7 +18,7 @@ use tpw_occam_typing::{
     Checker, Frame, MOST_POSITIVE, Meaning, Root, count_of, levels_within, recovered, span_of,
 };
 
-/// Whether the last of so many indices from one on is no INT.
+/// Whether the last of this many indices from one on is no INT.
 fn is_beyond(first: u32, turns: u32) -> bool {
     turns > 0 && turns - 1 > MOST_POSITIVE.wrapping_sub(first)
 }
@@ -28,7 +29,7 @@ fn check_turns<'t, 'a>(
     frame: Frame,
     start: &'t Tree<'a>,
     count: &'t Tree<'a>,
-) -> Result<(), Stop> {
+) -> Result<u32, Interrupt> {
     let first = checker.constant(frame, start, Primitive::Int);
     let turns = checker.constant(frame, count, Primitive::Int);
     let (first, turns) = (first?, turns?);
@@ -41,7 +42,13 @@ fn check_turns<'t, 'a>(
     if is_beyond(first, turns) {
         return Err(checker.fault(span_of(count), FaultKind::LastIndex));
     }
-    Ok(())
+    Ok(turns)
+}
+
+/// The bytes that are traced where so many turns begin behind some, and the first turn ends behind others.
+fn traced_by(before: u64, first: u64, turns: u32) -> u64 {
+    let turn = first.saturating_sub(before);
+    before.saturating_add(turn.saturating_mul(u64::from(turns)))
 }
 
 /// A process whose simple form is at hand.
@@ -50,7 +57,7 @@ fn simple<'t, 'a>(
     frame: Frame,
     p: &'t Written<'a>,
     depth: u32,
-) -> Result<(), Stop> {
+) -> Result<(), Interrupt> {
     match p {
         Written::Skip { .. } => Ok(()),
         Written::Stop { .. } => Ok(()),
@@ -61,11 +68,11 @@ fn simple<'t, 'a>(
         } => assignment(checker, frame, targets, values, depth),
         Written::Send { channel, value, .. } => trace(checker, frame, *channel, value, depth),
         Written::Receive { channel, .. } => Err(checker.fault(channel.span, FaultKind::Receive)),
-        _ => Err(Stop::Reported),
+        _ => Err(Interrupt::Reported),
     }
 }
 
-/// So many processes one after another. Where one is wrong, those behind it are looked at all the same.
+/// This many processes one after another. Where one is wrong, those behind it are looked at all the same.
 #[cycle(process)]
 pub(crate) fn steps<'t, 'a>(
     checker: &mut Checker<'t, 'a>,
@@ -73,7 +80,7 @@ pub(crate) fn steps<'t, 'a>(
     list: &'t Processes<'a>,
     many: usize,
     depth: u32,
-) -> Result<(), Stop> {
+) -> Result<(), Interrupt> {
     let depth = levels_within(depth, halves(many));
     let mut is_whole = true;
     let mut rest = list;
@@ -88,7 +95,7 @@ pub(crate) fn steps<'t, 'a>(
     if is_whole {
         Ok(())
     } else {
-        Err(Stop::Reported)
+        Err(Interrupt::Reported)
     }
 }
 
@@ -98,18 +105,19 @@ fn replicated<'t, 'a>(
     checker: &mut Checker<'t, 'a>,
     frame: Frame,
     index: Name<'a>,
-    turns: Result<(), Stop>,
+    turns: Result<u32, Interrupt>,
     list: &'t Processes<'a>,
     depth: u32,
-) -> Result<(), Stop> {
+) -> Result<(), Interrupt> {
     let meaning = Meaning::Value {
         of: Primitive::Int,
         root: Root::Named,
     };
     let scope = checker.declare(frame.scope, index, meaning)?;
     let within = frame.with_scope(scope);
+    let before = checker.traced;
     let body = steps(checker, within, list, steps_of(list), depth);
-    turns?;
+    checker.traced = traced_by(before, checker.traced, turns?);
     body
 }
 
@@ -121,28 +129,32 @@ fn choice<'t, 'a>(
     choices: &'t Choices<'a>,
     span: Span,
     depth: u32,
-) -> Result<(), Stop> {
+) -> Result<(), Interrupt> {
     if guards_of(choices) > MAX_GUARDS {
         return Err(checker.fault(span, FaultKind::Limit(Limit::Guards)));
     }
-    let mut has_true = false;
+    let mut branches = Branches::new(checker.traced);
     let mut is_whole = true;
     let mut index: usize = 0;
     let mut rest = choices;
     while let Choices::More(e, p, more) = rest {
         let depth = levels_within(depth, index);
+        let noted = checker.findings.notes.len();
         let made = guard(checker, frame, e, depth);
         let body = process(checker, frame, p, depth);
         let (made, body) = (recovered(made)?, recovered(body)?);
-        has_true = has_true || made.unwrap_or(false);
+        if let Some(guard) = made {
+            branches.end_guarded(checker, guard, span_of(e), noted)?;
+        }
         is_whole = is_whole && made.is_some() && body.is_some();
         index = index.saturating_add(1);
         rest = more;
     }
     if !is_whole {
-        return Err(Stop::Reported);
+        return Err(Interrupt::Reported);
     }
-    if !has_true {
+    branches.end(checker, branches.is_closed());
+    if index > 0 && !branches.is_closed() {
         checker.findings.note(span, NoteKind::NoGuard)?;
     }
     Ok(())
@@ -155,10 +167,12 @@ fn all_cases<'t, 'a>(
     frame: Frame,
     selector: Option<Selector>,
     cases: &'t Cases<'a>,
+    span: Span,
     depth: u32,
-) -> Result<(), Stop> {
+) -> Result<(), Interrupt> {
     let many = cases_of(cases);
     let mut seen = Vec::new(checker.alloc);
+    let mut branches = Branches::new(checker.traced);
     let mut is_whole = selector.is_some();
     let mut index: usize = 0;
     let mut rest = cases;
@@ -178,14 +192,19 @@ fn all_cases<'t, 'a>(
                 recovered(made)?.is_some()
             }
         };
+        branches.end_branch(checker);
         is_whole = is_whole && made;
         index = index.saturating_add(1);
     }
-    if is_whole {
-        Ok(())
-    } else {
-        Err(Stop::Reported)
+    let is_closed = has_else(cases) || selector.is_some_and(|one| one.is_among(&seen));
+    branches.end(checker, is_closed);
+    if !is_whole {
+        return Err(Interrupt::Reported);
     }
+    if index > 0 && !is_closed {
+        checker.findings.note(span, NoteKind::NoElse)?;
+    }
+    Ok(())
 }
 
 /// Whether the constants of a choice are without a fault, where it is known what is chosen by.
@@ -196,7 +215,7 @@ fn constants_of<'t, 'a>(
     constants: &'t Expressions<'a>,
     seen: &mut Vec<Seen>,
     depth: u32,
-) -> Result<bool, Stop> {
+) -> Result<bool, Interrupt> {
     let Some(selector) = selector else {
         return Ok(false);
     };
@@ -211,13 +230,14 @@ fn case<'t, 'a>(
     frame: Frame,
     e: &'t Tree<'a>,
     cases: &'t Cases<'a>,
+    span: Span,
     depth: u32,
-) -> Result<(), Stop> {
+) -> Result<(), Interrupt> {
     let selected = chosen_by(checker, frame, e, depth);
     let selected = recovered(selected)?;
     let is_bound = selected.is_some_and(|selector| selector.is_bound);
     let depth = levels_within(depth, usize::from(is_bound));
-    all_cases(checker, frame, selected, cases, depth)
+    all_cases(checker, frame, selected, cases, span, depth)
 }
 
 /// `p (e, ..)`: the PROC's body, with its parameters bound.
@@ -228,7 +248,7 @@ fn procedure_call<'t, 'a>(
     name: Name<'a>,
     arguments: &'t Expressions<'a>,
     depth: u32,
-) -> Result<(), Stop> {
+) -> Result<(), Interrupt> {
     let entry = checker.find(frame.scope, name)?;
     let Meaning::Procedure {
         signature,
@@ -236,7 +256,7 @@ fn procedure_call<'t, 'a>(
         scope,
     } = entry.meaning
     else {
-        return Err(checker.not_a(name, entry, Role::Procedure));
+        return Err(checker.not_a(name, entry, Use::Procedure));
     };
     if frame.calls == 0 {
         return Err(checker.fault(name.span, FaultKind::Limit(Limit::Calls)));
@@ -258,7 +278,7 @@ fn scoped<'t, 'a>(
     frame: Frame,
     p: &'t Written<'a>,
     depth: u32,
-) -> Result<(), Stop> {
+) -> Result<(), Interrupt> {
     let mut declared = Declared::new(frame, depth);
     let mut rest = p;
     while let Written::Declared {
@@ -280,9 +300,9 @@ pub(crate) fn process<'t, 'a>(
     frame: Frame,
     p: &'t Written<'a>,
     depth: u32,
-) -> Result<(), Stop> {
+) -> Result<(), Interrupt> {
     let Some(span) = place_of(p) else {
-        return Err(Stop::Reported);
+        return Err(Interrupt::Reported);
     };
     checker.count(span)?;
     if depth == 0 {
@@ -306,8 +326,8 @@ pub(crate) fn process<'t, 'a>(
         Written::Case {
             selector,
             cases,
-            ..
-        } => case(checker, frame, selector, cases, depth - 1),
+            span,
+        } => case(checker, frame, selector, cases, *span, depth - 1),
         Written::Call {
             name,
             arguments,

@@ -1,4 +1,4 @@
-//! What is read off declarations and processes.
+//! Parts of declarations and processes.
 
 use tpw_occam_meaning::{
     Cases, Choices, Declaration, Declarations, Expression, Expressions, Names, Process, Processes,
@@ -103,6 +103,18 @@ pub(crate) fn cases_of(cases: &Cases<'_>) -> usize {
             Cases::Else(_, more) => rest = more,
         }
         count = count.saturating_add(1);
+    }
+}
+
+/// Whether a CASE has ELSE.
+pub(crate) fn has_else(cases: &Cases<'_>) -> bool {
+    let mut rest = cases;
+    loop {
+        match rest {
+            Cases::End => return false,
+            Cases::Constants(_, _, more) => rest = more,
+            Cases::Else(_, _) => return true,
+        }
     }
 }
 

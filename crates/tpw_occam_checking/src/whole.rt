@@ -5,9 +5,10 @@ ghost use Rattle.tpw_occam_checking.specs.Checked.{IsChecked};
 
 use crate::declarations::{Declared, Level, declare};
 use crate::trees::{declared_place, last_declaration};
+use crate::usage::note_usage;
 use crate::worker::worker;
 use std::alloc::{AllocError, Global};
-use tpw_occam_faults::{FIRST, Fault, FaultKind, Note, Stop, reported_faults, reported_notes};
+use tpw_occam_faults::{FIRST, Fault, FaultKind, Interrupt, Note, reported_faults, reported_notes};
 use tpw_occam_meaning::{Declaration, Declarations, Source};
 use tpw_occam_terms::Fault as Misread;
 use tpw_occam_typing::{Checker, Frame, MAX_DEPTH};
@@ -15,7 +16,7 @@ use tpw_occam_typing::{Checker, Frame, MAX_DEPTH};
 /// Why a text has no worker.
 #[derive(Debug, Drop)]
 pub enum CheckError<'a> {
-    /// What is wrong, by places.
+    /// The faults, by places.
     Faults(Vec<Fault<'a>>),
     /// A growth was refused.
     Memory,
@@ -32,7 +33,10 @@ impl From<AllocError> for CheckError<'_> {
 }
 
 /// Reports what is wrong with how a text is written.
-fn report_misread<'t, 'a>(checker: &mut Checker<'t, 'a>, misread: &[Misread]) -> Result<(), Stop> {
+fn report_misread<'t, 'a>(
+    checker: &mut Checker<'t, 'a>,
+    misread: &[Misread],
+) -> Result<(), Interrupt> {
     for fault in misread {
         checker
             .findings
@@ -41,11 +45,11 @@ fn report_misread<'t, 'a>(checker: &mut Checker<'t, 'a>, misread: &[Misread]) ->
     Ok(())
 }
 
-/// What is in scope behind all declarations but the last.
+/// The scope behind all declarations but the last.
 fn others<'t, 'a>(
     checker: &mut Checker<'t, 'a>,
     list: &'t Declarations<'a>,
-) -> Result<Frame, Stop> {
+) -> Result<Frame, Interrupt> {
     let mut declared = Declared::new(Frame::OUTERMOST, MAX_DEPTH);
     let mut rest = list;
     while let Declarations::More(declaration, more) = rest {
@@ -64,12 +68,12 @@ fn check_text<'t, 'a>(
     checker: &mut Checker<'t, 'a>,
     source: Option<&'t Source<'a>>,
     misread: &[Misread],
-) -> Result<(), Stop>
+) -> Result<(), Interrupt>
     ensures { IfOk result (λ u. is_some source.entry ≡ true) }
 {
     report_misread(checker, misread)?;
     let Some(source) = source else {
-        return Err(Stop::Ended);
+        return Err(Interrupt::Ended);
     };
     let Some(last) = last_declaration(&source.declarations) else {
         return Err(checker.fault(FIRST, FaultKind::NoWorker));
@@ -88,8 +92,8 @@ fn check_text<'t, 'a>(
     }
 }
 
-/// What may not be meant in a text, by places; or all that is wrong with it: with how it is written, `misread`, or with what
-/// it says. It is read as `source`; where its indentation is wrong, as nothing.
+/// The warnings of a text, by places; or its faults: of how it is written, `misread`, or of
+/// what it says. It is read as `source`; where its indentation is wrong, as nothing.
 pub fn check<'t, 'a>(
     alloc: Global,
     text: &str,
@@ -102,9 +106,12 @@ pub fn check<'t, 'a>(
 {
     let mut checker = Checker::new(alloc);
     match check_text(&mut checker, source, misread) {
-        Err(Stop::Memory) => Err(CheckError::Memory),
+        Err(Interrupt::Memory) => Err(CheckError::Memory),
         Ok(()) if misread.is_empty() && checker.findings.faults.is_empty() => {
-            checker.note_unread()?;
+            checker.note_cells()?;
+            if let Some(source) = source {
+                note_usage(alloc, &mut checker.findings, source)?;
+            }
             Ok(reported_notes(alloc, text, &checker.findings.notes)?)
         }
         _ => {

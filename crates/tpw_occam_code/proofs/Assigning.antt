@@ -12,9 +12,9 @@ use Rattle.tpw_occam_core.specs.declared.kind.Kind.TheVariants as kind
 use Rattle.tpw_occam_core.specs.declared.expression.Expression.{Expression}
 use Rattle.tpw_occam_core.specs.declared.process.Target.TheVariants as target
 use Rattle.tpw_occam_core.specs.declared.process.Assignment.{Assignment}
-use Rattle.tpw_occam_core.specs.Arithmetic.{answer, plain, subscript}
+use Rattle.tpw_occam_core.specs.Arithmetic.{answer, pure, subscript}
 use Rattle.tpw_occam_core.specs.Arrays.{size}
-use Rattle.tpw_occam_core.specs.Meaning.{Store, value_of, followed, array_of, subscript_of}
+use Rattle.tpw_occam_core.specs.Meaning.{Store, value_of, bind, array_of, subscript_of}
 use Rattle.tpw_occam_core.specs.Sound.{is_seen}
 use Rattle.tpw_occam_expressions.specs.declared.expressions.Value.{Value}
 use Rattle.tpw_occam_symbolic.specs.declared.items.Item.TheVariants as item
@@ -53,18 +53,18 @@ whole_computes k old new a registers temporaries whole computes storages scope u
 pub byte_computes : (k : Knowledge) (old between new : Lines) (a : Assignment) (value : Value) (registers temporaries : ℕ)
     → ((word : ℕ) → taken k.kinds a.target word ≡ word % 256)
     → Computes k old between a.value registers temporaries → IsKnown k a.value value
-    → ((i : ℕ) → Holds value i → Answers between new 2 i (plain (i % 256))) → 2 ≤ registers
+    → ((i : ℕ) → Holds value i → Answers between new 2 i (pure (i % 256))) → 2 ≤ registers
     → ComputesTo k old new a.value (taken_value k.kinds a) registers temporaries
 byte_computes k old between new a value registers temporaries low computes known makes two storages scope unset s place stands suffices knows =
     let v = value_of a.value s in
-    let made : followed v (λ w. plain (w % 256)) ≡ taken_value k.kinds a s =
+    let made : bind v (λ w. pure (w % 256)) ≡ taken_value k.kinds a s =
     ap (answer (v.word % 256)) (or-false v.flag) ∙ ap (λ w. answer w v.flag) (sym (low v.word)) in
     does_less k.arrays old new _ _ _ _
-    (computes_then k old between new a.value a.value (value_of a.value) (λ w. plain (w % 256)) registers 2 temporaries computes
+    (computes_then k old between new a.value a.value (value_of a.value) (λ w. pure (w % 256)) registers 2 temporaries computes
     (λ storages scope unset s place stands suffices knows. (
       stands,
       suffices,
-      goes_by k scope unset s between new registers 2 (value_of a.value s) (plain ((value_of a.value s).word % 256)) two
+      goes_by k scope unset s between new registers 2 (value_of a.value s) (pure ((value_of a.value s).word % 256)) two
           (makes (value_of a.value s).word (known storages scope unset s place stands knows)),
     )) storages scope unset s place stands suffices knows)
     (λ m said. said)
@@ -151,8 +151,8 @@ pub above_computes : (k : Knowledge) (old first_code recalled turned new : Lines
 above_computes k old first_code recalled turned new source e value size temporaries computes known recall rev settles positive small storages scope unset s word place stands knows short =
     let one = subscript_value e size s in
     let below : one.word < size = subscript_word_below size (value_of e s).word positive in
-    let again : subscript size one.word ≡ plain one.word = subscript_below size one.word below in
-    let settled : Answers turned new 2 one.word (plain one.word) =
+    let again : subscript size one.word ≡ pure one.word = subscript_below size one.word below in
+    let settled : Answers turned new 2 one.word (pure one.word) =
     subst (λ x. Answers turned new 2 one.word x) again (settles one.word (known storages scope unset s place stands knows) positive small) in
     does_both k.arrays old turned new _ _ _ _ _
     (does_under k scope unset s old first_code recalled turned source temporaries word one short
@@ -193,12 +193,12 @@ fixed_stores k old new a e c temporaries fixed stores storages scope unset s wor
     let parts = take_element k storages scope unset a kind.Word e takes in
     let there = seen_array storages scope a kind.Word parts.0 in
     let bytes = array_of s a in
-    let value : value_of e s ≡ plain c = constant_value k storages scope unset s e c parts.1 knows fixed.constant in
+    let value : value_of e s ≡ pure c = constant_value k storages scope unset s e c parts.1 knows fixed.constant in
     let most = place.place.most a there in
     let within : c < size kind.Word bytes =
     subst (λ n. c < n) (size_is kind.Word bytes _ (knows.lengths a there)) (fixed.below (omega (arith, most))) in
-    let is : plain c ≡ subscript_of (target.Element a kind.Word e) s =
-    sym (subscript_below (size kind.Word bytes) c within) ∙ ap (λ v. followed v (subscript (size kind.Word bytes))) (sym value) in
+    let is : pure c ≡ subscript_of (target.Element a kind.Word e) s =
+    sym (subscript_below (size kind.Word bytes) c within) ∙ ap (λ v. bind v (subscript (size kind.Word bytes))) (sym value) in
     does_less k.arrays old new _ _ _ _ (stores k.arrays word) (λ m said. said.1)
     (λ m end said after. subst (λ (i : Answer). Stores scope temporaries (item.Array a) (4 * i.word) (to_le_bytes w32 word) i.flag m end) is
     (writes_stores scope temporaries (item.Array a) (4 * c) (to_le_bytes w32 word) false m m end
@@ -216,8 +216,8 @@ offset_stores k old new a e x c temporaries offset stores storages scope unset s
     let long = knows.lengths a there in
     let facts = offset_facts k storages scope unset s a kind.Word e x c offset most long parts.1 knows in
     let v = slice_index s.values x in
-    let is : plain (v + c) ≡ subscript_of (target.Element a kind.Word e) s =
-    sym (subscript_below (size kind.Word bytes) (v + c) facts.below) ∙ ap (λ t. followed t (subscript (size kind.Word bytes))) (sym facts.value) in
+    let is : pure (v + c) ≡ subscript_of (target.Element a kind.Word e) s =
+    sym (subscript_below (size kind.Word bytes) (v + c) facts.below) ∙ ap (λ t. bind t (subscript (size kind.Word bytes))) (sym facts.value) in
     does_less k.arrays old new _ _ _ _ (stores k.arrays bytes v word facts.small long facts.below (subst (λ n. n ≤ 2048) (sym long) most))
     (λ m said. (said.0.words x facts.there facts.set offset.offset.word, said.1))
     (λ m end said after. subst (λ (i : Answer). Stores scope temporaries (item.Array a) (4 * i.word) (to_le_bytes w32 word) i.flag m end) is
@@ -243,7 +243,7 @@ element_stores k old between at_element new a view e elements temporaries counte
     let short : elements ≤ 2 ^ 31 = subst (λ n. n ≤ 2 ^ 31) (sym count) (elements_most view _ most) in
     let one = subscript_value e elements s in
     let below : one.word < size view bytes = subst (λ n. one.word < n) sized (subscript_word_below elements (value_of e s).word least) in
-    let is : one ≡ subscript_of (target.Element a view e) s = ap (λ n. followed (value_of e s) (subscript n)) sized in
+    let is : one ≡ subscript_of (target.Element a view e) s = ap (λ n. bind (value_of e s) (subscript n)) sized in
     let pushed : Does k.arrays old at_element (λ m. Agrees k scope unset s m × HasNumber word m)
     (λ m end. LeavesItems scope temporaries m end × (end.error ≡ (m.error || one.flag)) × IsToStore view a one.word word (length bytes) end) =
     does_both k.arrays old between at_element _ _ _ _ _ (computes least short storages scope unset s word place.place parts.1 knows small)

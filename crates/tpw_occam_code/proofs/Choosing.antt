@@ -10,7 +10,7 @@ use Rattle.tpw_occam_core.specs.declared.scope.Entry.{Entry}
 use Rattle.tpw_occam_core.specs.declared.expression.Expression.{Expression}
 use Rattle.tpw_occam_core.specs.declared.process.Process.{Process}
 use Rattle.tpw_occam_core.specs.declared.process.Process.TheVariants as process
-use Rattle.tpw_occam_core.specs.Arithmetic.{plain}
+use Rattle.tpw_occam_core.specs.Arithmetic.{pure}
 use Rattle.tpw_occam_core.specs.Meaning.{Store, value_of, flagged, run, chosen}
 use Rattle.tpw_occam_core.specs.Sound.{is_sound_expression, is_sound_process}
 use Rattle.tpw_occam_code.specs.declared.analysis.First.{First}
@@ -133,7 +133,7 @@ never_executes k old new e guarded rest c is low one p q storages scope unset s 
     let parts = may_choose k storages scope unset e p guarded q rest may in
     let g = value_of e s in
     let t = flagged g.flag s in
-    let value : g ≡ plain c = constant_value k storages scope unset s e c parts.stands (knows_fewer k scope unset s known.knows) is in
+    let value : g ≡ pure c = constant_value k storages scope unset s e c parts.stands (knows_fewer k scope unset s known.knows) is in
     let none : nat_eq g.word 0 ≡ true = eq-eqb g.word 0 (ap (λ v. v.word) value ∙ low) in
     let same : run k.kinds rest t ≡ run k.kinds (process.If' e p guarded q rest) s =
     sym (chosen_none g.word (run k.kinds guarded t) (run k.kinds rest t) none) in
@@ -151,7 +151,7 @@ always_executes k old new e guarded rest c is some one p q storages scope unset 
     let parts = may_choose k storages scope unset e p guarded q rest may in
     let g = value_of e s in
     let t = flagged g.flag s in
-    let value : g ≡ plain c = constant_value k storages scope unset s e c parts.stands (knows_fewer k scope unset s known.knows) is in
+    let value : g ≡ pure c = constant_value k storages scope unset s e c parts.stands (knows_fewer k scope unset s known.knows) is in
     let same : run k.kinds guarded t ≡ run k.kinds (process.If' e p guarded q rest) s =
     sym (chosen_some g.word (run k.kinds guarded t) (run k.kinds rest t) (rw value (not_zero c some))) in
     does_less k.arrays old new _ _ _ _ (one storages scope unset t place parts.some (knows_flagged k scope g.flag s known))

@@ -12,9 +12,9 @@ use Rattle.tpw_occam_core.specs.declared.expression.Expression.{Expression}
 use Rattle.tpw_occam_core.specs.declared.process.Target.{Target}
 use Rattle.tpw_occam_core.specs.declared.process.Target.TheVariants as target
 use Rattle.tpw_occam_core.specs.declared.process.Assignment.{Assignment}
-use Rattle.tpw_occam_core.specs.Arithmetic.{plain, subscript}
+use Rattle.tpw_occam_core.specs.Arithmetic.{pure, subscript}
 use Rattle.tpw_occam_core.specs.Arrays.{size, with_element}
-use Rattle.tpw_occam_core.specs.Meaning.{Store, value_of, followed, array_of, subscript_of, stored, flagged, assigned}
+use Rattle.tpw_occam_core.specs.Meaning.{Store, value_of, bind, array_of, subscript_of, stored, flagged, assigned}
 use Rattle.tpw_occam_core.specs.Sound.{is_sound_assignment}
 use Rattle.tpw_occam_expressions.specs.declared.expressions.Value.{Value}
 use Rattle.tpw_occam_symbolic.specs.declared.items.Item.TheVariants as item
@@ -68,7 +68,7 @@ subscript_keeps k old first_code between new source a view e value elements temp
     let sized : elements ≡ size view (array_of s a) = count ∙ size_is view (array_of s a) _ (knows.lengths a there) in
     let least : 0 < elements = subst (λ n. 0 < n) (sym count) (seen_size k storages scope a view place seen) in
     let short : elements ≤ 2 ^ 31 = subst (λ n. n ≤ 2 ^ 31) (sym count) (elements_most view _ most) in
-    let is : subscript_value e elements s ≡ subscript_of (target.Element a view e) s = ap (λ n. followed (value_of e s) (subscript n)) sized in
+    let is : subscript_value e elements s ≡ subscript_of (target.Element a view e) s = ap (λ n. bind (value_of e s) (subscript n)) sized in
     subst (λ x. Does k.arrays old new (Agrees k scope unset s) (Saved scope temporaries x)) is
     (value_saved k scope unset s old between new source temporaries (subscript_value e elements s)
     (settled_computes k old first_code between e value elements 3 temporaries computes known makes least short (omega arith)
@@ -171,7 +171,7 @@ record Puts (b a : ℕ) (m end : Machine) : Type 0 where
 pub kept_stores : (k : Knowledge) (old loaded reduced at_element new : Lines) (source a : ℕ) (view : Kind) (elements temporary : ℕ)
     → (slice_index k.arrays a < 2 ^ 32 → elements ≡ elements_of view (slice_index k.arrays a))
     → loaded ≡ followed_by old (line_of source (Load (item.Temporary temporary) 0) ∷ [])
-    → ((i : ℕ) → i < 2 ^ 32 → Contains full i → 0 < elements → elements ≤ 2 ^ 31 → Answers loaded reduced 2 i (plain (i % 2 ^ 31 % elements)))
+    → ((i : ℕ) → i < 2 ^ 32 → Contains full i → 0 < elements → elements ≤ 2 ^ 31 → Answers loaded reduced 2 i (pure (i % 2 ^ 31 % elements)))
     → ((arrays : List ℕ) (i : ℕ) → Does arrays reduced at_element (HasNumber i) (HasAddress arrays a (scaled view i)))
     → ((arrays bytes : List ℕ) (b i word : ℕ) → i < size view bytes
     → Does arrays at_element new (IsToStore view b i word (length bytes)) (Writes (item.Array b) (scaled view i) (element_bytes view word)))
@@ -182,8 +182,8 @@ kept_stores k old loaded reduced at_element new source a view elements temporary
     let below : i < elements = subst (λ n. i < n) (sym sized) inside in
     let most : elements ≤ 2 ^ 31 = subst (λ n. n ≤ 2 ^ 31) (sym count) (elements_most view _ (subst (λ n. n ≤ 2048) long short)) in
     let small : i < 2 ^ 32 = omega (arith, below, most) in
-    let same : Answers loaded reduced 2 i (plain i) =
-    subst (λ w. Answers loaded reduced 2 i (plain w)) (reduced_below elements i below most)
+    let same : Answers loaded reduced 2 i (pure i) =
+    subst (λ w. Answers loaded reduced 2 i (pure w)) (reduced_below elements i below most)
     (reduces i small (full_contains i small) (omega (arith, below)) most) in
     let puts : Does k.arrays old reduced (λ m. HasConstants m × HasNumber word m × HasWord (item.Temporary temporary) i m) (Puts word i) =
     does_both k.arrays old loaded reduced _ _ _ _ _
@@ -245,7 +245,7 @@ variable_stored k old between new source x temporaries load stores storages scop
     (λ m middle has alone. alone.pushed.areg)
     (λ m middle end has alone writes.
     writes_stores scope temporaries (item.Variable x) 0 (to_le_bytes w32 w) false m middle end
-    (alone_leaves scope temporaries (plain w) m middle alone) alone.pushed.error writes.writes)))
+    (alone_leaves scope temporaries (pure w) m middle alone) alone.pushed.error writes.writes)))
     (λ m said. said.1.value)
     (λ m end said after. (
       matches_unflagged k storages scope (unset_but t unset) (stored k.kinds t i word s) end
@@ -278,7 +278,7 @@ element_stored k old between new source a view e temporaries load stores storage
     ))
     (λ m middle end said alone writes.
     writes_stores scope temporaries (item.Array a) (scaled view i) (element_bytes view word) false m middle end
-    (alone_leaves scope temporaries (plain word) m middle alone) alone.pushed.error writes)))
+    (alone_leaves scope temporaries (pure word) m middle alone) alone.pushed.error writes)))
     (λ m said. (said.0.agrees.constants, said.1))
     (λ m end said after. (
       matches_unflagged k storages scope (unset_but t unset) (stored k.kinds t i word s) end

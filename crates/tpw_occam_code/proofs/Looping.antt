@@ -8,8 +8,8 @@ use Rattle.std.proofs.lemmas.Bool.Decides.{nat_tests}
 use Rattle.std.proofs.lemmas.Int.{ints}
 use Rattle.std.proofs.lemmas.Nat.{from_le_bytes-to_le_bytes_4}
 use Rattle.tp_state.proofs.WordLemmas.{signed_low, signed_low_word, low_word_alike, low_word_lt, unsigned_is}
-use Rattle.tp_decode.specs.Words.{signed, low_word}
-use Rattle.tp_step.specs.Numbers.{overflows}
+use Rattle.tp_words.specs.Words.{signed, low_word}
+use Rattle.tp_words.specs.Numbers.{overflows}
 use Rattle.tp_decode.specs.declared.instr.Instr.TheVariants.{Lend}
 use Rattle.tpw_occam_core.specs.declared.worker.Storage.{Storage}
 use Rattle.tpw_occam_core.specs.declared.scope.Entry.{Entry}
@@ -34,7 +34,7 @@ use Rattle.tpw_occam_symbolic.specs.Leading.{Does, IsBefore, Arrives, HasLines, 
 use Rattle.tpw_occam_expressions.specs.Agreement.{Knowledge, with_fact, fact_at, counted_fact, constant_fact, FitsFact, LeavesItems}
 use Rattle.tpw_occam_code.specs.Executing.{Follows, Remains, IsProcessPlace, MayRun, KnowsState, Matches, LeavesCounts, Executes, Repeats, Begins, first_use, is_nothing, unset_after}
 use Rattle.tpw_occam_symbolic.proofs.Leading.{does_less, does_nothing, step_is, leads_then, has_first, does_kept}
-use Rattle.tpw_occam_symbolic.proofs.Carrying.{is_item-self}
+use Rattle.tpw_occam_symbolic.proofs.Simulation.{is_item-self}
 use Rattle.tpw_occam_expressions.proofs.Keeping.{other_item, word_written}
 use Rattle.tpw_occam_expressions.proofs.Naming.{variable_differs, slice_same, constant_fits, new_name}
 use Rattle.tpw_occam_expressions.proofs.Conditions.{get_behind, suc_not_zero}
@@ -177,7 +177,7 @@ record IsLoop (k : Knowledge) (storages : List Storage) (scope : List Entry) (un
   remains : Remains (counted k x range) body
   executes : Executes (counted k x range) begun bodied body
 
--- A machine before a turn: so many have been made, and so many and one are left.
+-- A machine before a turn: this many have been made, and that many and one are left.
 record AtTurn (k : Knowledge) (storages : List Storage) (scope : List Entry) (unset : ℕ → Bool) (x start : ℕ) (body : Process) (s : Store) (n left : ℕ) (m : Machine)
     : Type 0 where
   matches : Matches k storages scope unset (turns (run k.kinds body) x start n s) m

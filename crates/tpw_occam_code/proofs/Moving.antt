@@ -18,7 +18,7 @@ use Rattle.tpw_occam_code.specs.Executing.{with_item_word}
 use Rattle.tpw_occam_symbolic.specs.Leading.{HasStep}
 use Rattle.tpw_occam_code.specs.Moving.{Provides, Writes, Moves, HasCleared, ClearsWords}
 use Rattle.tpw_occam_symbolic.proofs.Leading.{does_placed, does_within, does_step, does_both, does_less, does_nothing}
-use Rattle.tpw_occam_symbolic.proofs.Carrying.{is_item-self}
+use Rattle.tpw_occam_symbolic.proofs.Simulation.{is_item-self}
 use Rattle.tpw_occam_expressions.proofs.Keeping.{other_item}
 use Rattle.tpw_occam_expressions.proofs.Computing.{word_same}
 
@@ -116,7 +116,7 @@ module _ (old one two three new : Lines) (line : ℕ) (source target : Item) (wo
       (λ m middle said at. subst HasConstants (sym at.0) said.0)
       (λ m middle end said at at2. (at2 ∙ ap (λ x. at_place (place_behind three) (push (number bytes) x)) at.0, at.1))
 
-  -- so many bytes of one item are copied to another
+  -- this many bytes of one item are copied to another
   pub moves : Moves old new source target word bytes
   unfolding performed effect
   moves arrays =

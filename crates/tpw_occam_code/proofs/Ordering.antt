@@ -14,7 +14,7 @@ use Rattle.tpw_occam_core.specs.declared.process.Target.TheVariants as target
 use Rattle.tpw_occam_core.specs.declared.process.Assignment.{Assignment}
 use Rattle.tpw_occam_core.specs.Arithmetic.{subscript}
 use Rattle.tpw_occam_core.specs.Arrays.{size, kept, with_element}
-use Rattle.tpw_occam_core.specs.Meaning.{Store, value_of, followed, array_of, with_value, with_array, kind_of, subscript_of, stored, flagged, assigned}
+use Rattle.tpw_occam_core.specs.Meaning.{Store, value_of, bind, array_of, with_value, with_array, kind_of, subscript_of, stored, flagged, assigned}
 use Rattle.tpw_occam_code.specs.declared.order.Waiting.{Waiting}
 use Rattle.tpw_occam_code.specs.declared.order.Move.{Move}
 use Rattle.tpw_occam_code.specs.declared.order.Move.TheVariants.{Keep, Make}
@@ -121,8 +121,8 @@ pub subscript_unread : (kinds : List Kind) (other t : Target) (i word : ℕ) (s 
     → subscript_of other (stored kinds t i word s) ≡ subscript_of other s
 subscript_unread kinds (target.Variable x) t i word s unread = refl
 subscript_unread kinds (target.Element b view e) t i word s unread =
-    ap (λ v. followed v (subscript (size view (array_of (stored kinds t i word s) b)))) (value_unread kinds e t i word s unread)
-    ∙ ap (λ n. followed (value_of e s) (subscript n)) (size_same view _ _ (length_stored kinds t i word s b))
+    ap (λ v. bind v (subscript (size view (array_of (stored kinds t i word s) b)))) (value_unread kinds e t i word s unread)
+    ∙ ap (λ n. bind (value_of e s) (subscript n)) (size_same view _ _ (length_stored kinds t i word s b))
 
 -- two stores in places that are apart
 set_both : {A : Type 0} (xs : List A) (x y : ℕ) (a b : A) → nat_eq x y ≡ false → slice_set (slice_set xs y b) x a ≡ slice_set (slice_set xs x a) y b

@@ -10,11 +10,11 @@ use Rattle.tpw_occam_core.specs.declared.expression.Expression.TheVariants.{Cons
 use Rattle.tpw_occam_core.specs.declared.process.Target.{Target}
 use Rattle.tpw_occam_core.specs.declared.process.Target.TheVariants as target
 use Rattle.tpw_occam_core.specs.declared.process.Assignment.{Assignment}
-use Rattle.tp_decode.specs.Words.{complement}
-use Rattle.tp_step.specs.Numbers.{truth}
-use Rattle.tpw_occam_core.specs.Arithmetic.{answer, plain, subscript, low_byte, applied}
+use Rattle.tp_words.specs.Words.{complement}
+use Rattle.tp_words.specs.Numbers.{truth}
+use Rattle.tpw_occam_core.specs.Arithmetic.{answer, pure, subscript, low_byte, applied}
 use Rattle.tpw_occam_core.specs.Arrays.{size}
-use Rattle.tpw_occam_core.specs.Meaning.{Store, value_of, followed, element_at, both, either, array_of, with_value, subscript_of, stored, flagged, assigned}
+use Rattle.tpw_occam_core.specs.Meaning.{Store, value_of, bind, element_at, both, either, array_of, with_value, subscript_of, stored, flagged, assigned}
 use Rattle.tpw_occam_expressions.specs.Computing.{reads}
 use Rattle.tpw_occam_code.specs.Assigning.{reads_array}
 use Rattle.tpw_occam_expressions.proofs.Naming.{slice_same, slice_other, slice_length}
@@ -74,38 +74,38 @@ same_within e s t y w same = record {
 -- the value is the same
 pub value_same : (e : Expression) (s t : Store) → SameFor e s t → value_of e s ≡ value_of e t
 value_same (Constant c) s t same = refl
-value_same (Variable x) s t same = ap plain (same.values x (eq-eqb x x refl))
+value_same (Variable x) s t same = ap pure (same.values x (eq-eqb x x refl))
 value_same (Element' a view p e) s t same =
     let one = value_same e s t (same_part (Element' a view p e) e s t (λ x h. h) (λ b h. or_right (a == b) _ h) same) in
-    ap (λ v. followed v (element_at view (array_of s a))) one
-    ∙ ap (λ l. followed (value_of e t) (element_at view l)) (same.arrays a (or_left (a == a) _ (eq-eqb a a refl)))
+    ap (λ v. bind v (element_at view (array_of s a))) one
+    ∙ ap (λ l. bind (value_of e t) (element_at view l)) (same.arrays a (or_left (a == a) _ (eq-eqb a a refl)))
 value_same (Checked' below p e) s t same =
-    ap (λ v. followed v (subscript below)) (value_same e s t (same_part (Checked' below p e) e s t (λ x h. h) (λ b h. h) same))
+    ap (λ v. bind v (subscript below)) (value_same e s t (same_part (Checked' below p e) e s t (λ x h. h) (λ b h. h) same))
 value_same (Binary' operator p e q f) s t same =
     let one = value_same e s t (same_part (Binary' operator p e q f) e s t (λ x h. or_left (reads e x) _ h) (λ b h. or_left (reads_array e b) _ h) same) in
     let two = value_same f s t (same_part (Binary' operator p e q f) f s t (λ x h. or_right (reads e x) _ h) (λ b h. or_right (reads_array e b) _ h) same) in
-    ap (λ v. followed v (λ b. followed (value_of f s) (applied operator b))) one
-    ∙ ap (λ v. followed (value_of e t) (λ b. followed v (applied operator b))) two
+    ap (λ v. bind v (λ b. bind (value_of f s) (applied operator b))) one
+    ∙ ap (λ v. bind (value_of e t) (λ b. bind v (applied operator b))) two
 value_same (Complement' p e) s t same =
-    ap (λ v. followed v (λ a. plain (complement a))) (value_same e s t (same_part (Complement' p e) e s t (λ x h. h) (λ b h. h) same))
+    ap (λ v. bind v (λ a. pure (complement a))) (value_same e s t (same_part (Complement' p e) e s t (λ x h. h) (λ b h. h) same))
 value_same (Not' p e) s t same =
-    ap (λ v. followed v (λ a. plain (truth (a == 0)))) (value_same e s t (same_part (Not' p e) e s t (λ x h. h) (λ b h. h) same))
+    ap (λ v. bind v (λ a. pure (truth (a == 0)))) (value_same e s t (same_part (Not' p e) e s t (λ x h. h) (λ b h. h) same))
 value_same (LowByte' p e) s t same =
-    ap (λ v. followed v low_byte) (value_same e s t (same_part (LowByte' p e) e s t (λ x h. h) (λ b h. h) same))
+    ap (λ v. bind v low_byte) (value_same e s t (same_part (LowByte' p e) e s t (λ x h. h) (λ b h. h) same))
 value_same (And' p e q f) s t same =
     let one = value_same e s t (same_part (And' p e q f) e s t (λ x h. or_left (reads e x) _ h) (λ b h. or_left (reads_array e b) _ h) same) in
     let two = value_same f s t (same_part (And' p e q f) f s t (λ x h. or_right (reads e x) _ h) (λ b h. or_right (reads_array e b) _ h) same) in
-    ap (λ v. followed v (λ a. both a (value_of f s))) one ∙ ap (λ v. followed (value_of e t) (λ a. both a v)) two
+    ap (λ v. bind v (λ a. both a (value_of f s))) one ∙ ap (λ v. bind (value_of e t) (λ a. both a v)) two
 value_same (Or' p e q f) s t same =
     let one = value_same e s t (same_part (Or' p e q f) e s t (λ x h. or_left (reads e x) _ h) (λ b h. or_left (reads_array e b) _ h) same) in
     let two = value_same f s t (same_part (Or' p e q f) f s t (λ x h. or_right (reads e x) _ h) (λ b h. or_right (reads_array e b) _ h) same) in
-    ap (λ v. followed v (λ a. either a (value_of f s))) one ∙ ap (λ v. followed (value_of e t) (λ a. either a v)) two
+    ap (λ v. bind v (λ a. either a (value_of f s))) one ∙ ap (λ v. bind (value_of e t) (λ a. either a v)) two
 value_same (Let' y p e q f) s t same =
     let one = value_same e s t (same_part (Let' y p e q f) e s t (λ x h. or_left (reads e x) _ h) (λ b h. or_left (reads_array e b) _ h) same) in
     let inner = same_part (Let' y p e q f) f s t (λ x h. or_right (reads e x) _ h) (λ b h. or_right (reads_array e b) _ h) same in
     let w = (value_of e t).word in
     let two = value_same f (with_value y w s) (with_value y w t) (same_within f s t y w inner) in
-    ap (λ v. followed v (λ a. value_of f (with_value y a s))) one
+    ap (λ v. bind v (λ a. value_of f (with_value y a s))) one
     ∙ ap (λ v. answer v.word ((value_of e t).flag || v.flag)) two
 
 -- ---- the flag is not read
@@ -115,7 +115,7 @@ value_flagged e flag s = value_same e (flagged flag s) s (record { count = refl;
 
 pub subscript_flagged : (t : Target) (flag : Bool) (s : Store) → subscript_of t (flagged flag s) ≡ subscript_of t s
 subscript_flagged (target.Variable x) flag s = refl
-subscript_flagged (target.Element a view e) flag s = ap (λ v. followed v (subscript (size view (array_of s a)))) (value_flagged e flag s)
+subscript_flagged (target.Element a view e) flag s = ap (λ v. bind v (subscript (size view (array_of s a)))) (value_flagged e flag s)
 
 pub stored_flagged : (kinds : List Kind) (t : Target) (i word : ℕ) (flag : Bool) (s : Store)
     → stored kinds t i word (flagged flag s) ≡ flagged flag (stored kinds t i word s)

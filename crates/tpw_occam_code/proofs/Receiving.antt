@@ -29,7 +29,7 @@ use Rattle.tpw_occam_expressions.specs.Agreement.{Knowledge, fact_at}
 use Rattle.tpw_occam_code.specs.Executing.{Matches, none_unset}
 use Rattle.tpw_occam_symbolic.specs.Leading.{cleared_bytes}
 use Rattle.tpw_occam_code.specs.Starting.{IsInput, Inputs, Receives, Outputs, Sends}
-use Rattle.tpw_occam_symbolic.proofs.Carrying.{is_item-self}
+use Rattle.tpw_occam_symbolic.proofs.Simulation.{is_item-self}
 use Rattle.tpw_occam_expressions.proofs.Keeping.{other_item}
 use Rattle.tpw_occam_expressions.proofs.Computing.{bytes_same, word_same}
 use Rattle.tpw_occam_symbolic.proofs.Sizes.{size_at}

@@ -12,9 +12,9 @@ use Rattle.tpw_occam_core.specs.declared.expression.Expression.{Expression}
 use Rattle.tpw_occam_core.specs.declared.process.Target.{Target}
 use Rattle.tpw_occam_core.specs.declared.process.Target.TheVariants as target
 use Rattle.tpw_occam_core.specs.declared.process.Assignment.{Assignment}
-use Rattle.tpw_occam_core.specs.Arithmetic.{plain, subscript}
+use Rattle.tpw_occam_core.specs.Arithmetic.{pure, subscript}
 use Rattle.tpw_occam_core.specs.Arrays.{size, kept}
-use Rattle.tpw_occam_core.specs.Meaning.{Store, value_of, followed, array_of, kind_of, subscript_of, stored, flagged, assigned}
+use Rattle.tpw_occam_core.specs.Meaning.{Store, value_of, bind, array_of, kind_of, subscript_of, stored, flagged, assigned}
 use Rattle.tpw_occam_core.specs.Sound.{is_sound_assignment}
 use Rattle.tpw_occam_symbolic.specs.declared.items.Item.TheVariants as item
 use Rattle.tpw_occam_symbolic.specs.Code.{Lines}
@@ -43,15 +43,15 @@ use Rattle.tpw_occam_code.proofs.Knowing.{matches_fewer}
 
 fixed_is : (k : Knowledge) (storages : List Storage) (scope : List Entry) (unset : ℕ → Bool) (s : Store) (a : ℕ) (e : Expression) (c : ℕ)
     → IsPlace k storages scope → MayTake k storages scope unset (target.Element a Word e) → Knows k scope unset s → IsFixed k a Word e c
-    → subscript_of (target.Element a Word e) s ≡ plain c
+    → subscript_of (target.Element a Word e) s ≡ pure c
 fixed_is k storages scope unset s a e c place takes knows fixed =
     let parts = take_element k storages scope unset a Word e takes in
     let there = seen_array storages scope a Word parts.0 in
     let bytes = array_of s a in
-    let value : value_of e s ≡ plain c = constant_value k storages scope unset s e c parts.1 knows fixed.constant in
+    let value : value_of e s ≡ pure c = constant_value k storages scope unset s e c parts.1 knows fixed.constant in
     let most = place.most a there in
     let within : c < size Word bytes = subst (λ n. c < n) (size_is Word bytes _ (knows.lengths a there)) (fixed.below (omega (arith, most))) in
-    ap (λ v. followed v (subscript (size Word bytes))) value ∙ subscript_below (size Word bytes) c within
+    ap (λ v. bind v (subscript (size Word bytes))) value ∙ subscript_below (size Word bytes) c within
 
 -- a subscript that is a constant sets no flag
 word_flag : (k : Knowledge) (storages : List Storage) (scope : List Entry) (unset : ℕ → Bool) (s : Store) (t : Target)
@@ -86,7 +86,7 @@ pub fixed_word_stored : (k : Knowledge) (old new : Lines) (a : ℕ) (e : Express
     → StoresWord k old new (target.Element a Word e)
 fixed_word_stored k old new a e c fixed stores storages scope unset before s first word place takes knows shape small =
     let t : Target = target.Element a Word e in
-    let is : subscript_of t first ≡ plain c =
+    let is : subscript_of t first ≡ pure c =
     fixed_is k storages scope before first a e c place.place takes (knows_unset k scope before first knows.knows) fixed in
     let parts = take_element k storages scope before a Word e takes in
     let most = place.place.most a (seen_array storages scope a Word parts.0) in

@@ -6,7 +6,7 @@ use Rattle.std.specs.List.{list_any, list_all}
 use Rattle.std.proofs.lemmas.Bool.{ltb-true, eqb-true, eq-eqb}
 use Rattle.std.proofs.Math.Nat.{mod-le}
 use Rattle.tp_state.proofs.WordLemmas.{low_word_lt}
-use Rattle.tp_step.specs.Numbers.{truth}
+use Rattle.tp_words.specs.Numbers.{truth}
 use Rattle.tpw_occam_core.specs.declared.arithmetic.Answer.{Answer}
 use Rattle.tpw_occam_core.specs.declared.kind.Kind.{Kind}
 use Rattle.tpw_occam_core.specs.declared.kind.Kind.TheVariants as kinds
@@ -22,7 +22,7 @@ use Rattle.tpw_occam_core.specs.declared.process.Assignment.{Assignment}
 use Rattle.tpw_occam_core.specs.declared.process.Message.{Message}
 use Rattle.tpw_occam_core.specs.declared.process.Process.{Process}
 use Rattle.tpw_occam_core.specs.declared.process.Process.TheVariants as process
-use Rattle.tpw_occam_core.specs.Arithmetic.{plain, subscript}
+use Rattle.tpw_occam_core.specs.Arithmetic.{pure, subscript}
 use Rattle.tpw_occam_core.specs.Arrays.{element, kept, written, with_element}
 use Rattle.tpw_occam_core.specs.Meaning.{Store, value_of, both, either, with_value, with_array, array_of, kind_of, flagged, run, chosen, turns, subscript_of, stored, assigned, traced}
 use Rattle.tpw_occam_core.specs.Sound.{is_name, is_variable, is_array, is_new_name, is_new_array, is_written, bytes_of, storage_of, is_sound_expression, is_sound_target, is_sound_assignment, is_sound_process, are_turns}
@@ -63,7 +63,7 @@ element_small kinds.Byte bytes i small = let h = small i in omega (arith, h)
 subscript_small : (below i : ℕ) → i < 2 ^ 32 → (subscript below i).word < 2 ^ 32
 subscript_small below i small = by_test (nat_lt i below)
   where
-    by_test : (b : Bool) → (if b then plain i else record { word = i % 2 ^ 31 % max below 1; flag = true }).word < 2 ^ 32
+    by_test : (b : Bool) → (if b then pure i else record { word = i % 2 ^ 31 % max below 1; flag = true }).word < 2 ^ 32
     by_test true = small
     by_test false = let less = mod-le (i % 2 ^ 31) (max below 1) in omega (arith, less)
 

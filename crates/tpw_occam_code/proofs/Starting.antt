@@ -21,7 +21,7 @@ use Rattle.tpw_occam_symbolic.specs.Blocks.{bytes_at, word_at}
 use Rattle.tpw_occam_symbolic.specs.Symbolic.{Machine}
 use Rattle.tpw_occam_symbolic.specs.Placing.{site_of, first_blocks, IsPlaced, IsBuilt}
 use Rattle.tpw_occam_symbolic.specs.Program.{IsPacket, GivesMeaning, Means}
-use Rattle.tpw_occam_symbolic.proofs.CarryingStart.{Gives}
+use Rattle.tpw_occam_symbolic.proofs.SimulationStart.{Gives}
 use Rattle.tpw_occam_symbolic.proofs.Sizes.{sound_declared}
 use Rattle.tpw_occam_symbolic.proofs.Beginning.{all_get, index_zeros, first_machine, machine_of, built_carries}
 use Rattle.tpw_occam_code.specs.Starting.{Begins, IsSent, Works}

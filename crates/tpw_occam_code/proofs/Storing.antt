@@ -21,7 +21,7 @@ use Rattle.tpw_occam_expressions.specs.Values.{HasNumber, PushesAddress, scaled}
 use Rattle.tpw_occam_expressions.specs.Agreement.{LeavesItems}
 use Rattle.tpw_occam_code.specs.Assigning.{element_bytes, Writes, WritesPopped, IsToStore, Stores}
 use Rattle.tpw_occam_symbolic.proofs.Leading.{does_step, does_both, does_less}
-use Rattle.tpw_occam_symbolic.proofs.Carrying.{is_item-self}
+use Rattle.tpw_occam_symbolic.proofs.Simulation.{is_item-self}
 use Rattle.tpw_occam_expressions.proofs.Naming.{slice_same, slice_other, slice_length}
 
 -- ---- steps that store
@@ -60,7 +60,7 @@ writes_at p i place bytes m end is = record {
   traced = ap (λ e. e.traced) is;
 }
 
--- Breg goes to the word at the address in Areg, or so many words behind it
+-- Breg goes to the word at the address in Areg, or this many words behind it
 store_word_at : (m : Machine) (a at place word : ℕ) (c : ℕ) (n : ℤ) → n ≡ pos c → m.areg ≡ address (item.Array a) at → m.breg ≡ number word
     → place ≡ at + 4 * c → place + 4 ≤ m.sizes (item.Array a)
     → effect (Stnl n) m ≡ Some (pop_two (with_blocks (with_bytes (item.Array a) place (to_le_bytes w32 word) m.blocks) m))

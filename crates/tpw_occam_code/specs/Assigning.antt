@@ -15,7 +15,7 @@ use Rattle.tpw_occam_core.specs.declared.expression.Expression.TheVariants.{Or',
 use Rattle.tpw_occam_core.specs.declared.process.Target.{Target}
 use Rattle.tpw_occam_core.specs.declared.process.Target.TheVariants as target
 use Rattle.tpw_occam_core.specs.declared.process.Assignment.{Assignment}
-use Rattle.tpw_occam_core.specs.Arithmetic.{answer, plain}
+use Rattle.tpw_occam_core.specs.Arithmetic.{answer, pure}
 use Rattle.tpw_occam_core.specs.Arrays.{size, kept}
 use Rattle.tpw_occam_core.specs.Meaning.{Store, value_of, kind_of, subscript_of, stored, flagged, assigned}
 use Rattle.tpw_occam_core.specs.Sound.{is_seen, is_sound_target, is_sound_assignment}
@@ -103,7 +103,7 @@ pub record WritesPopped (i : Item) (place : ℕ) (bytes : List ℕ) (m end : Mac
   pub breg : end.breg ≡ m.creg
   pub writes : Writes i place bytes m end
 
--- Breg is a word, and Areg the address of an element of an array of so many bytes, all of which are there.
+-- Breg is a word, and Areg the address of an element of an array of this many bytes, all of which are there.
 pub record IsToStore (kind : Kind) (a i word bytes : ℕ) (m : Machine) : Type 0 where
   pub areg : m.areg ≡ address (item.Array a) (scaled kind i)
   pub breg : m.breg ≡ number word
@@ -194,7 +194,7 @@ pub record LeavesKept (scope : List Entry) (temporaries : ℕ) (m end : Machine)
 
 -- the value of an assignment: kept already, or evaluated
 abbrev pub source_of : Assignment → (is_kept : Bool) → ℕ → Store → Answer
-source_of a true word s = plain word
+source_of a true word s = pure word
 source_of a false word s = value_of a.value s
 
 -- the state after an assignment with a value that is given

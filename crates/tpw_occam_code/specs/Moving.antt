@@ -10,7 +10,7 @@ use Rattle.tpw_occam_symbolic.specs.Symbolic.{Machine}
 use Rattle.tpw_occam_symbolic.specs.Leading.{Does, Serves, HasConstants, HasStep, word_bytes}
 use Rattle.tpw_occam_symbolic.specs.Leading.{cleared_bytes}
 
--- an item has so many bytes where code has a step that items serve
+-- an item has this many bytes where code has a step that items serve
 abbrev pub Provides : List ℕ → Machine → Step → Item → ℕ → Type 0
 Provides arrays m made item bytes = HasStep m made → Serves arrays m.sizes made → bytes ≤ m.sizes item
 
@@ -22,7 +22,7 @@ pub record Writes (f : Blocks → Blocks) (m end : Machine) : Type 0 where
   pub sent : end.sent ≡ m.sent
   pub traced : end.traced ≡ m.traced
 
--- the lines copy so many bytes of an item to the words of another from one on
+-- the lines copy this many bytes of an item to the words of another from one on
 abbrev pub Moves : (old new : Lines) (source target : Item) (word bytes : ℕ) → Type 0
 Moves old new source target word bytes =
     (arrays : List ℕ) → Does arrays old new
@@ -39,7 +39,7 @@ pub record HasCleared (a bytes : ℕ) (m end : Machine) : Type 0 where
   pub sent : end.sent ≡ m.sent
   pub traced : end.traced ≡ m.traced
 
--- the lines make so many words of an array 0, which has at least as many as are to be cleared
+-- the lines make this many words of an array 0, which has at least as many as are to be cleared
 abbrev pub ClearsWords : (old new : Lines) (a words done : ℕ) → Type 0
 ClearsWords old new a words done =
     (arrays : List ℕ) → 4 * words ≤ word_bytes (slice_index arrays a) → Does arrays old new

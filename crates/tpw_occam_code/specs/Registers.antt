@@ -28,7 +28,7 @@ FitAll k (a ∷ more) registers =
     (1 ≤ registers) × (registers ≤ 1 → IsTrue (is_simple k a.value)) × IsWordTarget k a.target
     × FitAll k more (registers - 1)
 
--- what the others hold stays, where so many registers are used
+-- what the others hold stays, where this many registers are used
 pub record KeepsRegisters (registers : ℕ) (m end : Machine) : Type 0 where
   pub areg : registers ≤ 2 → end.areg ≡ m.areg
   pub breg : registers ≤ 1 → end.breg ≡ m.breg
@@ -49,7 +49,7 @@ StoresWord k old new t =
     (λ m end. Matches k storages scope (unset_but t unset) (stored k.kinds t (subscript_of t first).word word s) end
     × LeavesCounts scope m end × Popped m end)
 
--- assignments with so many registers
+-- assignments with this many registers
 abbrev pub AssignsBelow : Knowledge → (old new : Lines) → List Assignment → (registers : ℕ) → Type 0
 AssignsBelow k old new all registers =
     (storages : List Storage) (scope : List Entry) (unset : ℕ → Bool) (s : Store) → IsProcessPlace k storages scope

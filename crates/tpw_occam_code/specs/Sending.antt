@@ -44,7 +44,7 @@ pub record HasSent (channel : Channel) (bytes : List ℕ) (m end : Machine) : Ty
   pub error : end.error ≡ m.error
   pub to_come : end.to_come ≡ m.to_come
 
--- the lines send so many bytes of an item, from its first on
+-- the lines send this many bytes of an item, from its first on
 abbrev pub SendsBytes : (old new : Lines) → Channel → Item → ℕ → Type 0
 SendsBytes old new channel item bytes =
     (arrays : List ℕ) → Does arrays old new

@@ -51,7 +51,7 @@ pub record IsInput (item : Item) (m end : Machine) : Type 0 where
   pub code : end.code ≡ m.code
   pub sizes : end.sizes ≡ m.sizes
 
--- the code of so many bytes that come, where there is room for them
+-- the code of this many bytes that come, where there is room for them
 abbrev pub Inputs : (old new : Lines) → Item → ℕ → Type 0
 Inputs old new item bytes =
     (arrays : List ℕ) → ((sizes : Item → ℕ) → Serves arrays sizes (Pointer item 0) → bytes ≤ sizes item)

@@ -1,4 +1,4 @@
-//! What is read and what is assigned.
+//! Variables that are read and that are assigned: definite assignment.
 
 ghost use Rattle.std.specs.Prelude.{◌≡◌, ◌<◌, ◌^◌};
 ghost use Rattle.std.specs.List.{list_any};
@@ -114,7 +114,7 @@ pub(crate) fn may_be_same(one: &Target, other: &Target) -> bool
     }
 }
 
-/// What happens first to a variable.
+/// The first use of a variable.
 #[derive(Clone, Copy)]
 pub(crate) enum First {
     Nothing,
@@ -123,7 +123,7 @@ pub(crate) enum First {
 }
 
 impl First {
-    /// What happens first, here or else in what follows.
+    /// The first use, here or else in what follows.
     fn then(self, next: First) -> First
         ensures { result ≡ then_first self next }
     {
@@ -134,7 +134,7 @@ impl First {
         }
     }
 
-    /// What happens first on either of two ways: nothing is assigned where one way leaves that to what follows.
+    /// The first use on either of two ways: nothing is assigned where one way leaves that to what follows.
     fn or(self, other: First) -> First
         ensures { result ≡ either_first self other }
     {
@@ -219,7 +219,7 @@ fn in_assignments(list: &[Assignment], x: usize) -> First
     First::Nothing
 }
 
-/// What a process does first to a variable.
+/// The first use of a variable in a process.
 pub(crate) fn first_use(p: &Process, x: usize) -> First
     ensures { result ≡ first_use p.now x }
 {

@@ -21,7 +21,7 @@ use crate::order::{Move, keep_any, moves};
 use tp_decode::Instr;
 use tpw_occam_core::{Assignment, Expression, Kind, Target};
 use tpw_occam_expressions::{
-    Emitter, FULL, Offset, Room, base, checked, indexed, kept_byte, reduce, settled,
+    Allocation, Emitter, FULL, Offset, base, checked, indexed, kept_byte, reduce, settled,
 };
 use tpw_occam_symbolic::{Code, CodeFault, Item, Step};
 
@@ -75,7 +75,7 @@ pub(crate) fn assignments(
     ensures assigns { OnOk result (Assigns emitter.old code.old code.new all.now) }
 {
     if let [one] = all {
-        return make(emitter, code, one, 0, false, Room::from_word(0, line));
+        return make(emitter, code, one, 0, false, Allocation::from_word(0, line));
     }
     several(emitter, code, all, line)
 }
@@ -93,7 +93,7 @@ fn several(
     if let Some(moves) = moves(emitter.alloc, all)? {
         return by_moves(emitter, code, all, &moves, line);
     }
-    assign_by_words(emitter, code, all, Room::from_word(0, line))
+    assign_by_words(emitter, code, all, Allocation::from_word(0, line))
 }
 
 /// Makes several assignments for which there is an order.
@@ -108,12 +108,18 @@ fn by_moves(
     ensures assigns { OnOk result (SettleAll all.now moves.now → Assigns emitter.old code.old code.new all.now) }
 {
     if !keep_any(moves) {
-        return make_moves(emitter, code, all, moves, Room::from_word(0, line));
+        return make_moves(emitter, code, all, moves, Allocation::from_word(0, line));
     }
     if fit_in_registers(emitter, all, 3) {
-        return assign_by_registers(emitter, code, all, Room::from_word(0, line));
+        return assign_by_registers(emitter, code, all, Allocation::from_word(0, line));
     }
-    make_moves(emitter, code, all, moves, Room::from_word(all.len(), line))
+    make_moves(
+        emitter,
+        code,
+        all,
+        moves,
+        Allocation::from_word(all.len(), line),
+    )
 }
 
 /// Makes assignments one by one.
@@ -122,11 +128,11 @@ fn make_moves(
     code: &mut Code,
     all: &[Assignment],
     moves: &[Move],
-    room: Room,
+    room: Allocation,
 ) -> Result<(), CodeFault>
     ensures knowledge { OnOk result (emitter.new ≡ emitter.old) }
     ensures makes { OnOk result (room.registers ≡ 3
-        → MakesMoves emitter.old code.old code.new all.now moves.now room.kept) }
+        → MakesMoves emitter.old code.old code.new all.now moves.now room.next_temporary) }
 {
     let [next, rest @ ..] = moves else {
         return Ok(());
@@ -141,10 +147,10 @@ fn make_move(
     code: &mut Code,
     all: &[Assignment],
     next: Move,
-    room: Room,
+    room: Allocation,
 ) -> Result<(), CodeFault>
     ensures knowledge { OnOk result (emitter.new ≡ emitter.old) }
-    ensures makes { OnOk result (room.registers ≡ 3 → MakesMove emitter.old code.old code.new all.now next room.kept) }
+    ensures makes { OnOk result (room.registers ≡ 3 → MakesMove emitter.old code.old code.new all.now next room.next_temporary) }
 {
     match next {
         Move::Keep(i) => keep(emitter, code, all, i, room),
@@ -164,16 +170,16 @@ fn keep(
     code: &mut Code,
     all: &[Assignment],
     i: usize,
-    room: Room,
+    room: Allocation,
 ) -> Result<(), CodeFault>
     ensures knowledge { OnOk result (emitter.new ≡ emitter.old) }
     ensures small { OnOk result (HasSmallValue emitter.old (assignment_at all.now i).value) }
-    ensures there { OnOk result (i < room.kept) }
+    ensures there { OnOk result (i < room.next_temporary) }
     ensures keeps { OnOk result (room.registers ≡ 3
-        → KeepsValue emitter.old code.old code.new (assignment_at all.now i) i room.kept) }
+        → KeepsValue emitter.old code.old code.new (assignment_at all.now i) i room.next_temporary) }
 {
     // each number is that of an assignment, for which there is a word
-    if i >= all.len() || i >= room.kept {
+    if i >= all.len() || i >= room.next_temporary {
         return Err(CodeFault::Workspace { line: room.line });
     }
     value(emitter, code, &all[i], room)?;
@@ -185,11 +191,11 @@ fn value(
     emitter: &mut Emitter<'_>,
     code: &mut Code,
     assignment: &Assignment,
-    room: Room,
+    room: Allocation,
 ) -> Result<(), CodeFault>
     ensures knowledge { OnOk result (emitter.new ≡ emitter.old) }
     ensures computes { OnOk result (2 ≤ room.registers → ComputesTo emitter.old code.old code.new assignment.now.value
-        (taken_value emitter.old.kinds assignment.now) room.registers room.kept) }
+        (taken_value emitter.old.kinds assignment.now) room.registers room.next_temporary) }
     ensures small { OnOk result (HasSmallValue emitter.old assignment.now.value) }
 {
     let value = emitter.expression(code, &assignment.value, room)?;
@@ -208,11 +214,11 @@ fn make(
     assignment: &Assignment,
     number: usize,
     is_kept: bool,
-    room: Room,
+    room: Allocation,
 ) -> Result<(), CodeFault>
     ensures knowledge { OnOk result (emitter.new ≡ emitter.old) }
     ensures makes { OnOk result (room.registers ≡ 3
-        → MakesOne emitter.old code.old code.new assignment.now number is_kept room.kept) }
+        → MakesOne emitter.old code.old code.new assignment.now number is_kept room.next_temporary) }
     ensures small { OnOk result (is_kept ≡ false → HasSmallValue emitter.old assignment.now.value) }
 {
     if is_kept {
@@ -228,10 +234,10 @@ fn store(
     emitter: &mut Emitter<'_>,
     code: &mut Code,
     target: &Target,
-    room: Room,
+    room: Allocation,
 ) -> Result<(), CodeFault>
     ensures knowledge { OnOk result (emitter.new ≡ emitter.old) }
-    ensures stores { OnOk result (room.registers ≡ 3 → StoresIn emitter.old code.old code.new target.now room.kept) }
+    ensures stores { OnOk result (room.registers ≡ 3 → StoresIn emitter.old code.old code.new target.now room.next_temporary) }
 {
     let line = room.line;
     match target {
@@ -259,11 +265,11 @@ fn store_element(
     array: usize,
     kind: Kind,
     subscript: &Expression,
-    room: Room,
+    room: Allocation,
 ) -> Result<(), CodeFault>
     ensures knowledge { OnOk result (emitter.new ≡ emitter.old) }
     ensures stores { OnOk result (room.registers ≡ 3
-        → StoresIn emitter.old code.old code.new (target.Element array kind subscript.now) room.kept) }
+        → StoresIn emitter.old code.old code.new (target.Element array kind subscript.now) room.next_temporary) }
 {
     let size = emitter.elements(array, kind);
     subscript_over(emitter, code, subscript, size, room)?;
@@ -277,11 +283,11 @@ fn subscript_over(
     code: &mut Code,
     subscript: &Expression,
     size: u32,
-    room: Room,
+    room: Allocation,
 ) -> Result<(), CodeFault>
     ensures knowledge { OnOk result (emitter.new ≡ emitter.old) }
     ensures computes { OnOk result (0 < size → size ≤ 2 ^ 31 → room.registers ≡ 3
-        → ComputesOver emitter.old code.old code.new subscript.now (subscript_value subscript.now size) room.kept) }
+        → ComputesOver emitter.old code.old code.new subscript.now (subscript_value subscript.now size) room.next_temporary) }
 {
     if emitter.need(subscript) <= 2 {
         emitter.subscript(code, subscript, size, room.above())?;
@@ -297,11 +303,11 @@ fn subscript_above(
     code: &mut Code,
     subscript: &Expression,
     size: u32,
-    room: Room,
+    room: Allocation,
 ) -> Result<(), CodeFault>
     ensures knowledge { OnOk result (emitter.new ≡ emitter.old) }
     ensures computes { OnOk result (0 < size → size ≤ 2 ^ 31 → room.registers ≡ 3
-        → ComputesAbove emitter.old code.old code.new subscript.now (subscript_value subscript.now size) room.kept) }
+        → ComputesAbove emitter.old code.old code.new subscript.now (subscript_value subscript.now size) room.next_temporary) }
 {
     let line = room.line;
     let i = emitter.expression(code, subscript, room.beside()?)?;
@@ -348,7 +354,7 @@ fn is_word(emitter: &Emitter<'_>, target: &Target) -> bool
     }
 }
 
-/// Whether all values can be in so many registers at once.
+/// Whether all values can be in this many registers at once.
 fn fit_in_registers(emitter: &Emitter<'_>, all: &[Assignment], registers: u32) -> bool
     ensures { IsTrue result → FitAll emitter.now all.now registers }
 {
@@ -366,7 +372,7 @@ fn assign_by_registers(
     emitter: &mut Emitter<'_>,
     code: &mut Code,
     all: &[Assignment],
-    room: Room,
+    room: Allocation,
 ) -> Result<(), CodeFault>
     ensures knowledge { OnOk result (emitter.new ≡ emitter.old) }
     ensures assigns { OnOk result (room.registers ≤ 3 → FitAll emitter.old all.now room.registers
@@ -413,10 +419,10 @@ fn assign_by_words(
     emitter: &mut Emitter<'_>,
     code: &mut Code,
     all: &[Assignment],
-    room: Room,
+    room: Allocation,
 ) -> Result<(), CodeFault>
     ensures knowledge { OnOk result (emitter.new ≡ emitter.old) }
-    ensures assigns { OnOk result (room.registers ≡ 3 → AssignsAbove emitter.old code.old code.new all.now room.kept) }
+    ensures assigns { OnOk result (room.registers ≡ 3 → AssignsAbove emitter.old code.old code.new all.now room.next_temporary) }
 {
     let [one, rest @ ..] = all else {
         return Ok(());
@@ -431,11 +437,11 @@ fn keep_parts(
     emitter: &mut Emitter<'_>,
     code: &mut Code,
     assignment: &Assignment,
-    room: Room,
+    room: Allocation,
 ) -> Result<(), CodeFault>
     ensures knowledge { OnOk result (emitter.new ≡ emitter.old) }
     ensures keeps { OnOk result (room.registers ≡ 3
-        → KeepsParts emitter.old code.old code.new assignment.now room.kept) }
+        → KeepsParts emitter.old code.old code.new assignment.now room.next_temporary) }
     ensures small { OnOk result (HasSmallValue emitter.old assignment.now.value) }
 {
     value(emitter, code, assignment, room)?;
@@ -458,11 +464,11 @@ fn keep_subscript(
     array: usize,
     kind: Kind,
     subscript: &Expression,
-    room: Room,
+    room: Allocation,
 ) -> Result<(), CodeFault>
     ensures knowledge { OnOk result (emitter.new ≡ emitter.old) }
     ensures keeps { OnOk result (room.registers ≡ 3
-        → KeepsSubscript emitter.old code.old code.new array kind subscript.now room.kept) }
+        → KeepsSubscript emitter.old code.old code.new array kind subscript.now room.next_temporary) }
 {
     let i = emitter.expression(code, subscript, room)?;
     checked(code, room.line, i, emitter.elements(array, kind))?;
@@ -474,9 +480,9 @@ fn store_parts(
     emitter: &Emitter<'_>,
     code: &mut Code,
     target: &Target,
-    room: Room,
+    room: Allocation,
 ) -> Result<(), CodeFault>
-    ensures { OnOk result (StoresParts emitter.now code.old code.new target.now room.kept) }
+    ensures { OnOk result (StoresParts emitter.now code.old code.new target.now room.next_temporary) }
 {
     code.emit(room.line, Step::Load(room.word(), 0))?;
     match target {
@@ -495,9 +501,9 @@ fn store_kept(
     code: &mut Code,
     array: usize,
     kind: Kind,
-    room: Room,
+    room: Allocation,
 ) -> Result<(), CodeFault>
-    ensures { OnOk result (StoresKept emitter.now code.old code.new array kind room.kept) }
+    ensures { OnOk result (StoresKept emitter.now code.old code.new array kind room.next_temporary) }
 {
     code.emit(room.line, Step::Load(room.word(), 0))?;
     reduce(code, room.line, FULL, emitter.elements(array, kind))?;

@@ -8,7 +8,7 @@ ghost use Rattle.tpw_occam_code.specs.Starting.{Inputs, Receives, Sends};
 
 use tp_decode::Instr;
 use tpw_occam_core::{Expression, Message, Place};
-use tpw_occam_expressions::{Emitter, Room};
+use tpw_occam_expressions::{Allocation, Emitter};
 use tpw_occam_symbolic::{Code, CodeFault, Item, Step};
 
 /// IMS T414 data sheet, memory map: the channels of links 0 and 1.
@@ -37,7 +37,7 @@ impl Channel {
     }
 }
 
-/// Sends so many bytes of an item, from its first on.
+/// Sends this many bytes of an item, from its first on.
 fn send_bytes(
     code: &mut Code,
     line: u32,
@@ -53,7 +53,7 @@ fn send_bytes(
     code.instr(line, Instr::Output)
 }
 
-/// Receives so many bytes, from an item's first on.
+/// Receives this many bytes, from an item's first on.
 fn input(code: &mut Code, line: u32, item: Item, bytes: u32) -> Result<(), CodeFault>
     ensures { OnOk result (Inputs code.old code.new item bytes) }
 {
@@ -94,7 +94,7 @@ fn keep_value(
             return Ok(Item::Variable(*x));
         }
     }
-    let room = Room::from_word(0, line);
+    let room = Allocation::from_word(0, line);
     emitter.expression(code, e, room)?;
     code.emit(line, Step::Store(room.word(), 0))?;
     Ok(room.word())

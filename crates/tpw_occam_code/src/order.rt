@@ -9,7 +9,7 @@ use crate::analysis::{is_read, may_be_same};
 use std::alloc::{AllocError, Global};
 use tpw_occam_core::{Assignment, Target};
 
-/// What is done next of assignments that are made together.
+/// The next of the moves that make several assignments at once: parallel moves, sequentialised.
 #[derive(Clone, Copy)]
 pub(crate) enum Move {
     /// The value of the one with this number is kept in a word.

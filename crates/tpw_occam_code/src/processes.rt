@@ -1,7 +1,7 @@
 //! Code of processes. No register is in use between processes, and no word is kept.
 
 ghost use Rattle.std.specs.Prelude.{◌≡◌, ◌≤◌, ◌*◌, ◌^◌, ◌<◌, ℕ, pos, ◌+ℤ◌, ◌-ℤ◌, ◌≤ℤ◌, OnOk};
-ghost use Rattle.tp_decode.specs.Words.{signed};
+ghost use Rattle.tp_words.specs.Words.{signed};
 ghost use Rattle.tpw_occam_expressions.specs.Ranges.{Contains};
 ghost use Rattle.std.specs.Global.{Global};
 ghost use Rattle.tpw_occam_core.specs.declared.expression.Expression.TheVariants as expression;
@@ -19,7 +19,7 @@ use crate::assignments::assignments;
 use crate::messages::trace;
 use tp_decode::Instr;
 use tpw_occam_core::{Expression, Process};
-use tpw_occam_expressions::{Emitter, Range, Room, constant, counted, fact_of};
+use tpw_occam_expressions::{Allocation, Emitter, Range, constant, counted, fact_of};
 use tpw_occam_symbolic::{Code, CodeFault, Item, MAX_CLEARED, Step, Turns};
 
 /// The most words that are cleared one by one.
@@ -193,7 +193,7 @@ fn with_value(
     ensures remains { OnOk result (ValueKnown emitter.old x e.now body.now) }
 {
     let before = emitter.fact(x);
-    emitter.bind(code, x, e, Room::from_word(0, line))?;
+    emitter.bind(code, x, e, Allocation::from_word(0, line))?;
     process(emitter, code, body, line)?;
     emitter.set_fact(x, before);
     Ok(())
@@ -248,7 +248,7 @@ fn choice(
         }
         return process(emitter, code, guarded, line);
     }
-    emitter.condition(code, guard, Room::from_word(0, line))?;
+    emitter.condition(code, guard, Allocation::from_word(0, line))?;
     let mut yes = code.behind_one(emitter.alloc, line)?;
     process(emitter, &mut yes, guarded, line)?;
     if is_skip(rest) {
@@ -259,7 +259,7 @@ fn choice(
     code.choose(emitter.alloc, line, &yes, &no)
 }
 
-/// So many turns. One turn is the body, with its index as a constant.
+/// This many turns. One turn is the body, with its index as a constant.
 #[cycle(process)]
 fn repeat(
     emitter: &mut Emitter<'_>,

@@ -3,8 +3,8 @@ use Rattle.std.specs.Prelude.{◌≡◌, ℕ, zero, suc, Bool, true, false, ◌|
 use Rattle.std.specs.Prelude.{[], ◌∷◌, ◌++◌, length, map, replicate, slice_index, slice_index_or, slice_set, Option}
 use Rattle.std.specs.Prelude.{Some, None}
 use Rattle.std.specs.Int.{w32, to_le_bytes}
-use Rattle.tp_decode.specs.Words.{low_word, complement}
-use Rattle.tp_step.specs.Numbers.{truth}
+use Rattle.tp_words.specs.Words.{low_word, complement}
+use Rattle.tp_words.specs.Numbers.{truth}
 use Rattle.tpw_occam_core.specs.declared.kind.Kind.{Kind}
 use Rattle.tpw_occam_core.specs.declared.kind.Kind.TheVariants.{Word}
 use Rattle.tpw_occam_core.specs.declared.arithmetic.Answer.{Answer}
@@ -24,7 +24,7 @@ use Rattle.tpw_occam_core.specs.declared.worker.Storage.TheVariants.{Zeros, Tabl
 use Rattle.tpw_occam_core.specs.declared.worker.Place.{Place}
 use Rattle.tpw_occam_core.specs.declared.worker.Place.TheVariants as place
 use Rattle.tpw_occam_core.specs.declared.worker.Worker.{Worker}
-use Rattle.tpw_occam_core.specs.Arithmetic.{answer, plain, subscript, low_byte, applied}
+use Rattle.tpw_occam_core.specs.Arithmetic.{answer, pure, subscript, low_byte, applied}
 use Rattle.tpw_occam_core.specs.Arrays.{size, element, kept, with_element}
 
 -- ---- states
@@ -52,8 +52,8 @@ flagged flag s = record s { flag = s.flag || flag }
 -- ---- expressions
 
 -- goes on with a word, and keeps its flag
-abbrev pub followed : Answer → (ℕ → Answer) → Answer
-followed a next = answer (next a.word).word (a.flag || (next a.word).flag)
+abbrev pub bind : Answer → (ℕ → Answer) → Answer
+bind a next = answer (next a.word).word (a.flag || (next a.word).flag)
 
 -- the element of an array at a subscript, checked
 abbrev pub element_at : Kind → List ℕ → ℕ → Answer
@@ -62,26 +62,26 @@ element_at kind bytes i = answer (element kind bytes (subscript (size kind bytes
 
 -- the right operand counts only where the left is TRUE, or only where it is FALSE
 abbrev pub both : ℕ → Answer → Answer
-both zero right = plain 0
+both zero right = pure 0
 both (suc n) right = right
 
 abbrev pub either : ℕ → Answer → Answer
 either zero right = answer (truth (nat_lt 0 right.word)) right.flag
-either (suc n) right = plain 1
+either (suc n) right = pure 1
 
 -- The value of an expression, and whether the flag is to be set. Nothing else changes.
 abbrev pub value_of : Expression → Store → Answer
-value_of (Constant c) s = plain c
-value_of (Variable x) s = plain (slice_index s.values x)
-value_of (Element' a kind p e) s = followed (value_of e s) (element_at kind (array_of s a))
-value_of (Checked' below p e) s = followed (value_of e s) (subscript below)
-value_of (Binary' operator p e q f) s = followed (value_of e s) (λ b. followed (value_of f s) (applied operator b))
-value_of (Complement' p e) s = followed (value_of e s) (λ a. plain (complement a))
-value_of (Not' p e) s = followed (value_of e s) (λ a. plain (truth (a == 0)))
-value_of (LowByte' p e) s = followed (value_of e s) low_byte
-value_of (And' p e q f) s = followed (value_of e s) (λ a. both a (value_of f s))
-value_of (Or' p e q f) s = followed (value_of e s) (λ a. either a (value_of f s))
-value_of (Let' x p e q f) s = followed (value_of e s) (λ a. value_of f (with_value x a s))
+value_of (Constant c) s = pure c
+value_of (Variable x) s = pure (slice_index s.values x)
+value_of (Element' a kind p e) s = bind (value_of e s) (element_at kind (array_of s a))
+value_of (Checked' below p e) s = bind (value_of e s) (subscript below)
+value_of (Binary' operator p e q f) s = bind (value_of e s) (λ b. bind (value_of f s) (applied operator b))
+value_of (Complement' p e) s = bind (value_of e s) (λ a. pure (complement a))
+value_of (Not' p e) s = bind (value_of e s) (λ a. pure (truth (a == 0)))
+value_of (LowByte' p e) s = bind (value_of e s) low_byte
+value_of (And' p e q f) s = bind (value_of e s) (λ a. both a (value_of f s))
+value_of (Or' p e q f) s = bind (value_of e s) (λ a. either a (value_of f s))
+value_of (Let' x p e q f) s = bind (value_of e s) (λ a. value_of f (with_value x a s))
 
 -- ---- assignments
 
@@ -90,8 +90,8 @@ kind_of kinds x = slice_index_or kinds x Word
 
 -- the subscript of a target, checked; a variable has none
 abbrev pub subscript_of : Target → Store → Answer
-subscript_of (target.Variable x) s = plain 0
-subscript_of (target.Element a kind e) s = followed (value_of e s) (subscript (size kind (array_of s a)))
+subscript_of (target.Variable x) s = pure 0
+subscript_of (target.Element a kind e) s = bind (value_of e s) (subscript (size kind (array_of s a)))
 
 -- the state in which a target, with this subscript, takes a word
 abbrev pub stored : List Kind → Target → ℕ → ℕ → Store → Store
@@ -121,7 +121,7 @@ traced m s = record (flagged (flag_of m s) s) { traced = s.traced ++ bytes_of m 
 
 -- ---- processes
 
--- the state after so many turns, of which the index is `start` in the first
+-- the state after this many turns, of which the index is `start` in the first
 abbrev pub turns : (Store → Store) → ℕ → ℕ → ℕ → Store → Store
 turns body x start zero s = s
 turns body x start (suc n) s = body (with_value x (low_word (pos start +ℤ pos n)) (turns body x start n s))

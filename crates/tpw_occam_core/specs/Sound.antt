@@ -3,7 +3,7 @@
 use Rattle.std.specs.Prelude.{ℕ, ◌+◌, ◌%◌, ◌^◌, Bool, true, false, not, ◌&&◌, ◌==◌, nat_lt, nat_le, pos}
 use Rattle.std.specs.Prelude.{◌+ℤ◌, int_lt, List, [], ◌∷◌, ◌++◌, length, map, slice_index_or}
 use Rattle.std.specs.List.{list_all, list_any}
-use Rattle.tp_decode.specs.Words.{signed}
+use Rattle.tp_words.specs.Words.{signed}
 use Rattle.tpw_occam_core.specs.declared.kind.Kind.{Kind}
 use Rattle.tpw_occam_core.specs.declared.kind.Kind.TheVariants.{Word, Byte}
 use Rattle.tpw_occam_core.specs.declared.expression.Expression.{Expression}
@@ -45,7 +45,7 @@ is_array a (entry.Variable y) = false
 is_array a (entry.Value y) = false
 is_array a (entry.Array y) = y == a
 
--- so many names are there, and this one is not in scope
+-- this many names are there, and this one is not in scope
 abbrev pub is_new_name : ℕ → List Entry → ℕ → Bool
 is_new_name count scope x = nat_lt x count && not (list_any (is_name x) scope)
 

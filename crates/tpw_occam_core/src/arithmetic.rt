@@ -1,13 +1,13 @@
-//! What operators make of words.
-#![tactic(auto, using(tp_outcome::proofs::Casts::casts))]
+//! The results of operators on words.
+#![tactic(auto, using(tp_words::proofs::Casts::casts))]
 
 ghost use Rattle.std.specs.Prelude.{◌≡◌};
-ghost use Rattle.tpw_occam_core.specs.Arithmetic.{answer, plain, subscript, quotient_answer, shifted_left};
+ghost use Rattle.tpw_occam_core.specs.Arithmetic.{answer, pure, subscript, quotient_answer, shifted_left};
 ghost use Rattle.tpw_occam_core.specs.Arithmetic.{shifted_right, applied, low_byte};
-ghost use Rattle.tpw_occam_core.specs.Meaning.{followed};
+ghost use Rattle.tpw_occam_core.specs.Meaning.{bind};
 
 use crate::expression::Operator;
-use tp_outcome::words::{
+use tp_words::{
     checked_difference, checked_product, checked_sum, difference, is_less, quotient, remainder, sum,
 };
 
@@ -19,15 +19,15 @@ pub struct Answer {
 }
 
 /// A word that sets no flag.
-pub fn plain(word: u32) -> Answer
-    ensures { result ≡ plain word }
+pub fn pure(word: u32) -> Answer
+    ensures { result ≡ pure word }
 {
     Answer { word, flag: false }
 }
 
 /// The second answer, with the flag of the first kept.
-pub fn followed(first: Answer, second: Answer) -> Answer
-    ensures { result ≡ followed first (λ word. second) }
+pub fn bind(first: Answer, second: Answer) -> Answer
+    ensures { result ≡ bind first (λ word. second) }
 {
     Answer {
         word: second.word,
@@ -50,7 +50,7 @@ fn divided(quotient: Option<u32>) -> Answer
     ensures { result ≡ quotient_answer quotient }
 {
     match quotient {
-        Some(word) => plain(word),
+        Some(word) => pure(word),
         None => Answer {
             word: 0,
             flag: true,
@@ -63,7 +63,7 @@ pub fn checked_subscript(below: usize, word: u32) -> Answer
     ensures { result ≡ subscript below word }
 {
     if (word as usize) < below {
-        plain(word)
+        pure(word)
     } else {
         Answer {
             word: ((word % 0x8000_0000) as usize % below.max(1)) as u32,
@@ -102,7 +102,7 @@ fn shifted_right(b: u32, a: u32) -> Answer
     }
 }
 
-/// What an operator makes of two words.
+/// The result of an operator on two words.
 pub fn applied(operator: Operator, b: u32, a: u32) -> Answer
     ensures { result ≡ applied operator b a }
 {
@@ -110,17 +110,17 @@ pub fn applied(operator: Operator, b: u32, a: u32) -> Answer
         Operator::Add => flagged(checked_sum(b, a)),
         Operator::Subtract => flagged(checked_difference(b, a)),
         Operator::Multiply => flagged(checked_product(b, a)),
-        Operator::Plus => plain(sum(b, a)),
-        Operator::Minus => plain(difference(b, a)),
-        Operator::Times => plain(checked_product(b, a).0),
+        Operator::Plus => pure(sum(b, a)),
+        Operator::Minus => pure(difference(b, a)),
+        Operator::Times => pure(checked_product(b, a).0),
         Operator::Divide => divided(quotient(b, a)),
         Operator::Remainder => divided(remainder(b, a)),
-        Operator::BitAnd => plain(b & a),
-        Operator::BitOr => plain(b | a),
-        Operator::BitXor => plain(b ^ a),
+        Operator::BitAnd => pure(b & a),
+        Operator::BitOr => pure(b | a),
+        Operator::BitXor => pure(b ^ a),
         Operator::ShiftLeft => shifted_left(b, a),
         Operator::ShiftRight => shifted_right(b, a),
-        Operator::Equal => plain(u32::from(b == a)),
-        Operator::Greater => plain(is_less(a, b)),
+        Operator::Equal => pure(u32::from(b == a)),
+        Operator::Greater => pure(is_less(a, b)),
     }
 }

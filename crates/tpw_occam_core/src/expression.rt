@@ -2,7 +2,7 @@
 
 use crate::kind::Kind;
 
-/// What is worked out of two words.
+/// An operator on two words.
 #[derive(Clone, Copy, Debug, PartialEq, Eq)]
 pub enum Operator {
     /// `+`, checked.

@@ -1,4 +1,4 @@
-//! Workers in occam, after names are resolved and calls put in line: what they are, and what they mean.
+//! Workers in occam, after names are resolved and calls inlined: what they are, and what they mean.
 //!
 //! A [`Worker`] receives a packet, runs a [`Process`] and sends a result. Each has one meaning: a result, an error
 //! flag and traces for a packet, or that the packet is lost for its traces. `specs/Meaning` defines it.
@@ -12,7 +12,7 @@ mod scope;
 mod sound;
 mod worker;
 
-pub use arithmetic::{Answer, applied, checked_subscript, followed, low_byte, plain};
+pub use arithmetic::{Answer, applied, bind, checked_subscript, low_byte, pure};
 pub use expression::{Expression, Operator};
 pub use kind::Kind;
 pub use process::{Assignment, Message, Process, Target};

@@ -3,7 +3,7 @@
 use crate::expression::Expression;
 use crate::kind::Kind;
 
-/// What is assigned to.
+/// The target of an assignment.
 #[derive(Drop)]
 pub enum Target {
     Variable(usize),
@@ -21,7 +21,7 @@ pub struct Assignment {
     pub value: Expression,
 }
 
-/// What is sent.
+/// A message.
 #[derive(Drop)]
 pub enum Message {
     Value(Expression),
@@ -41,7 +41,7 @@ pub enum Process {
         from: usize,
     },
     Sequence(Box<Process>, Box<Process>),
-    /// So many turns, with the index from `start` on.
+    /// This many turns, with the index from `start` on.
     Repeat {
         index: usize,
         start: u32,

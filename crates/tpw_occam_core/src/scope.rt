@@ -64,7 +64,7 @@ pub(crate) fn has_array(scope: &[Entry], a: usize) -> bool
     scope.iter().any(|entry| is_array(a, *entry))
 }
 
-/// Whether a name, of so many, is new.
+/// Whether a name, one of this many, is new.
 pub(crate) fn is_new_name(count: usize, scope: &[Entry], x: usize) -> bool
     ensures { result ≡ is_new_name count scope.now x }
 {

@@ -288,7 +288,7 @@ fn is_sound_process(
     }
 }
 
-/// What is declared for the whole worker.
+/// The names that are declared for the whole worker.
 fn globals(alloc: Global, worker: &Worker) -> Result<Vec<Entry>, AllocError>
     ensures { IfOk result (λ scope. scope.items ≡ globals worker.now) }
 {

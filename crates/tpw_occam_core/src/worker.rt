@@ -3,10 +3,10 @@
 use crate::kind::Kind;
 use crate::process::{Message, Process};
 
-/// What an array is at first.
+/// An array at first.
 #[derive(Drop)]
 pub enum Storage {
-    /// So many bytes, which are 0.
+    /// This many bytes, which are 0.
     Zeros(u32),
     /// These bytes: a table.
     Table(Vec<u8>),

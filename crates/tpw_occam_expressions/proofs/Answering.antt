@@ -5,7 +5,7 @@ use Rattle.std.proofs.Math.Bool.{or_assoc, or-false}
 use Rattle.tp_decode.specs.declared.instr.Instr.{Instr}
 use Rattle.tp_decode.specs.declared.instr.Instr.TheVariants.{Csub0}
 use Rattle.tpw_occam_core.specs.declared.arithmetic.Answer.{Answer}
-use Rattle.tpw_occam_core.specs.Arithmetic.{answer, plain}
+use Rattle.tpw_occam_core.specs.Arithmetic.{answer, pure}
 use Rattle.tpw_occam_symbolic.specs.declared.code.Step.TheVariants.{Plain}
 use Rattle.tpw_occam_symbolic.specs.Code.{Lines, followed_by, line_of, place_behind}
 use Rattle.tpw_occam_symbolic.specs.Symbolic.{Machine, pair_answer, effect, performed, at_place, number, push, pop, raised}
@@ -42,7 +42,7 @@ answers_then old between new registers a one two first second arrays =
     (λ m middle end said r r2. replaces_then registers one two m middle end r r2)
 
 -- no code: the number stays
-pub answers_nothing : (code : Lines) (registers a : ℕ) → Answers code code registers a (plain a)
+pub answers_nothing : (code : Lines) (registers a : ℕ) → Answers code code registers a (pure a)
 answers_nothing code registers a arrays =
     does_less arrays code code _ _ _ _ (does_nothing arrays code) (λ m said. tt)
     (λ m end said is. record {

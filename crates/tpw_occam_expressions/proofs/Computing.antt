@@ -8,7 +8,7 @@ use Rattle.std.proofs.lemmas.Bool.{le-leb, eq-eqb}
 use Rattle.std.proofs.lemmas.Nat.{from_le_bytes-to_le_bytes_4}
 use Rattle.tpw_occam_core.specs.declared.arithmetic.Answer.{Answer}
 use Rattle.tpw_occam_core.specs.declared.scope.Entry.{Entry}
-use Rattle.tpw_occam_core.specs.Arithmetic.{answer, plain}
+use Rattle.tpw_occam_core.specs.Arithmetic.{answer, pure}
 use Rattle.tpw_occam_core.specs.Meaning.{Store}
 use Rattle.tpw_occam_core.specs.Sound.{is_name}
 use Rattle.tpw_occam_symbolic.specs.declared.items.Item.{Item}
@@ -172,7 +172,7 @@ name_computes k old new source x registers kept none is storages scope unset s p
     (word_there m (Variable x) v fits.small (agrees.words x there set none))))
     (λ m. refl) (λ m. refl) (λ m. refl))
     (λ m said. said)
-    (λ m end said after. alone_pushes registers kept scope (plain v) m end suffices.least (pushes_alone v (place_behind new) m end after))
+    (λ m end said after. alone_pushes registers kept scope (pure v) m end suffices.least (pushes_alone v (place_behind new) m end after))
 
 -- the constant of a name is pushed
 pub constant_name_computes : (k : Knowledge) (old new : Lines) (x c registers kept : ℕ) → (fact_at k x).constant ≡ Some c
@@ -180,8 +180,8 @@ pub constant_name_computes : (k : Knowledge) (old new : Lines) (x c registers ke
 constant_name_computes k old new x c registers kept some makes storages scope unset s place stands suffices knows =
     let fits = knows.names x (in_scope k storages scope unset x stands) (set_name k storages scope unset x stands) in
     does_less k.arrays old new _ _ _ _ (makes k.arrays) (λ m said. said.constants)
-    (λ m end said after. subst (λ w. Pushes registers (plain w) m end × LeavesItems scope kept m end) (sym (fits.constant c some))
-    (alone_pushes registers kept scope (plain c) m end suffices.least (pushes_alone c (place_behind new) m end after)))
+    (λ m end said after. subst (λ w. Pushes registers (pure w) m end × LeavesItems scope kept m end) (sym (fits.constant c some))
+    (alone_pushes registers kept scope (pure c) m end suffices.least (pushes_alone c (place_behind new) m end after)))
 
 pub constant_name_known : (k : Knowledge) (x c : ℕ) (value : Value) → (fact_at k x).constant ≡ Some c → Holds value c
     → IsKnown k (expression.Variable x) value

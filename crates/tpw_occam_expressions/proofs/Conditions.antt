@@ -6,9 +6,9 @@ use Rattle.std.specs.Ordering.{int_eq}
 use Rattle.std.proofs.Math.Bool.{or_assoc, or-false}
 use Rattle.std.proofs.lemmas.Bool.{cases_lt}
 use Rattle.std.proofs.lemmas.Bool.Decides.{nat_tests}
-use Rattle.tp_decode.specs.Words.{signed}
+use Rattle.tp_words.specs.Words.{signed}
 use Rattle.tp_decode.specs.declared.instr.Instr.TheVariants.{Eqc}
-use Rattle.tp_step.specs.Numbers.{truth}
+use Rattle.tp_words.specs.Numbers.{truth}
 use Rattle.tpw_occam_core.specs.declared.arithmetic.Answer.{Answer}
 use Rattle.tpw_occam_core.specs.declared.worker.Storage.{Storage}
 use Rattle.tpw_occam_core.specs.declared.scope.Entry.{Entry}
@@ -16,8 +16,8 @@ use Rattle.tpw_occam_core.specs.declared.expression.Operator.{Operator}
 use Rattle.tpw_occam_core.specs.declared.expression.Operator.TheVariants.{Greater}
 use Rattle.tpw_occam_core.specs.declared.expression.Expression.{Expression}
 use Rattle.tpw_occam_core.specs.declared.expression.Expression.TheVariants.{Binary', Not', And', Or'}
-use Rattle.tpw_occam_core.specs.Arithmetic.{answer, plain, applied}
-use Rattle.tpw_occam_core.specs.Meaning.{Store, followed, value_of, both, either}
+use Rattle.tpw_occam_core.specs.Arithmetic.{answer, pure, applied}
+use Rattle.tpw_occam_core.specs.Meaning.{Store, bind, value_of, both, either}
 use Rattle.tpw_occam_symbolic.specs.declared.code.Step.TheVariants.{Plain, CjTo}
 use Rattle.tpw_occam_symbolic.specs.declared.code.CodeLine.{CodeLine}
 use Rattle.tpw_occam_expressions.specs.declared.expressions.Value.{Value}
@@ -45,7 +45,7 @@ equals_zero : (a : ℕ) → a < 2 ^ 32 → int_eq (signed a) (pos 0) ≡ nat_eq 
 equals_zero a h = zero_read a h
 
 pub answers_zero : (old new : Lines) (source a : ℕ) → a < 2 ^ 32 → new ≡ followed_by old (line_of source (Plain (Eqc (pos 0))) ∷ [])
-    → Answers old new 1 a (plain (truth (a == 0)))
+    → Answers old new 1 a (pure (truth (a == 0)))
 unfolding performed effect
 answers_zero old new source a h is arrays =
     does_less arrays old new _ _ _ _
@@ -63,11 +63,11 @@ pub inverse_computes : (k : Knowledge) (old between new : Lines) (source : ℕ) 
     → Computes k old between e registers kept → IsKnown k e value → new ≡ followed_by between (line_of source (Plain (Eqc (pos 0))) ∷ [])
     → ComputesTo k old new e (inverse_of e) registers kept
 inverse_computes k old between new source e value registers kept computes known is =
-    computes_then k old between new e e (value_of e) (λ a. plain (truth (a == 0))) registers 1 kept computes
+    computes_then k old between new e e (value_of e) (λ a. pure (truth (a == 0))) registers 1 kept computes
     (λ storages scope unset s place stands suffices knows. (
       stands,
       suffices,
-      goes_by k scope unset s between new registers 1 (value_of e s) (plain (truth ((value_of e s).word == 0))) suffices.least
+      goes_by k scope unset s between new registers 1 (value_of e s) (pure (truth ((value_of e s).word == 0))) suffices.least
           (answers_zero between new source (value_of e s).word (known storages scope unset s place stands knows).small is),
     ))
 
@@ -108,13 +108,13 @@ pub twice_computes : (k : Knowledge) (old between middle new : Lines) (source : 
     → new ≡ followed_by middle (line_of source (Plain (Eqc (pos 0))) ∷ [])
     → ComputesTo k old new (Not' p e) (inverse_of (Not' p e)) registers kept
 twice_computes k old between middle new source p e value registers kept computes known one two =
-    computes_then k old middle new (Not' p e) e (inverse_of e) (λ a. plain (truth (a == 0))) registers 1 kept
+    computes_then k old middle new (Not' p e) e (inverse_of e) (λ a. pure (truth (a == 0))) registers 1 kept
     (inverse_computes k old between middle source e value registers kept computes known one)
     (λ storages scope unset s place stands suffices knows.
     let small = truth_small ((value_of e s).word == 0) in (
       stand_not k storages scope unset p e stands,
       suffices_part k registers (Not' p e) e (λ simple. simple) suffices,
-      goes_by k scope unset s middle new registers 1 (inverse_of e s) (plain (truth ((inverse_of e s).word == 0))) suffices.least
+      goes_by k scope unset s middle new registers 1 (inverse_of e s) (pure (truth ((inverse_of e s).word == 0))) suffices.least
           (answers_zero middle new source (inverse_of e s).word (omega (arith, small)) two),
     ))
 
@@ -140,14 +140,14 @@ greater_registers k p left q right registers suffices = by_number (cases_lt 1 re
 
 next_inverse : (l r : Answer) (next : ℕ) (e : truth (truth (int_lt (signed r.word) (signed l.word)) == 0) ≡ truth (int_lt (signed l.word) (signed next)))
     → r.flag ≡ false
-    → followed l (applied Greater next) ≡ followed (followed l (λ b. followed r (applied Greater b))) (λ a. plain (truth (a == 0)))
+    → bind l (applied Greater next) ≡ bind (bind l (λ b. bind r (applied Greater b))) (λ a. pure (truth (a == 0)))
 next_inverse l r next e none =
     ap (λ w. answer w (l.flag || false)) (sym e)
     ∙ ap (answer (truth (truth (int_lt (signed r.word) (signed l.word)) == 0))) (sym (or-false _ ∙ ap (λ f. l.flag || (f || false)) none))
 
 before_inverse : (l r : Answer) (before : ℕ) (e : truth (truth (int_lt (signed r.word) (signed l.word)) == 0) ≡ truth (int_lt (signed before) (signed r.word)))
     → l.flag ≡ false
-    → followed r (λ b. applied Greater b before) ≡ followed (followed l (λ b. followed r (applied Greater b))) (λ a. plain (truth (a == 0)))
+    → bind r (λ b. applied Greater b before) ≡ bind (bind l (λ b. bind r (applied Greater b))) (λ a. pure (truth (a == 0)))
 before_inverse l r before e none =
     ap (λ w. answer w (r.flag || false)) (sym e)
     ∙ ap (answer (truth (truth (int_lt (signed r.word) (signed l.word)) == 0))) (sym (or-false _ ∙ ap (λ f. f || (r.flag || false)) none))
@@ -159,11 +159,11 @@ pub successor_computes : (k : Knowledge) (old new : Lines) (p : Place) (left : E
 successor_computes k old new p left q right next registers kept is computes storages scope unset s place stands suffices knows =
     let more = greater_registers k p left q right registers suffices in
     let parts = stand_binary k storages scope unset Greater p left q right stands in
-    let value : value_of right s ≡ plain is.of = constant_value k storages scope unset s right is.of parts.1 knows is.constant in
+    let value : value_of right s ≡ pure is.of = constant_value k storages scope unset s right is.of parts.1 knows is.constant in
     let l = value_of left s in
     let made : applied_first Greater next left s ≡ inverse_of (Binary' Greater p left q right) s =
-    next_inverse l (plain is.of) next (greater_inverse l.word is.of next is.small is.less is.is) refl
-    ∙ ap (λ r. followed (followed l (λ b. followed r (applied Greater b))) (λ a. plain (truth (a == 0)))) (sym value) in
+    next_inverse l (pure is.of) next (greater_inverse l.word is.of next is.small is.less is.is) refl
+    ∙ ap (λ r. bind (bind l (λ b. bind r (applied Greater b))) (λ a. pure (truth (a == 0)))) (sym value) in
     does_less k.arrays old new _ _ _ _
     (computes tt more storages scope unset s place parts.0 (suffices_two k registers left more suffices.most) knows)
     (λ m said. said) (λ m end said after. subst (λ x. Pushes registers x m end × LeavesItems scope kept m end) made after)
@@ -173,11 +173,11 @@ pub successor_known : (k : Knowledge) (p : Place) (left : Expression) (q : Place
     → IsKnownOf k (Binary' Greater p left q right) (inverse_of (Binary' Greater p left q right)) value
 successor_known k p left q right next value is known storages scope unset s place stands knows =
     let parts = stand_binary k storages scope unset Greater p left q right stands in
-    let same : value_of right s ≡ plain is.of = constant_value k storages scope unset s right is.of parts.1 knows is.constant in
+    let same : value_of right s ≡ pure is.of = constant_value k storages scope unset s right is.of parts.1 knows is.constant in
     let l = value_of left s in
     let made : applied_first Greater next left s ≡ inverse_of (Binary' Greater p left q right) s =
-    next_inverse l (plain is.of) next (greater_inverse l.word is.of next is.small is.less is.is) refl
-    ∙ ap (λ r. followed (followed l (λ b. followed r (applied Greater b))) (λ a. plain (truth (a == 0)))) (sym same) in
+    next_inverse l (pure is.of) next (greater_inverse l.word is.of next is.small is.less is.is) refl
+    ∙ ap (λ r. bind (bind l (λ b. bind r (applied Greater b))) (λ a. pure (truth (a == 0)))) (sym same) in
     subst (λ (x : Answer). Holds value x.word) made (known storages scope unset s place parts.0 knows)
 
 pub predecessor_computes : (k : Knowledge) (old new : Lines) (p : Place) (left : Expression) (q : Place) (right : Expression) (before registers kept : ℕ)
@@ -187,11 +187,11 @@ pub predecessor_computes : (k : Knowledge) (old new : Lines) (p : Place) (left :
 predecessor_computes k old new p left q right before registers kept is computes storages scope unset s place stands suffices knows =
     let more = greater_registers k p left q right registers suffices in
     let parts = stand_binary k storages scope unset Greater p left q right stands in
-    let value : value_of left s ≡ plain is.of = constant_value k storages scope unset s left is.of parts.0 knows is.constant in
+    let value : value_of left s ≡ pure is.of = constant_value k storages scope unset s left is.of parts.0 knows is.constant in
     let r = value_of right s in
     let made : applied_last Greater right before s ≡ inverse_of (Binary' Greater p left q right) s =
-    before_inverse (plain is.of) r before (less_inverse r.word is.of before is.small is.more is.is) refl
-    ∙ ap (λ l. followed (followed l (λ b. followed r (applied Greater b))) (λ a. plain (truth (a == 0)))) (sym value) in
+    before_inverse (pure is.of) r before (less_inverse r.word is.of before is.small is.more is.is) refl
+    ∙ ap (λ l. bind (bind l (λ b. bind r (applied Greater b))) (λ a. pure (truth (a == 0)))) (sym value) in
     does_less k.arrays old new _ _ _ _
     (computes tt (λ one. absurd (omega (arith, more, one))) storages scope unset s place parts.1 (suffices_two k registers right more suffices.most) knows)
     (λ m said. said) (λ m end said after. subst (λ x. Pushes registers x m end × LeavesItems scope kept m end) made after)
@@ -201,11 +201,11 @@ pub predecessor_known : (k : Knowledge) (p : Place) (left : Expression) (q : Pla
     → IsKnownOf k (Binary' Greater p left q right) (inverse_of (Binary' Greater p left q right)) value
 predecessor_known k p left q right before value is known storages scope unset s place stands knows =
     let parts = stand_binary k storages scope unset Greater p left q right stands in
-    let same : value_of left s ≡ plain is.of = constant_value k storages scope unset s left is.of parts.0 knows is.constant in
+    let same : value_of left s ≡ pure is.of = constant_value k storages scope unset s left is.of parts.0 knows is.constant in
     let r = value_of right s in
     let made : applied_last Greater right before s ≡ inverse_of (Binary' Greater p left q right) s =
-    before_inverse (plain is.of) r before (less_inverse r.word is.of before is.small is.more is.is) refl
-    ∙ ap (λ l. followed (followed l (λ b. followed r (applied Greater b))) (λ a. plain (truth (a == 0)))) (sym same) in
+    before_inverse (pure is.of) r before (less_inverse r.word is.of before is.small is.more is.is) refl
+    ∙ ap (λ l. bind (bind l (λ b. bind r (applied Greater b))) (λ a. pure (truth (a == 0)))) (sym same) in
     subst (λ (x : Answer). Holds value x.word) made (known storages scope unset s place parts.1 knows)
 
 -- ---- code that is passed over where Areg is 0
@@ -331,7 +331,7 @@ does_branch arrays old between more new source Before After Before2 After2 After
 
 -- of two values the second only where the first is not 0
 abbrev pub both_value : (Store → Answer) → (Store → Answer) → Store → Answer
-both_value f g s = followed (f s) (λ a. both a (g s))
+both_value f g s = bind (f s) (λ a. both a (g s))
 
 popped_agrees : (k : Knowledge) (scope : List Entry) (unset : ℕ → Bool) (p : ℕ) (s : Store) (m : Machine) → Agrees k scope unset s m
     → Agrees k scope unset s (at_place p (pop m))
@@ -342,7 +342,7 @@ pub does_both_values : (k : Knowledge) (scope : List Entry) (unset : ℕ → Boo
     → Does k.arrays old between (Agrees k scope unset s) (λ m end. Pushes registers f m end × LeavesItems scope kept m end)
     → Does k.arrays (none_at (place_behind between + 1)) more (Agrees k scope unset s) (λ m end. Pushes registers g m end × LeavesItems scope kept m end)
     → Does k.arrays old new (Agrees k scope unset s)
-    (λ m end. Pushes registers (followed f (λ a. both a g)) m end × LeavesItems scope kept m end)
+    (λ m end. Pushes registers (bind f (λ a. both a g)) m end × LeavesItems scope kept m end)
 does_both_values k scope unset s old between more new source registers kept f g is first second =
     does_branch k.arrays old between more new source _ _ _ _ _ is first second
     (λ m middle agrees after. record {
@@ -424,14 +424,14 @@ or_flag : (f : Bool) → ((f || false) || false) || false ≡ f || false
 or_flag f = or-false _ ∙ or-false _
 
 or_words : (n m : ℕ) (f g : Bool)
-    → followed (followed (followed (answer n f) (λ a. plain (truth (a == 0)))) (λ a. both a (followed (answer m g) (λ a. plain (truth (a == 0))))))
-    (λ a. plain (truth (a == 0))) ≡ followed (answer n f) (λ a. either a (answer m g))
+    → bind (bind (bind (answer n f) (λ a. pure (truth (a == 0)))) (λ a. both a (bind (answer m g) (λ a. pure (truth (a == 0))))))
+    (λ a. pure (truth (a == 0))) ≡ bind (answer n f) (λ a. either a (answer m g))
 or_words zero zero f g = ap (answer 0) (or_flags f g)
 or_words zero (suc m) f g = rw (suc_not_zero m) (rw (suc_less m) (ap (answer 1) (or_flags f g)))
 or_words (suc n) m f g = rw (suc_not_zero n) (ap (answer 1) (or_flag f))
 
-or_value : (v r : Answer) → followed (followed (followed v (λ a. plain (truth (a == 0)))) (λ a. both a (followed r (λ a. plain (truth (a == 0))))))
-    (λ a. plain (truth (a == 0))) ≡ followed v (λ a. either a r)
+or_value : (v r : Answer) → bind (bind (bind v (λ a. pure (truth (a == 0)))) (λ a. both a (bind r (λ a. pure (truth (a == 0))))))
+    (λ a. pure (truth (a == 0))) ≡ bind v (λ a. either a r)
 or_value v r = or_words v.word r.word v.flag r.flag
 
 both_small : (n : ℕ) (r : Answer) → r.word < 2 ^ 32 → (both n r).word < 2 ^ 32
@@ -448,7 +448,7 @@ or_computes k k1 old between more middle new source p left q right registers kep
     let f = both_value (inverse_of left) (inverse_of right) in
     let r = inverse_of right s in
     let small : (f s).word < 2 ^ 32 = both_small (inverse_of left s).word r (let h = truth_small ((value_of right s).word == 0) in omega (arith, h)) in
-    let whole = computes_then k old middle new (Or' p left q right) (Or' p left q right) f (λ a. plain (truth (a == 0))) registers 1 kept
+    let whole = computes_then k old middle new (Or' p left q right) (Or' p left q right) f (λ a. pure (truth (a == 0))) registers 1 kept
     (both_computes k k1 old between more middle source (Or' p left q right) left right (inverse_of left) (inverse_of right) registers kept same
     (λ storages scope unset stands. stand_or k storages scope unset p left q right stands)
     (λ simple. and_first _ _ simple) (λ simple. and_second (is_simple k left) _ simple) first second is)
@@ -456,7 +456,7 @@ or_computes k k1 old between more middle new source p left q right registers kep
     let small : (f s).word < 2 ^ 32 = both_small (inverse_of left s).word (inverse_of right s) (let h = truth_small ((value_of right s).word == 0) in omega (arith, h)) in (
       stands,
       suffices,
-      goes_by k scope unset s middle new registers 1 (f s) (plain (truth ((f s).word == 0))) suffices.least
+      goes_by k scope unset s middle new registers 1 (f s) (pure (truth ((f s).word == 0))) suffices.least
           (answers_zero middle new source (f s).word small last),
     )) in
     does_less k.arrays old new _ _ _ _ (whole storages scope unset s place stands suffices knows) (λ m said. said)

@@ -6,7 +6,7 @@ use Rattle.std.specs.Option.{option_map_or}
 use Rattle.std.proofs.Math.Bool.{or-false}
 use Rattle.std.proofs.Math.Pow.{mod-mod-pow}
 use Rattle.std.proofs.lemmas.Bool.{cases_lt, lt-ltb, le-ltb, eqb-true}
-use Rattle.tp_decode.specs.Words.{complement}
+use Rattle.tp_words.specs.Words.{complement}
 use Rattle.tp_decode.specs.declared.instr.Instr.TheVariants.{BitNot}
 use Rattle.tpw_occam_core.specs.declared.arithmetic.Answer.{Answer}
 use Rattle.tpw_occam_core.specs.declared.worker.Storage.{Storage}
@@ -19,12 +19,12 @@ use Rattle.tpw_occam_core.specs.declared.expression.Expression.TheVariants.{Cons
 use Rattle.std.proofs.lemmas.Int.{ints, to_z_pos}
 use Rattle.std.proofs.lemmas.Bool.Decides.{nat_tests}
 use Rattle.std.specs.Prelude.{◌+ℤ◌}
-use Rattle.tp_decode.specs.Words.{signed}
-use Rattle.tp_step.specs.Numbers.{overflows}
+use Rattle.tp_words.specs.Words.{signed}
+use Rattle.tp_words.specs.Numbers.{overflows}
 use Rattle.tpw_occam_core.specs.declared.expression.Operator.TheVariants as operators
-use Rattle.tpw_occam_core.specs.Arithmetic.{answer, plain, checked, wrapped, applied, subscript, low_byte}
+use Rattle.tpw_occam_core.specs.Arithmetic.{answer, pure, checked, wrapped, applied, subscript, low_byte}
 use Rattle.tpw_occam_core.specs.Arrays.{size, element}
-use Rattle.tpw_occam_core.specs.Meaning.{Store, followed, value_of, array_of, element_at}
+use Rattle.tpw_occam_core.specs.Meaning.{Store, bind, value_of, array_of, element_at}
 use Rattle.tpw_occam_core.specs.Sound.{is_name, is_array, is_seen, bytes_of, storage_of}
 use Rattle.tpw_occam_symbolic.specs.declared.code.Step.TheVariants.{Plain}
 use Rattle.tpw_occam_expressions.specs.declared.expressions.Value.{Value}
@@ -63,7 +63,7 @@ pub computes_then : (k : Knowledge) (old between new : Lines) (outer inner : Exp
     → ((storages : List Storage) (scope : List Entry) (unset : ℕ → Bool) (s : Store) → IsPlace k storages scope
     → MayStand k storages scope unset outer → Suffices k registers outer → Knows k scope unset s
     → MayStand k storages scope unset inner × Suffices k registers inner × Goes k scope unset s between new registers few (f s) (next (f s).word))
-    → ComputesTo k old new outer (λ s. followed (f s) next) registers kept
+    → ComputesTo k old new outer (λ s. bind (f s) next) registers kept
 computes_then k old between new outer inner f next registers few kept first second storages scope unset s place stands suffices knows =
     let parts = second storages scope unset s place stands suffices knows in
     does_both k.arrays old between new _ _ _ _ _ (first storages scope unset s place parts.0 parts.1 knows) parts.2.does
@@ -78,7 +78,7 @@ pub constant_computes : (k : Knowledge) (old new : Lines) (c registers kept : �
     → Computes k old new (Constant c) registers kept
 constant_computes k old new c registers kept makes storages scope unset s place stands suffices knows =
     does_less k.arrays old new _ _ _ _ (makes k.arrays) (λ m said. said.constants)
-    (λ m end said after. alone_pushes registers kept scope (plain c) m end suffices.least (pushes_alone c (place_behind new) m end after))
+    (λ m end said after. alone_pushes registers kept scope (pure c) m end suffices.least (pushes_alone c (place_behind new) m end after))
 
 -- ---- a check
 
@@ -144,7 +144,7 @@ complement_small : (i : ℕ) → complement i < 2 ^ 32
 complement_small i = omega arith
 
 pub answers_not : (old new : Lines) (source i : ℕ) → new ≡ followed_by old (line_of source (Plain BitNot) ∷ [])
-    → Answers old new 1 i (plain (complement i))
+    → Answers old new 1 i (pure (complement i))
 unfolding performed effect
 answers_not old new source i is arrays =
     does_less arrays old new _ _ _ _
@@ -156,11 +156,11 @@ pub complement_computes : (k : Knowledge) (old between new : Lines) (source : �
     → Computes k old between e registers kept → new ≡ followed_by between (line_of source (Plain BitNot) ∷ [])
     → Computes k old new (Complement' p e) registers kept
 complement_computes k old between new source p e registers kept computes is =
-    computes_then k old between new (Complement' p e) e (value_of e) (λ a. plain (complement a)) registers 1 kept computes
+    computes_then k old between new (Complement' p e) e (value_of e) (λ a. pure (complement a)) registers 1 kept computes
     (λ storages scope unset s place stands suffices knows. (
       stand_complement k storages scope unset p e stands,
       suffices_part k registers (Complement' p e) e (λ simple. simple) suffices,
-      goes_by k scope unset s between new registers 1 (value_of e s) (plain (complement (value_of e s).word)) suffices.least
+      goes_by k scope unset s between new registers 1 (value_of e s) (pure (complement (value_of e s).word)) suffices.least
           (answers_not between new source (value_of e s).word is),
     ))
 
@@ -190,11 +190,11 @@ binary_known k operator p e q f value known storages scope unset s place stands 
 
 -- the value of an expression that is one constant
 pub constant_value : (k : Knowledge) (storages : List Storage) (scope : List Entry) (unset : ℕ → Bool) (s : Store) (e : Expression) (c : ℕ)
-    → MayStand k storages scope unset e → Knows k scope unset s → constant_in k e ≡ Some c → value_of e s ≡ plain c
-constant_value k storages scope unset s (Constant d) c stands knows is = ap plain (same_Some d c is)
+    → MayStand k storages scope unset e → Knows k scope unset s → constant_in k e ≡ Some c → value_of e s ≡ pure c
+constant_value k storages scope unset s (Constant d) c stands knows is = ap pure (same_Some d c is)
 constant_value k storages scope unset s (Variable x) c stands knows is =
     let fits = knows.names x (in_scope k storages scope unset x stands) (set_name k storages scope unset x stands) in
-    ap plain (fits.constant c is)
+    ap pure (fits.constant c is)
 constant_value k storages scope unset s e c stands knows is = cc
 
 -- ---- elements
@@ -235,7 +235,7 @@ pub element_computes : (k : Knowledge) (old between new : Lines) (a : ℕ) (view
     → (0 < elements → elements ≤ 2 ^ 31 → (registers ≤ 1 → IsConstantBelow k e elements)
     → ComputesTo k old between e (subscript_value e elements) registers kept)
     → ((arrays bytes : List ℕ) (i : ℕ) → length bytes ≡ slice_index arrays a → i < size view bytes
-    → Does arrays between new (λ m. HasNumber i m × HasArray a bytes m) (Replaces 2 (plain (element view bytes i))))
+    → Does arrays between new (λ m. HasNumber i m × HasArray a bytes m) (Replaces 2 (pure (element view bytes i))))
     → Computes k old new (Element' a view p e) registers kept
 element_computes k old between new a view p e elements registers kept counted computes makes storages scope unset s place stands suffices knows =
     let parts = stand_element k storages scope unset a view p e stands in
@@ -260,7 +260,7 @@ element_computes k old between new a view p e elements registers kept counted co
     (makes k.arrays bytes one.word (knows.lengths a there) below) (λ m said. (said.1, said.0.arrays a there)) (λ m end said after. after))
     (λ m middle agrees after. (agrees_after k scope unset kept s m middle agrees after.1, after.0.areg))
     (λ m middle end agrees after after2.
-    replaces_pushed registers kept scope one (plain (element view bytes one.word)) m middle end after (replaces_more 2 registers _ middle end two after2)))
+    replaces_pushed registers kept scope one (pure (element view bytes one.word)) m middle end after (replaces_more 2 registers _ middle end two after2)))
     (λ m said. said)
     (λ m end said after. subst (λ x. Pushes registers x m end × LeavesItems scope kept m end) made after)
 
@@ -274,23 +274,23 @@ element_known k a view p e value holds storages scope unset s place stands knows
 pub fixed_computes : (k : Knowledge) (old new : Lines) (a : ℕ) (view : Kind) (p : Place) (e : Expression) (c : ℕ) (registers kept : ℕ)
     → IsFixed k a view e c
     → ((arrays bytes : List ℕ) → length bytes ≡ slice_index arrays a → c < size view bytes → (view ≡ kind.Byte → c % 4 ≡ 0)
-    → Does arrays old new (HasArray a bytes) (PushesAlone (plain (element view bytes c))))
+    → Does arrays old new (HasArray a bytes) (PushesAlone (pure (element view bytes c))))
     → Computes k old new (Element' a view p e) registers kept
 fixed_computes k old new a view p e c registers kept fixed makes storages scope unset s place stands suffices knows =
     let parts = stand_element k storages scope unset a view p e stands in
     let there = seen_array storages scope a view parts.0 in
     let bytes = array_of s a in
-    let value : value_of e s ≡ plain c = constant_value k storages scope unset s e c parts.1 knows fixed.constant in
+    let value : value_of e s ≡ pure c = constant_value k storages scope unset s e c parts.1 knows fixed.constant in
     let most = place.most a there in
     let below = fixed.below (omega (arith, most)) in
     let within : c < size view bytes = subst (λ n. c < n) (size_is view bytes _ (knows.lengths a there)) below in
-    let made : plain (element view bytes c) ≡ value_of (Element' a view p e) s =
+    let made : pure (element view bytes c) ≡ value_of (Element' a view p e) s =
     ap (λ x. answer (element view bytes x.word) x.flag) (sym (subscript_below (size view bytes) c within))
     ∙ ap (λ v. answer (element view bytes (subscript (size view bytes) v.word).word) (v.flag || (subscript (size view bytes) v.word).flag)) (sym value) in
     does_less k.arrays old new _ _ _ _ (makes k.arrays bytes (knows.lengths a there) within fixed.whole)
     (λ m agrees. agrees.arrays a there)
     (λ m end said after. subst (λ x. Pushes registers x m end × LeavesItems scope kept m end) made
-    (alone_pushes registers kept scope (plain (element view bytes c)) m end suffices.least after))
+    (alone_pushes registers kept scope (pure (element view bytes c)) m end suffices.least after))
 
 -- ---- subscripts
 
@@ -298,18 +298,18 @@ pub constant_subscript_computes : (k : Knowledge) (old new : Lines) (e : Express
     → (constant_in k e ≡ Some c) × (c < size) → Makes old new HasConstants (push (number c))
     → ComputesTo k old new e (subscript_value e size) registers kept
 constant_subscript_computes k old new e size c registers kept is makes storages scope unset s place stands suffices knows =
-    let value : value_of e s ≡ plain c = constant_value k storages scope unset s e c stands knows is.0 in
-    let made : plain c ≡ subscript_value e size s =
+    let value : value_of e s ≡ pure c = constant_value k storages scope unset s e c stands knows is.0 in
+    let made : pure c ≡ subscript_value e size s =
     sym (subscript_below size c is.1) ∙ ap (λ v. answer (subscript size v.word).word (v.flag || (subscript size v.word).flag)) (sym value) in
     does_less k.arrays old new _ _ _ _ (makes k.arrays) (λ m said. said.constants)
     (λ m end said after. subst (λ x. Pushes registers x m end × LeavesItems scope kept m end) made
-    (alone_pushes registers kept scope (plain c) m end suffices.least (pushes_alone c (place_behind new) m end after)))
+    (alone_pushes registers kept scope (pure c) m end suffices.least (pushes_alone c (place_behind new) m end after)))
 
 pub constant_subscript_known : (k : Knowledge) (e : Expression) (size c : ℕ) (value : Value)
     → (constant_in k e ≡ Some c) × (c < size) → Holds value c → IsKnownOf k e (subscript_value e size) value
 constant_subscript_known k e size c value is holds storages scope unset s place stands knows =
-    let same : value_of e s ≡ plain c = constant_value k storages scope unset s e c stands knows is.0 in
-    let made : plain c ≡ subscript_value e size s =
+    let same : value_of e s ≡ pure c = constant_value k storages scope unset s e c stands knows is.0 in
+    let made : pure c ≡ subscript_value e size s =
     sym (subscript_below size c is.1) ∙ ap (λ v. answer (subscript size v.word).word (v.flag || (subscript size v.word).flag)) (sym same) in
     subst (λ a. Holds value a.word) made holds
 
@@ -351,13 +351,13 @@ byte_below k storages scope unset s x contains stands knows =
     byte_small _ fits.small (contains _ fits.source)
 
 pub byte_computes : (k : Knowledge) (old between : Lines) (e : Expression) (x registers kept : ℕ) → IsByteVariable k e x
-    → ((arrays : List ℕ) (word : ℕ) → word < 256 → Does arrays old between (HasWord (item.Variable x) word) (PushesAlone (plain word)))
+    → ((arrays : List ℕ) (word : ℕ) → word < 256 → Does arrays old between (HasWord (item.Variable x) word) (PushesAlone (pure word)))
     → Computes k old between e registers kept
 byte_computes k old between e x registers kept is makes = rw is.variable (λ storages scope unset s place stands suffices knows.
     let small = byte_below k storages scope unset s x is.small stands knows in
     does_less k.arrays old between _ _ _ _ (makes k.arrays (slice_index s.values x) small)
     (λ m agrees. agrees.words x (in_scope k storages scope unset x stands) (set_name k storages scope unset x stands) is.word)
-    (λ m end said after. alone_pushes registers kept scope (plain (slice_index s.values x)) m end suffices.least after))
+    (λ m end said after. alone_pushes registers kept scope (pure (slice_index s.values x)) m end suffices.least after))
 
 pub byte_known : (k : Knowledge) (e : Expression) (x : ℕ) (value : Value) → IsByteVariable k e x
     → ((word : ℕ) → word < 256 → Holds value word) → IsKnown k e value
@@ -416,9 +416,9 @@ pub right_constant_computes : (k : Knowledge) (old new : Lines) (operator : Oper
     → IsNoShift operator → (registers ≤ 1 → HasImmediate k operator left right)
     → ComputesBoth k old new left right (applied_value operator left right) registers kept
 right_constant_computes k old new operator left right c registers kept is computes unshifted enough storages scope unset s place one two least most knows =
-    let value : value_of right s ≡ plain c = constant_value k storages scope unset s right c two knows is in
+    let value : value_of right s ≡ pure c = constant_value k storages scope unset s right c two knows is in
     let made : applied_last operator left c s ≡ applied_value operator left right s =
-    ap (λ v. followed (value_of left s) (λ b. followed v (applied operator b))) (sym value) in
+    ap (λ v. bind (value_of left s) (λ b. bind v (applied operator b))) (sym value) in
     does_less k.arrays old new _ _ _ _
     (computes unshifted (λ h. immediate_of_constant k operator right c is (and_first _ _ (enough h))) storages scope unset s place one
     (record { least = least; most = most; simple = λ h. and_second _ _ (enough h) }) knows)
@@ -428,8 +428,8 @@ right_constant_computes k old new operator left right c registers kept is comput
 pub right_constant_known : (k : Knowledge) (operator : Operator) (left right : Expression) (c : ℕ) (value : Value) → constant_in k right ≡ Some c
     → IsKnownOf k left (applied_last operator left c) value → IsKnownOfBoth k left right (applied_value operator left right) value
 right_constant_known k operator left right c value is known storages scope unset s place one two knows =
-    let same : value_of right s ≡ plain c = constant_value k storages scope unset s right c two knows is in
-    subst (λ v. Holds value (followed (value_of left s) (λ b. followed v (applied operator b))).word) (sym same)
+    let same : value_of right s ≡ pure c = constant_value k storages scope unset s right c two knows is in
+    subst (λ v. Holds value (bind (value_of left s) (λ b. bind v (applied operator b))).word) (sym same)
     (known storages scope unset s place one knows)
 
 -- where the right operand is no constant, one register is not enough
@@ -451,9 +451,9 @@ pub left_constant_computes : (k : Knowledge) (old new : Lines) (operator : Opera
     → ComputesBoth k old new left right (applied_value operator left right) registers kept
 left_constant_computes k old new operator left right c registers kept is none computes unshifted enough storages scope unset s place one two least most knows =
     let more = no_immediate k operator left right registers none enough in
-    let value : value_of left s ≡ plain c = constant_value k storages scope unset s left c one knows is in
+    let value : value_of left s ≡ pure c = constant_value k storages scope unset s left c one knows is in
     let made : applied_first operator c right s ≡ applied_value operator left right s =
-    ap (λ v. followed v (λ b. followed (value_of right s) (applied operator b))) (sym value) in
+    ap (λ v. bind v (λ b. bind (value_of right s) (applied operator b))) (sym value) in
     does_less k.arrays old new _ _ _ _
     (computes unshifted more storages scope unset s place two (suffices_two k registers right more most) knows)
     (λ m said. said)
@@ -462,8 +462,8 @@ left_constant_computes k old new operator left right c registers kept is none co
 pub left_constant_known : (k : Knowledge) (operator : Operator) (left right : Expression) (c : ℕ) (value : Value) → constant_in k left ≡ Some c
     → IsKnownOf k right (applied_first operator c right) value → IsKnownOfBoth k left right (applied_value operator left right) value
 left_constant_known k operator left right c value is known storages scope unset s place one two knows =
-    let same : value_of left s ≡ plain c = constant_value k storages scope unset s left c one knows is in
-    subst (λ v. Holds value (followed v (λ b. followed (value_of right s) (applied operator b))).word) (sym same)
+    let same : value_of left s ≡ pure c = constant_value k storages scope unset s left c one knows is in
+    subst (λ v. Holds value (bind v (λ b. bind (value_of right s) (applied operator b))).word) (sym same)
     (known storages scope unset s place two knows)
 
 pub not_known : (k : Knowledge) (p : Place) (e : Expression) (value : Value) → IsKnownOf k e (inverse_of e) value → IsKnown k (Not' p e) value
@@ -476,16 +476,16 @@ no_overflow : (n : ℕ) → n < 2 ^ 31 → overflows (pos n) ≡ false
 no_overflow n h = grind (arith, ints, nat_tests)
 
 sum_plain : (operator : Operator) (v c : ℕ) → (operator ≡ operators.Add) ⊎ (operator ≡ operators.Plus) → v + c < 2 ^ 31
-    → applied operator v c ≡ plain (v + c)
+    → applied operator v c ≡ pure (v + c)
 sum_plain operator v c (inl is) h =
     let low : (v + c) % 2 ^ 32 ≡ v + c = omega (arith, h) in
     let whole : signed v +ℤ signed c ≡ pos (v + c) = ap (λ z. z +ℤ signed c) (to_z_pos w32 v (omega (arith, h)))
     ∙ ap (λ z. pos v +ℤ z) (to_z_pos w32 c (omega (arith, h))) ∙ omega (arith, ints) in
-    rw is (ap checked whole ∙ ap (answer ((v + c) % 2 ^ 32)) (no_overflow (v + c) h) ∙ ap plain low)
+    rw is (ap checked whole ∙ ap (answer ((v + c) % 2 ^ 32)) (no_overflow (v + c) h) ∙ ap pure low)
 sum_plain operator v c (inr is) h =
     let low : (v + c) % 2 ^ 32 ≡ v + c = omega (arith, h) in
     let whole : pos v +ℤ pos c ≡ pos (v + c) = omega (arith, ints) in
-    rw is (ap wrapped whole ∙ ap plain low)
+    rw is (ap wrapped whole ∙ ap pure low)
 
 -- what is known where an element has an offset from a variable
 pub record OffsetFacts (k : Knowledge) (scope : List Entry) (unset : ℕ → Bool) (s : Store) (a : ℕ) (e : Expression) (x c : ℕ) : Type 0 where
@@ -493,7 +493,7 @@ pub record OffsetFacts (k : Knowledge) (scope : List Entry) (unset : ℕ → Boo
   pub set : unset x ≡ false
   pub small : slice_index s.values x < 2 ^ 32
   pub below : slice_index s.values x + c < size kind.Word (array_of s a)
-  pub value : value_of e s ≡ plain (slice_index s.values x + c)
+  pub value : value_of e s ≡ pure (slice_index s.values x + c)
 
 pub offset_facts : (k : Knowledge) (storages : List Storage) (scope : List Entry) (unset : ℕ → Bool) (s : Store) (a : ℕ) (view : Kind) (e : Expression) (x c : ℕ)
     → IsOffset k a view e x c → slice_index k.arrays a ≤ 2048 → length (array_of s a) ≡ slice_index k.arrays a
@@ -509,7 +509,7 @@ offset_facts k storages scope unset s a view e x c is most long stands knows =
     let below : v + c < elements_of view (slice_index k.arrays a) = is.offset.below most v fits.small fits.known in
     let within : v + c < size kind.Word (array_of s a) =
     subst (λ n. v + c < n) (ap (λ w. elements_of w (slice_index k.arrays a)) is.offset.words ∙ size_is kind.Word (array_of s a) _ long) below in
-    let right : value_of is.right s ≡ plain c = constant_value k storages scope unset s is.right c parts.1 knows is.offset.constant in
+    let right : value_of is.right s ≡ pure c = constant_value k storages scope unset s is.right c parts.1 knows is.offset.constant in
     let small : v + c < 2 ^ 31 = omega (arith, within, long, most) in
     record {
       there = there;
@@ -518,7 +518,7 @@ offset_facts k storages scope unset s a view e x c is most long stands knows =
       below = within;
       value = ap (λ e. value_of e s) is.is
           ∙ ap (λ l. applied_value is.operator l is.right s) is.offset.variable
-          ∙ ap (λ r. followed (plain v) (λ b. followed r (applied is.operator b))) right
+          ∙ ap (λ r. bind (pure v) (λ b. bind r (applied is.operator b))) right
           ∙ sum_plain is.operator v c is.which small;
     }
 
@@ -542,7 +542,7 @@ over_pushes registers kept scope made m end two over = (
 pub offset_computes : (k : Knowledge) (old new : Lines) (a : ℕ) (view : Kind) (p : Place) (e : Expression) (x c registers kept : ℕ)
     → IsOffset k a view e x c
     → ((arrays bytes : List ℕ) (v : ℕ) → v < 2 ^ 32 → length bytes ≡ slice_index arrays a → v + c < size kind.Word bytes → length bytes ≤ 2048
-    → Does arrays old new (λ m. HasWord (item.Variable x) v m × HasArray a bytes m) (PushesOver 2 (plain (element kind.Word bytes (v + c)))))
+    → Does arrays old new (λ m. HasWord (item.Variable x) v m × HasArray a bytes m) (PushesOver 2 (pure (element kind.Word bytes (v + c)))))
     → Computes k old new (Element' a view p e) registers kept
 offset_computes k old new a view p e x c registers kept is makes storages scope unset s place stands suffices knows =
     let parts = stand_element k storages scope unset a view p e stands in
@@ -553,10 +553,10 @@ offset_computes k old new a view p e x c registers kept is makes storages scope 
     let facts = offset_facts k storages scope unset s a view e x c is most long parts.1 knows in
     let v = slice_index s.values x in
     let two = two_registers k registers (Element' a view p e) refl suffices in
-    let made : plain (element kind.Word bytes (v + c)) ≡ value_of (Element' a view p e) s =
+    let made : pure (element kind.Word bytes (v + c)) ≡ value_of (Element' a view p e) s =
     ap (λ t. answer (element kind.Word bytes t.word) t.flag) (sym (subscript_below (size kind.Word bytes) (v + c) facts.below))
     ∙ ap (λ t. answer (element kind.Word bytes (subscript (size kind.Word bytes) t.word).word) (t.flag || (subscript (size kind.Word bytes) t.word).flag)) (sym facts.value)
-    ∙ ap (λ w. followed (value_of e s) (element_at w bytes)) (sym is.offset.words) in
+    ∙ ap (λ w. bind (value_of e s) (element_at w bytes)) (sym is.offset.words) in
     does_less k.arrays old new _ _ _ _ (makes k.arrays bytes v facts.small long facts.below (subst (λ n. n ≤ 2048) (sym long) most))
     (λ m agrees. (agrees.words x facts.there facts.set is.offset.word, agrees.arrays a there))
     (λ m end said after. subst (λ t. Pushes registers t m end × LeavesItems scope kept m end) made (over_pushes registers kept scope _ m end two after))
@@ -565,4 +565,4 @@ pub offset_known : (k : Knowledge) (a : ℕ) (view : Kind) (p : Place) (e : Expr
     → ((bytes : List ℕ) (i : ℕ) → ((at : ℕ) → slice_index bytes at < 256) → Holds value (element kind.Word bytes i))
     → IsKnown k (Element' a view p e) value
 offset_known k a view p e x c value is holds storages scope unset s place stands knows =
-    subst (λ w. Holds value (followed (value_of e s) (element_at w (array_of s a))).word) (sym is.offset.words) (holds (array_of s a) _ (knows.bytes a))
+    subst (λ w. Holds value (bind (value_of e s) (element_at w (array_of s a))).word) (sym is.offset.words) (holds (array_of s a) _ (knows.bytes a))

@@ -4,14 +4,14 @@ use Rattle.std.specs.Prelude.{◌||◌, pos, ◌-ℤ◌}
 use Rattle.std.proofs.Math.Bool.{or-false}
 use Rattle.std.proofs.lemmas.Bool.Decides.{nat_tests}
 use Rattle.tp_state.proofs.WordLemmas.{low_word_lt}
-use Rattle.tp_decode.specs.Words.{low_word}
+use Rattle.tp_words.specs.Words.{low_word}
 use Rattle.tp_decode.specs.declared.instr.Instr.TheVariants.{Diff}
-use Rattle.tp_step.specs.Numbers.{truth}
+use Rattle.tp_words.specs.Numbers.{truth}
 use Rattle.tpw_occam_core.specs.declared.expression.Operator.{Operator}
 use Rattle.tpw_occam_core.specs.declared.expression.Operator.TheVariants as operators
 use Rattle.tpw_occam_core.specs.declared.expression.Expression.{Expression}
 use Rattle.tpw_occam_core.specs.declared.expression.Expression.TheVariants.{Binary', Not'}
-use Rattle.tpw_occam_core.specs.Arithmetic.{plain, applied}
+use Rattle.tpw_occam_core.specs.Arithmetic.{pure, applied}
 use Rattle.tpw_occam_core.specs.Meaning.{value_of}
 use Rattle.tpw_occam_symbolic.specs.declared.code.Step.TheVariants.{Plain}
 use Rattle.tpw_occam_expressions.specs.declared.expressions.Value.{Value}
@@ -127,7 +127,7 @@ pub decides_left : (k : Knowledge) (old new : Lines) (left right : Expression) (
 decides_left k old new left right c registers kept is none computes storages scope unset s place one other least most knows =
     let l = value_of left s in
     let r = value_of right s in
-    let value : r ≡ plain c = constant_value k storages scope unset s right c other knows is in
+    let value : r ≡ pure c = constant_value k storages scope unset s right c other knows is in
     does_less k.arrays old new _ _ _ _ (computes storages scope unset s place one (suffices_two k registers left least most) knows) (λ m said. said)
     (λ m end agrees after. record {
       word = l.word;
@@ -142,7 +142,7 @@ pub decides_right : (k : Knowledge) (old new : Lines) (left right : Expression) 
 decides_right k old new left right c registers kept is none computes storages scope unset s place one other least most knows =
     let l = value_of left s in
     let r = value_of right s in
-    let value : l ≡ plain c = constant_value k storages scope unset s left c one knows is in
+    let value : l ≡ pure c = constant_value k storages scope unset s left c one knows is in
     does_less k.arrays old new _ _ _ _ (computes storages scope unset s place other (suffices_two k registers right least most) knows) (λ m said. said)
     (λ m end agrees after. record {
       word = r.word;

@@ -10,7 +10,7 @@ use Rattle.tp_decode.specs.declared.instr.Instr.{Instr}
 use Rattle.tp_decode.specs.declared.instr.Instr.TheVariants.{Ldnl, Lb, Wsub, Bsub}
 use Rattle.tpw_occam_core.specs.declared.kind.Kind.{Kind}
 use Rattle.tpw_occam_core.specs.declared.kind.Kind.TheVariants.{Word, Byte}
-use Rattle.tpw_occam_core.specs.Arithmetic.{plain}
+use Rattle.tpw_occam_core.specs.Arithmetic.{pure}
 use Rattle.tpw_occam_core.specs.Arrays.{size, element}
 use Rattle.tpw_occam_symbolic.specs.declared.items.Item.{Item}
 use Rattle.tpw_occam_symbolic.specs.declared.items.Item.TheVariants.{Array, Variable}
@@ -49,7 +49,7 @@ load_byte m a bytes i h at =
     let fits : scaled Byte i + 1 ≤ m.sizes (Array a) = omega (arith, at.room) in
     rw at.areg (rw (le-leb _ _ fits) (ap (λ w. Some (set_areg (number w) m)) (at.has i h)))
 
-pub replaces_set : (w p : ℕ) (m end : Machine) → end ≡ at_place p (set_areg (number w) m) → Replaces 1 (plain w) m end
+pub replaces_set : (w p : ℕ) (m end : Machine) → end ≡ at_place p (set_areg (number w) m) → Replaces 1 (pure w) m end
 replaces_set w p m end is = record {
   areg = ap (λ x. x.areg) is;
   breg = λ h. ap (λ x. x.breg) is;
@@ -63,7 +63,7 @@ replaces_set w p m end is = record {
 
 pub does_load_word : (arrays : List ℕ) (old new : Lines) (source a : ℕ) (bytes : List ℕ) (i : ℕ)
     → new ≡ followed_by old (line_of source (Plain (Ldnl (pos 0))) ∷ []) → i < size Word bytes
-    → Does arrays old new (IsAtElement Word a bytes i) (Replaces 1 (plain (element Word bytes i)))
+    → Does arrays old new (IsAtElement Word a bytes i) (Replaces 1 (pure (element Word bytes i)))
 unfolding performed
 does_load_word arrays old new source a bytes i is h =
     does_less arrays old new _ _ _ _
@@ -74,7 +74,7 @@ does_load_word arrays old new source a bytes i is h =
 
 pub does_load_byte : (arrays : List ℕ) (old new : Lines) (source a : ℕ) (bytes : List ℕ) (i : ℕ)
     → new ≡ followed_by old (line_of source (Plain Lb) ∷ []) → i < size Byte bytes
-    → Does arrays old new (IsAtElement Byte a bytes i) (Replaces 1 (plain (element Byte bytes i)))
+    → Does arrays old new (IsAtElement Byte a bytes i) (Replaces 1 (pure (element Byte bytes i)))
 unfolding performed
 does_load_byte arrays old new source a bytes i is h =
     does_less arrays old new _ _ _ _
@@ -83,7 +83,7 @@ does_load_byte arrays old new source a bytes i is h =
     (λ m. refl) (λ m. refl) (λ m. refl))
     (λ m said. said) (λ m end said after. replaces_set (element Byte bytes i) (place_behind new) m end after)
 
-pub pushes_alone : (w p : ℕ) (m end : Machine) → end ≡ at_place p (push (number w) m) → PushesAlone (plain w) m end
+pub pushes_alone : (w p : ℕ) (m end : Machine) → end ≡ at_place p (push (number w) m) → PushesAlone (pure w) m end
 pushes_alone w p m end is = record {
   pushed = record {
     areg = ap (λ x. x.areg) is;
@@ -97,7 +97,7 @@ pushes_alone w p m end is = record {
   traced = ap (λ x. x.traced) is;
 }
 
--- so many bytes have room in whole words
+-- this many bytes have room in whole words
 pub whole_words : (long bytes room : ℕ) → long ≡ bytes → word_bytes bytes ≤ room → long ≤ room
 whole_words long bytes room is h = omega arith
 
@@ -163,7 +163,7 @@ does_index Byte arrays old between new source a i one two =
 -- a word of an array, pushed
 pub does_push_word : (arrays : List ℕ) (old new : Lines) (source a : ℕ) (bytes : List ℕ) (c : ℕ)
     → new ≡ followed_by old (line_of source (Load (Array a) c) ∷ []) → c < size Word bytes
-    → Does arrays old new (HasArray a bytes) (PushesAlone (plain (element Word bytes c)))
+    → Does arrays old new (HasArray a bytes) (PushesAlone (pure (element Word bytes c)))
 unfolding performed
 does_push_word arrays old new source a bytes c is h =
     does_less arrays old new _ _ _ _
@@ -176,7 +176,7 @@ does_push_word arrays old new source a bytes c is h =
 pub does_push_byte : (arrays : List ℕ) (old between new : Lines) (source a : ℕ) (bytes : List ℕ) (c : ℕ)
     → between ≡ followed_by old (line_of source (Pointer (Array a) (c / 4)) ∷ [])
     → new ≡ followed_by between (line_of source (Plain Lb) ∷ []) → length bytes ≡ slice_index arrays a → c < size Byte bytes → c % 4 ≡ 0
-    → Does arrays old new (HasArray a bytes) (PushesAlone (plain (element Byte bytes c)))
+    → Does arrays old new (HasArray a bytes) (PushesAlone (pure (element Byte bytes c)))
 unfolding performed
 does_push_byte arrays old between new source a bytes c one two long h whole =
     does_both arrays old between new _ _ _ _ _
@@ -205,8 +205,8 @@ does_push_byte arrays old between new source a bytes c one two long h whole =
 pub does_element : (kind : Kind) (arrays : List ℕ) (old between new : Lines) (a : ℕ) (bytes : List ℕ) (i : ℕ)
     → length bytes ≡ slice_index arrays a → i < size kind bytes
     → Does arrays old between (HasNumber i) (HasAddress arrays a (scaled kind i))
-    → Does arrays between new (IsAtElement kind a bytes i) (Replaces 1 (plain (element kind bytes i)))
-    → Does arrays old new (λ m. HasNumber i m × HasArray a bytes m) (Replaces 2 (plain (element kind bytes i)))
+    → Does arrays between new (IsAtElement kind a bytes i) (Replaces 1 (pure (element kind bytes i)))
+    → Does arrays old new (λ m. HasNumber i m × HasArray a bytes m) (Replaces 2 (pure (element kind bytes i)))
 does_element kind arrays old between new a bytes i long h one two =
     does_both arrays old between new _ _ _ _ _
     (does_less arrays old between _ _ (λ m. HasNumber i m × HasArray a bytes m) _ one (λ m said. said.0) (λ m end said after. after))
@@ -237,7 +237,7 @@ first_byte m i word h is = ap (λ l. slice_index l 0) is ∙ omega arith
 pub does_push_variable : (arrays : List ℕ) (old between new : Lines) (source x word : ℕ)
     → between ≡ followed_by old (line_of source (Pointer (Variable x) 0) ∷ [])
     → new ≡ followed_by between (line_of source (Plain Lb) ∷ []) → word < 256
-    → Does arrays old new (HasWord (Variable x) word) (PushesAlone (plain word))
+    → Does arrays old new (HasWord (Variable x) word) (PushesAlone (pure word))
 unfolding performed effect
 does_push_variable arrays old between new source x word one two h =
     does_both arrays old between new _ _ _ _ _
@@ -299,7 +299,7 @@ pub does_offset_element : (arrays : List ℕ) (old between new : Lines) (source 
     → length bytes ≡ slice_index arrays a → v + c < size Word bytes
     → Does arrays old between (HasWord (Variable x) v) (PushesAddress arrays a (4 * v))
     → new ≡ followed_by between (line_of source (Plain (Ldnl n)) ∷ [])
-    → Does arrays old new (λ m. HasWord (Variable x) v m × HasArray a bytes m) (PushesOver 2 (plain (element Word bytes (v + c))))
+    → Does arrays old new (λ m. HasWord (Variable x) v m × HasArray a bytes m) (PushesOver 2 (pure (element Word bytes (v + c))))
 unfolding performed
 does_offset_element arrays old between new source x a bytes v c n is long h first last =
     does_both arrays old between new _ _ _ _ _

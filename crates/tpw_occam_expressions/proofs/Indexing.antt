@@ -9,11 +9,11 @@ use Rattle.std.proofs.lemmas.Bool.Decides.{nat_tests, Decides-int_eq}
 use Rattle.std.proofs.Math.Pow.{mod-mod-pow}
 use Rattle.std.proofs.lemmas.Nat.{and_mask}
 use Rattle.tpw_occam_expressions.specs.Ranges.{from_to, Contains}
-use Rattle.tp_decode.specs.Words.{signed}
+use Rattle.tp_words.specs.Words.{signed}
 use Rattle.tpw_occam_core.specs.declared.expression.Operator.TheVariants.{Remainder}
-use Rattle.tpw_occam_core.specs.Arithmetic.{answer, plain, applied, subscript, divided}
+use Rattle.tpw_occam_core.specs.Arithmetic.{answer, pure, applied, subscript, divided}
 
-pub subscript_below : (size i : ℕ) → i < size → subscript size i ≡ plain i
+pub subscript_below : (size i : ℕ) → i < size → subscript size i ≡ pure i
 subscript_below size i h = rw (lt-ltb i size h) refl
 
 pub reduced_below : (size i : ℕ) → i < size → size ≤ 2 ^ 31 → i % 2 ^ 31 % size ≡ i
@@ -51,24 +51,24 @@ unlike i k e = cc
 positive_differs : (d : ℕ) → pos (suc d) ≡ pos 0 → ⊥
 positive_differs d e = omega (arith, ints)
 
-pub remainder_answer : (i size : ℕ) → i < 2 ^ 31 → 0 < size → size ≤ 2 ^ 31 → applied Remainder i size ≡ plain (i % size)
+pub remainder_answer : (i size : ℕ) → i < 2 ^ 31 → 0 < size → size ≤ 2 ^ 31 → applied Remainder i size ≡ pure (i % size)
 remainder_answer i size h positive small =
     ap (λ z. divided int_rem z (signed size)) (to_z_pos w32 i h) ∙ by_size (cases_lt size (2 ^ 31))
   where
-    by_number : (d : ℕ) → 0 < d → d < 2 ^ 31 → divided int_rem (pos i) (pos d) ≡ plain (i % d)
+    by_number : (d : ℕ) → 0 < d → d < 2 ^ 31 → divided int_rem (pos i) (pos d) ≡ pure (i % d)
     by_number zero h small = absurd (omega (arith, h))
     by_number (suc d) h small =
         let less : i % suc d < suc d = mod-lt i (omega arith) in
         let low : (i % suc d) % 2 ^ 32 ≡ i % suc d = omega (arith, less) in
-        rw (int_eq_false (pos (suc d)) (pos 0) (positive_differs d)) (rw (int_eq_false (pos i) (negsuc (2 ^ 31 - 1)) (unlike i _)) (ap plain low))
+        rw (int_eq_false (pos (suc d)) (pos 0) (positive_differs d)) (rw (int_eq_false (pos i) (negsuc (2 ^ 31 - 1)) (unlike i _)) (ap pure low))
 
-    by_least : divided int_rem (pos i) (negsuc (2 ^ 31 - 1)) ≡ plain (i % 2 ^ 31)
-    by_least = rw (int_eq_false (pos i) (negsuc (2 ^ 31 - 1)) (unlike i _)) (ap plain (omega arith))
+    by_least : divided int_rem (pos i) (negsuc (2 ^ 31 - 1)) ≡ pure (i % 2 ^ 31)
+    by_least = rw (int_eq_false (pos i) (negsuc (2 ^ 31 - 1)) (unlike i _)) (ap pure (omega arith))
 
-    by_size : (size < 2 ^ 31) ⊎ (2 ^ 31 ≤ size) → divided int_rem (pos i) (signed size) ≡ plain (i % size)
+    by_size : (size < 2 ^ 31) ⊎ (2 ^ 31 ≤ size) → divided int_rem (pos i) (signed size) ≡ pure (i % size)
     by_size (inl less) = ap (λ z. divided int_rem (pos i) z) (to_z_pos w32 size less) ∙ by_number size positive less
     by_size (inr least) = let is : size ≡ 2 ^ 31 = omega arith in
-        ap (λ n. divided int_rem (pos i) (signed n)) is ∙ by_least ∙ ap (λ n. plain (i % n)) (sym is)
+        ap (λ n. divided int_rem (pos i) (signed n)) is ∙ by_least ∙ ap (λ n. pure (i % n)) (sym is)
 
 -- the low bits of a word are what is left of it by a power of two, its sign or not
 pub mask_answer : (i size exponent : ℕ) → size ≡ 2 ^ exponent → exponent < 32 → bit_and i (size - 1) ≡ i % 2 ^ 31 % size

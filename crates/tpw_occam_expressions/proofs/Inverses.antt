@@ -3,8 +3,8 @@ use Rattle.std.proofs.Common.{◌≡◌, ◌⊎◌, inl, inr, ◌+◌, ◌-◌, 
 use Rattle.std.specs.Prelude.{not, int_lt, ◌==◌, ◌≢◌}
 use Rattle.std.proofs.lemmas.Int.{ints, to_z_pos}
 use Rattle.std.proofs.lemmas.Bool.{cases_lt}
-use Rattle.tp_decode.specs.Words.{signed}
-use Rattle.tp_step.specs.Numbers.{truth}
+use Rattle.tp_words.specs.Words.{signed}
+use Rattle.tp_words.specs.Numbers.{truth}
 use Rattle.tpw_occam_symbolic.proofs.Words.{signed_high}
 
 pub not_truth : (t : Bool) → truth (truth t == 0) ≡ truth (not t)

@@ -3,7 +3,7 @@ use Rattle.std.proofs.Common.{◌≡◌, ◌+◌, ◌^◌, ◌<◌, [], ◌∷�
 use Rattle.std.specs.Int.{to_le_bytes}
 use Rattle.std.proofs.lemmas.Bool.{le-leb, eqb-true}
 use Rattle.tpw_occam_core.specs.declared.scope.Entry.{Entry}
-use Rattle.tpw_occam_core.specs.Arithmetic.{plain}
+use Rattle.tpw_occam_core.specs.Arithmetic.{pure}
 use Rattle.tpw_occam_symbolic.specs.declared.items.Item.{Item}
 use Rattle.tpw_occam_symbolic.specs.declared.items.Item.TheVariants.{Variable, Temporary, Constant, Array, Zeros}
 use Rattle.tpw_occam_symbolic.specs.declared.code.Step.TheVariants.{Load, Store}
@@ -14,7 +14,7 @@ use Rattle.tpw_occam_symbolic.specs.Leading.{Does, HasWord}
 use Rattle.tpw_occam_expressions.specs.Values.{HasNumber, PushesAlone}
 use Rattle.tpw_occam_expressions.specs.Agreement.{LeavesItems, Stays}
 use Rattle.tpw_occam_symbolic.proofs.Leading.{does_step, does_less}
-use Rattle.tpw_occam_symbolic.proofs.Carrying.{is_item-self}
+use Rattle.tpw_occam_symbolic.proofs.Simulation.{is_item-self}
 use Rattle.tpw_occam_expressions.proofs.Elements.{pushes_alone}
 use Rattle.tpw_occam_expressions.proofs.Computing.{word_there}
 
@@ -82,7 +82,7 @@ does_save arrays scope old new source kept word is =
 -- the word of an item, pushed
 pub does_recall : (arrays : List ℕ) (old new : Lines) (source : ℕ) (i : Item) (word : ℕ) → word < 2 ^ 32
     → new ≡ followed_by old (line_of source (Load i 0) ∷ [])
-    → Does arrays old new (HasWord i word) (PushesAlone (plain word))
+    → Does arrays old new (HasWord i word) (PushesAlone (pure word))
 unfolding performed
 does_recall arrays old new source i word small is =
     does_less arrays old new _ _ _ _

@@ -8,11 +8,11 @@ use Rattle.tpw_occam_symbolic.specs.Code.{Lines, followed_by, line_of, place_beh
 use Rattle.tpw_occam_symbolic.specs.Symbolic.{Machine, pair_answer, pair_effect, effect, performed, at_place, number, set_areg}
 use Rattle.tpw_occam_symbolic.specs.Leading.{Makes}
 use Rattle.tpw_occam_expressions.specs.Values.{HasOperands, HasNumber, answered, working}
-use Rattle.tpw_occam_core.specs.Arithmetic.{plain, applied}
+use Rattle.tpw_occam_core.specs.Arithmetic.{pure, applied}
 use Rattle.tpw_occam_core.specs.declared.expression.Operator.{Operator}
 use Rattle.tpw_occam_core.specs.declared.expression.Operator.TheVariants as operator
-use Rattle.tp_step.specs.Numbers.{truth}
-use Rattle.tp_decode.specs.Words.{signed}
+use Rattle.tp_words.specs.Numbers.{truth}
+use Rattle.tp_words.specs.Words.{signed}
 use Rattle.std.specs.Ordering.{int_eq}
 use Rattle.std.specs.Prelude.{ℤ, pos, ◌^◌}
 use Rattle.tpw_occam_symbolic.proofs.Leading.{does_step, makes_both}
@@ -74,7 +74,7 @@ makes_equal old between new source b a hb ha one two =
     (makes_pair old between source Diff b a (applied operator.Minus b a) one refl)
     (makes_eqc between new source (pos 0) (applied operator.Minus b a).word two)
     (λ m said. refl)
-    (λ m said. ap (λ t. at_place (place_behind new) (answered (plain (truth t)) m)) (difference_zero b a hb ha))
+    (λ m said. ap (λ t. at_place (place_behind new) (answered (pure (truth t)) m)) (difference_zero b a hb ha))
 
 pub working_same : (made : Operator) → (made ≡ operator.Equal → ⊥) → working made ≡ made
 working_same operator.Equal not = absurd (not refl)

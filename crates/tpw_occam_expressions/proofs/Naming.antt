@@ -13,7 +13,7 @@ use Rattle.tpw_occam_core.specs.declared.scope.Entry.{Entry}
 use Rattle.tpw_occam_core.specs.declared.scope.Entry.TheVariants as entry
 use Rattle.tpw_occam_core.specs.declared.expression.Expression.{Expression}
 use Rattle.tpw_occam_core.specs.declared.expression.Expression.TheVariants.{Let'}
-use Rattle.tpw_occam_core.specs.Arithmetic.{plain}
+use Rattle.tpw_occam_core.specs.Arithmetic.{pure}
 use Rattle.tpw_occam_core.specs.Meaning.{Store, value_of, with_value}
 use Rattle.tpw_occam_core.specs.Sound.{is_name, is_array, is_new_name, is_sound_expression}
 use Rattle.tpw_occam_symbolic.specs.declared.items.Item.{Item}
@@ -165,14 +165,14 @@ constant_fits c h = record {
 pub constant_binds : (k : Knowledge) (x c : ℕ) (e : Expression) → constant_in k e ≡ Some c → c < 2 ^ 32
     → Binds k (with_fact x (constant_fact c) k) x e
 constant_binds k x c e is small storages scope unset s place stands knows new =
-    let value : value_of e s ≡ plain c = constant_value k storages scope unset s e c stands knows is in
+    let value : value_of e s ≡ pure c = constant_value k storages scope unset s e c stands knows is in
     knows_name k scope unset s x (value_of e s).word (constant_fact c) knows new place.facts
     (subst (λ (v : Answer). FitsFact (constant_fact c) v.word) (sym value) (constant_fits c small))
 
 pub constant_binding : (k : Knowledge) (code : Lines) (x c : ℕ) (e : Expression) (registers kept : ℕ) → constant_in k e ≡ Some c
     → ComputesBinding k (with_fact x (constant_fact c) k) code code x e registers kept
 constant_binding k code x c e registers kept is storages scope unset s place stands suffices knows new =
-    let value : value_of e s ≡ plain c = constant_value k storages scope unset s e c stands knows is in
+    let value : value_of e s ≡ pure c = constant_value k storages scope unset s e c stands knows is in
     does_less k.arrays code code _ _ _ _ (does_nothing k.arrays code) (λ m said. tt)
     (λ m end agrees is.
     let leaves : LeavesItems scope kept m end = record { blocks = λ i at stays. ap (λ z. z.blocks i at) is; to_come = ap (λ z. z.to_come) is; sent = ap (λ z. z.sent) is; traced = ap (λ z. z.traced) is } in (

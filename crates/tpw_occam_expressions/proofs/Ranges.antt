@@ -9,8 +9,8 @@ use Rattle.std.proofs.lemmas.Int.{ints, clamps}
 use Rattle.std.proofs.lemmas.Bool.Decides.{nat_tests}
 use Rattle.std.proofs.lemmas.Nat.{and_le_l, and_le_r, or_lt, xor_lt}
 use Rattle.std.proofs.Math.Nat.{div-le_self, pow-le-pow_right}
-use Rattle.tp_decode.specs.Words.{signed, low_word}
-use Rattle.tp_step.specs.Numbers.{overflows, least_integer, greatest_integer, minus_one, truth}
+use Rattle.tp_words.specs.Words.{signed, low_word}
+use Rattle.tp_words.specs.Numbers.{overflows, least_integer, greatest_integer, minus_one, truth}
 use Rattle.tp_state.proofs.WordLemmas.{signed_above, signed_below, signed_low, signed_natural, natural_signed, signed_same, signed_low_word}
 use Rattle.tp_state.proofs.WordLemmas.{low_word_lt, low_word_alike, unsigned_is}
 use Rattle.tp_state.proofs.Products.{between_corners, mul_up, div_more, quotient_up, remainder_low, remainder_high, remainder_sign}

@@ -21,16 +21,16 @@ use Rattle.std.proofs.Math.IntN.{+ℤ_comm, *ℤ_comm}
 use Rattle.std.proofs.lemmas.Nat.{and_comm, or_comm as bits_or_comm, xor_comm}
 use Rattle.std.proofs.Common.{nat_eq}
 use Rattle.std.proofs.lemmas.Bool.Decides.{nat_tests}
-use Rattle.tp_decode.specs.Words.{signed, low_word}
-use Rattle.tp_step.specs.Numbers.{truth}
+use Rattle.tp_words.specs.Words.{signed, low_word}
+use Rattle.tp_words.specs.Numbers.{truth}
 use Rattle.tpw_occam_core.specs.declared.expression.Operator.TheVariants as operators
-use Rattle.tpw_occam_core.specs.Arithmetic.{answer, plain, checked, wrapped, applied, subscript}
-use Rattle.tpw_occam_core.specs.Meaning.{Store, followed, value_of}
+use Rattle.tpw_occam_core.specs.Arithmetic.{answer, pure, checked, wrapped, applied, subscript}
+use Rattle.tpw_occam_core.specs.Meaning.{Store, bind, value_of}
 use Rattle.tpw_occam_symbolic.specs.declared.items.Item.{Item}
 use Rattle.tpw_occam_symbolic.specs.declared.items.Item.TheVariants as item
 use Rattle.tpw_occam_symbolic.specs.declared.code.Step.TheVariants.{Plain, Load, Store as StoreTo}
 use Rattle.tpw_occam_expressions.specs.declared.expressions.Value.{Value}
-use Rattle.tpw_occam_expressions.specs.declared.emitter.Room.{Room}
+use Rattle.tpw_occam_expressions.specs.declared.emitter.Allocation.{Allocation}
 use Rattle.tpw_occam_symbolic.specs.Code.{Lines, followed_by, line_of, place_behind}
 use Rattle.tpw_occam_symbolic.specs.Symbolic.{Machine, effect, performed, at_place, number, push}
 use Rattle.tpw_occam_symbolic.specs.Leading.{Does, IsBefore, Arrives, HasConstants, HasWord, Makes}
@@ -396,10 +396,10 @@ applied_commutes operators.Add b a e = ap checked (+ℤ_comm (signed b) (signed 
 applied_commutes operators.Multiply b a e = ap checked (*ℤ_comm (signed b) (signed a))
 applied_commutes operators.Plus b a e = ap wrapped (+ℤ_comm (pos b) (pos a))
 applied_commutes operators.Times b a e = ap wrapped (*ℤ_comm (signed b) (signed a))
-applied_commutes operators.BitAnd b a e = ap plain (and_comm b a)
-applied_commutes operators.BitOr b a e = ap plain (bits_or_comm b a)
-applied_commutes operators.BitXor b a e = ap plain (xor_comm b a)
-applied_commutes operators.Equal b a e = ap (λ t. plain (truth t)) (nat_eq_comm b a)
+applied_commutes operators.BitAnd b a e = ap pure (and_comm b a)
+applied_commutes operators.BitOr b a e = ap pure (bits_or_comm b a)
+applied_commutes operators.BitXor b a e = ap pure (xor_comm b a)
+applied_commutes operators.Equal b a e = ap (λ t. pure (truth t)) (nat_eq_comm b a)
 applied_commutes operator b a e = cc
 
 -- two operands, and what an operator makes of them
@@ -435,10 +435,10 @@ applied_known k operator left right b a made left_known right_known holds storag
 
 does_constant : (k : Knowledge) (scope : List Entry) (unset : ℕ → Bool) (s : Store) (old new : Lines) (c registers kept : ℕ) → 1 ≤ registers
     → Makes old new HasConstants (push (number c))
-    → Does k.arrays old new (Agrees k scope unset s) (λ m end. Pushes registers (plain c) m end × LeavesItems scope kept m end)
+    → Does k.arrays old new (Agrees k scope unset s) (λ m end. Pushes registers (pure c) m end × LeavesItems scope kept m end)
 does_constant k scope unset s old new c registers kept least makes =
     does_less k.arrays old new _ _ _ _ (makes k.arrays) (λ m said. said.constants)
-    (λ m end said after. alone_pushes registers kept scope (plain c) m end least (pushes_alone c (place_behind new) m end after))
+    (λ m end said after. alone_pushes registers kept scope (pure c) m end least (pushes_alone c (place_behind new) m end after))
 
 pub first_above_computes : (k : Knowledge) (old pushed between new : Lines) (operator : Operator) (right : Expression) (c : ℕ) (b a : Value) (registers kept : ℕ)
     → Holds b c → Makes old pushed HasConstants (push (number c))
@@ -450,7 +450,7 @@ first_above_computes k old pushed between new operator right c b a registers kep
     let r = value_of right s in
     let ha = known storages scope unset s place stands knows in
     does_work k scope unset s old between new registers kept c r.word (false || r.flag) false (applied operator c r.word) more
-    (does_above k scope unset s old pushed between registers kept (plain c) r more suffices.most
+    (does_above k scope unset s old pushed between registers kept (pure c) r more suffices.most
     (does_constant k scope unset s old pushed c registers kept suffices.least makes)
     (computes storages scope unset s place stands (enough suffices.most) knows))
     (works c r.word hb ha (count_of_no_shift operator r.word unshifted)) (λ yes. absurd (false_true yes))
@@ -466,7 +466,7 @@ first_below_computes k old between pushed reversed new source operator right c b
     let ha = known storages scope unset s place stands knows in
     does_work k scope unset s old reversed new registers kept c r.word (false || r.flag) false (applied operator c r.word) more
     (does_rev k scope unset s old pushed reversed source registers kept c r.word false r.flag is
-    (does_above k scope unset s old between pushed registers kept r (plain c) more suffices.most
+    (does_above k scope unset s old between pushed registers kept r (pure c) more suffices.most
     (computes storages scope unset s place stands suffices knows)
     (does_constant k scope unset s between pushed c (registers - 1) kept (omega (arith, more)) makes)))
     (works c r.word hb ha (count_of_no_shift operator r.word unshifted)) (λ yes. absurd (false_true yes))
@@ -480,7 +480,7 @@ first_known k operator right c b a made hb known holds storages scope unset s pl
 -- ---- operands that have changed places
 
 both_swapped : (operator : Operator) (l r : Answer) → commutes operator ≡ true
-    → followed r (λ b. followed l (applied operator b)) ≡ followed l (λ b. followed r (applied operator b))
+    → bind r (λ b. bind l (applied operator b)) ≡ bind l (λ b. bind r (applied operator b))
 both_swapped operator l r commute =
     ap (λ (x : Answer). answer x.word (r.flag || (l.flag || x.flag))) (applied_commutes operator r.word l.word commute)
     ∙ ap (answer (applied operator l.word r.word).word)
@@ -654,21 +654,21 @@ fixed_immediate k operator left right fixed pair = by_which (either_of _ _ pair)
         (and_second (commutes operator) (is_immediate k operator left) (and_first _ _ other))
 
 -- a count above another operand, and one evaluated while the other is kept
-pub count_above : (k k1 : Knowledge) (between new : Lines) (count : Expression) (room less : Room) (n : ℕ)
+pub count_above : (k k1 : Knowledge) (between new : Lines) (count : Expression) (room less : Allocation) (n : ℕ)
     → k1 ≡ k → less ≡ record room { registers = room.registers - 1 } → 1 ≤ n → (n ≤ 1 → IsConstantBelow k count 32) → n < room.registers
     → (0 < 32 → 32 ≤ 2 ^ 31 → (less.registers ≤ 1 → IsConstantBelow k1 count 32)
-    → ComputesTo k1 between new count (subscript_value count 32) less.registers less.kept)
-    → ComputesTo k1 between new count (subscript_value count 32) (room.registers - 1) room.kept
+    → ComputesTo k1 between new count (subscript_value count 32) less.registers less.next_temporary)
+    → ComputesTo k1 between new count (subscript_value count 32) (room.registers - 1) room.next_temporary
 count_above k k1 between new count room less n same is least constant fits computes =
-    subst (λ (r : Room). ComputesTo k1 between new count (subscript_value count 32) r.registers r.kept) is
+    subst (λ (r : Allocation). ComputesTo k1 between new count (subscript_value count 32) r.registers r.next_temporary) is
     (computes (omega arith) (omega arith)
-    (λ few. subst (λ k. IsConstantBelow k count 32) (sym same) (constant (omega (arith, few, fits, ap (λ (r : Room). r.registers) is)))))
+    (λ few. subst (λ k. IsConstantBelow k count 32) (sym same) (constant (omega (arith, few, fits, ap (λ (r : Allocation). r.registers) is)))))
 
-pub count_beside : (k1 : Knowledge) (between new : Lines) (count : Expression) (room more : Room)
-    → more ≡ record room { kept = room.kept + 1 } → 2 ≤ room.registers
+pub count_beside : (k1 : Knowledge) (between new : Lines) (count : Expression) (room more : Allocation)
+    → more ≡ record room { next_temporary = room.next_temporary + 1 } → 2 ≤ room.registers
     → (0 < 32 → 32 ≤ 2 ^ 31 → (more.registers ≤ 1 → IsConstantBelow k1 count 32)
-    → ComputesTo k1 between new count (subscript_value count 32) more.registers more.kept)
-    → ComputesTo k1 between new count (subscript_value count 32) room.registers (room.kept + 1)
+    → ComputesTo k1 between new count (subscript_value count 32) more.registers more.next_temporary)
+    → ComputesTo k1 between new count (subscript_value count 32) room.registers (room.next_temporary + 1)
 count_beside k1 between new count room more is least computes =
-    subst (λ (r : Room). ComputesTo k1 between new count (subscript_value count 32) r.registers r.kept) is
-    (computes (omega arith) (omega arith) (λ few. absurd (omega (arith, few, least, ap (λ (r : Room). r.registers) is))))
+    subst (λ (r : Allocation). ComputesTo k1 between new count (subscript_value count 32) r.registers r.next_temporary) is
+    (computes (omega arith) (omega arith) (λ few. absurd (omega (arith, few, least, ap (λ (r : Allocation). r.registers) is))))

@@ -3,7 +3,7 @@ use Rattle.std.specs.Prelude.{◌≡◌, ℕ, ◌/◌, ◌^◌, ◌<◌, pos, Bo
 use Rattle.std.specs.Prelude.{map, slice_index, slice_index_or}
 use Rattle.std.specs.Prelude.{slice_set, Option, Some, None, IsTrue}
 use Rattle.std.specs.List.{list_any}
-use Rattle.tp_decode.specs.Words.{signed}
+use Rattle.tp_words.specs.Words.{signed}
 use Rattle.tpw_occam_core.specs.declared.kind.Kind.{Kind}
 use Rattle.tpw_occam_core.specs.declared.kind.Kind.TheVariants as kind
 use Rattle.tpw_occam_core.specs.declared.scope.Entry.{Entry}
@@ -59,7 +59,7 @@ constant_fact c = record {
 abbrev pub counted_fact : Range → Fact
 counted_fact range = record { source = range; known = range; constant = None }
 
--- the elements of so many bytes, seen as words or bytes
+-- the elements of this many bytes, seen as words or bytes
 abbrev pub elements_of : Kind → ℕ → ℕ
 elements_of kind.Word bytes = bytes / 4
 elements_of kind.Byte bytes = bytes

@@ -16,9 +16,9 @@ use Rattle.tpw_occam_core.specs.declared.expression.Expression.{Expression}
 use Rattle.tpw_occam_core.specs.declared.expression.Expression.TheVariants.{Constant, Variable, Element', Checked'}
 use Rattle.tpw_occam_core.specs.declared.expression.Expression.TheVariants.{Binary', Complement', Not', LowByte', And'}
 use Rattle.tpw_occam_core.specs.declared.expression.Expression.TheVariants.{Or', Let'}
-use Rattle.tp_step.specs.Numbers.{truth}
-use Rattle.tpw_occam_core.specs.Arithmetic.{plain, subscript, applied}
-use Rattle.tpw_occam_core.specs.Meaning.{Store, value_of, followed, with_value}
+use Rattle.tp_words.specs.Numbers.{truth}
+use Rattle.tpw_occam_core.specs.Arithmetic.{pure, subscript, applied}
+use Rattle.tpw_occam_core.specs.Meaning.{Store, value_of, bind, with_value}
 use Rattle.tpw_occam_expressions.specs.Ranges.{from_to, Contains, ContainsAllOf}
 use Rattle.tpw_occam_core.specs.declared.scope.Entry.TheVariants as entry
 use Rattle.tpw_occam_core.specs.Sound.{is_sound_expression, is_new_name, is_array, bytes_of}
@@ -149,11 +149,11 @@ IsKnown k e value = IsKnownOf k e (value_of e) value
 
 -- whether a value is FALSE
 abbrev pub inverse_of : Expression → Store → Answer
-inverse_of e s = followed (value_of e s) (λ a. plain (truth (a == 0)))
+inverse_of e s = bind (value_of e s) (λ a. pure (truth (a == 0)))
 
 -- a value as a subscript
 abbrev pub subscript_value : Expression → ℕ → Store → Answer
-subscript_value e size s = followed (value_of e s) (subscript size)
+subscript_value e size s = bind (value_of e s) (subscript size)
 
 -- an expression that is one constant, below a size
 abbrev pub IsConstantBelow : Knowledge → Expression → ℕ → Type 0
@@ -174,13 +174,13 @@ IsNoShift operator = Unit {0}
 
 -- what an operator makes of two values, of a value and a constant, and of a constant and a value
 abbrev pub applied_value : Operator → (left right : Expression) → Store → Answer
-applied_value operator left right s = followed (value_of left s) (λ b. followed (value_of right s) (applied operator b))
+applied_value operator left right s = bind (value_of left s) (λ b. bind (value_of right s) (applied operator b))
 
 abbrev pub applied_last : Operator → Expression → ℕ → Store → Answer
-applied_last operator left c s = followed (value_of left s) (λ b. applied operator b c)
+applied_last operator left c s = bind (value_of left s) (λ b. applied operator b c)
 
 abbrev pub applied_first : Operator → ℕ → Expression → Store → Answer
-applied_first operator c right s = followed (value_of right s) (applied operator c)
+applied_first operator c right s = bind (value_of right s) (applied operator c)
 
 -- the code of two operands
 abbrev pub ComputesBoth : Knowledge → (old new : Lines) → (left right : Expression) → (Store → Answer)
@@ -311,7 +311,7 @@ Decides k old new e registers kept =
 
 -- .. and of one that two operands are not equal
 abbrev pub unequal_value : (left right : Expression) → Store → Answer
-unequal_value left right s = followed (applied_value Equal left right s) (λ a. plain (truth (a == 0)))
+unequal_value left right s = bind (applied_value Equal left right s) (λ a. pure (truth (a == 0)))
 
 abbrev pub DecidesUnequal : Knowledge → (old new : Lines) → (left right : Expression) → (registers kept : ℕ) → Type 0
 DecidesUnequal k old new left right registers kept =

@@ -1,8 +1,8 @@
 -- Ranges: which words they contain, and what operators make of two words that they contain.
 use Rattle.std.specs.Prelude.{◌≡◌, ℕ, ◌<◌, ◌^◌, false, ◌||◌, if◌then◌else◌, ℤ, ◌+ℤ◌, ◌-ℤ◌, ◌*ℤ◌, ◌≤ℤ◌}
 use Rattle.std.specs.Int.{int_min, int_max}
-use Rattle.tp_decode.specs.Words.{signed}
-use Rattle.tp_step.specs.Numbers.{least_integer, greatest_integer, overflows}
+use Rattle.tp_words.specs.Words.{signed}
+use Rattle.tp_words.specs.Numbers.{least_integer, greatest_integer, overflows}
 use Rattle.tpw_occam_core.specs.Arithmetic.{applied}
 use Rattle.tpw_occam_core.specs.declared.expression.Operator.{Operator}
 use Rattle.tpw_occam_core.specs.declared.expression.Operator.TheVariants.{Add, Subtract, Multiply, Plus, Minus, Times}

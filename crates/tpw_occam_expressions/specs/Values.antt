@@ -54,7 +54,7 @@ AreTwins Plus b a = applied Add b a ≡ applied Plus b a
 AreTwins Multiply b a = applied Multiply b a ≡ applied Times b a
 AreTwins operator b a = Unit {0}
 
--- A value takes the place of the one in Areg. So many registers are used at most: what the others hold stays.
+-- A value takes the place of the one in Areg. This many registers are used at most: what the others hold stays.
 pub record Replaces (registers : ℕ) (made : Answer) (m end : Machine) : Type 0 where
   pub areg : end.areg ≡ number made.word
   pub breg : registers ≤ 2 → end.breg ≡ m.breg
@@ -65,7 +65,7 @@ pub record Replaces (registers : ℕ) (made : Answer) (m end : Machine) : Type 0
   pub sent : end.sent ≡ m.sent
   pub traced : end.traced ≡ m.traced
 
--- A value is pushed. So many registers are used at most, that of the value among them: what the others hold stays.
+-- A value is pushed. This many registers are used at most, that of the value among them: what the others hold stays.
 pub record Pushes (registers : ℕ) (made : Answer) (m end : Machine) : Type 0 where
   pub areg : end.areg ≡ number made.word
   pub breg : registers ≤ 2 → end.breg ≡ m.areg
@@ -80,7 +80,7 @@ pub record PushesAlone (made : Answer) (m end : Machine) : Type 0 where
   pub sent : end.sent ≡ m.sent
   pub traced : end.traced ≡ m.traced
 
--- the lines lengthen code; of a number in Areg they make this, with so many registers
+-- the lines lengthen code; of a number in Areg they make this, with this many registers
 abbrev pub Answers : (old new : Lines) (registers a : ℕ) → Answer → Type 0
 Answers old new registers a made =
     (arrays : List ℕ) → Does arrays old new (λ m. HasConstants m × HasNumber a m) (Replaces registers made)
@@ -122,7 +122,7 @@ pub record PushesAddress (arrays : List ℕ) (a at : ℕ) (m end : Machine) : Ty
   pub traced : end.traced ≡ m.traced
   pub room : word_bytes (slice_index arrays a) ≤ end.sizes (Array a)
 
--- A value is pushed with so many registers, and nothing else is changed.
+-- A value is pushed with this many registers, and nothing else is changed.
 pub record PushesOver (registers : ℕ) (made : Answer) (m end : Machine) : Type 0 where
   pub pushed : Pushes registers made m end
   pub blocks : end.blocks ≡ m.blocks

@@ -1,4 +1,4 @@
-//! What is known while code is made.
+//! The state of code generation.
 
 ghost use Rattle.std.specs.Prelude.{◌≡◌, ◌<◌, ◌^◌, ◌+◌, ◌-◌, ◌*◌, Some, IfOk, IfSome, map};
 ghost use Rattle.std.specs.Prelude.{slice_index};
@@ -17,7 +17,7 @@ use tp_image::limits::MAX_WORKSPACE_WORDS_2;
 use tpw_occam_core::{Expression, Kind, Storage, Worker};
 use tpw_occam_symbolic::{CodeFault, Item};
 
-/// What is known of a name: the numbers that its value may be, those that the verifier knows of, and its value where
+/// The ranges of a name: the numbers that its value may be, those that the verifier knows of, and its value where
 /// that is one constant, which then has no word.
 #[derive(Clone, Copy)]
 pub struct Fact {
@@ -26,7 +26,7 @@ pub struct Fact {
     pub constant: Option<u32>,
 }
 
-/// What is known of a variable of a kind.
+/// The ranges of a variable of a kind.
 pub fn fact_of(kind: Kind) -> Fact
     ensures { result ≡ fact_of_kind kind }
 {
@@ -40,7 +40,7 @@ pub fn fact_of(kind: Kind) -> Fact
     }
 }
 
-/// What is known of a name with a value in this range.
+/// The ranges of a name with a value in this range.
 pub(crate) fn valued(source: Range) -> Fact
     ensures { result ≡ valued_fact source }
 {
@@ -51,7 +51,7 @@ pub(crate) fn valued(source: Range) -> Fact
     }
 }
 
-/// What is known of a name of a constant.
+/// The ranges of a name of a constant.
 pub fn constant(c: u32) -> Fact
     ensures { result ≡ constant_fact c }
 {
@@ -63,7 +63,7 @@ pub fn constant(c: u32) -> Fact
     }
 }
 
-/// What is known of the index of a loop.
+/// The ranges of the index of a loop.
 pub fn counted(range: Range) -> Fact
     ensures { result ≡ counted_fact range }
 {
@@ -74,63 +74,64 @@ pub fn counted(range: Range) -> Fact
     }
 }
 
-/// What an expression may use: registers, at least 2 where it needs more than one; words for what is kept, from the
-/// first that is free. And the line of the text that it comes from.
+/// The registers and words that the code of an expression may use, and the line of the text that it comes from.
 #[derive(Clone, Copy)]
-pub struct Room {
+pub struct Allocation {
+    /// At least 2 where the expression needs more than one.
     pub registers: u32,
-    pub kept: usize,
+    /// The first word that no temporary has.
+    pub next_temporary: usize,
     pub line: u32,
 }
 
-impl Room {
+impl Allocation {
     /// All registers, and all words from one on.
-    pub fn from_word(kept: usize, line: u32) -> Room
-        ensures { result ≡ record { registers = 3; kept = kept; line = line } }
+    pub fn from_word(next_temporary: usize, line: u32) -> Allocation
+        ensures { result ≡ record { registers = 3; next_temporary = next_temporary; line = line } }
     {
-        Room {
+        Allocation {
             registers: 3,
-            kept,
+            next_temporary,
             line,
         }
     }
 
-    /// So many registers.
-    pub(crate) fn with_registers(self, registers: u32) -> Room
+    /// The same words, with another number of registers.
+    pub(crate) fn with_registers(self, registers: u32) -> Allocation
         ensures { result ≡ record self { registers = registers } }
     {
-        Room { registers, ..self }
+        Allocation { registers, ..self }
     }
 
     /// One register less.
-    pub fn above(self) -> Room
+    pub fn above(self) -> Allocation
         ensures { result ≡ record self { registers = self.registers - 1 } }
     {
         self.with_registers(self.registers.saturating_sub(1))
     }
 
     /// One word more is kept. No workspace has room for more words than it has.
-    pub fn beside(self) -> Result<Room, CodeFault>
-        ensures { IfOk result (λ room. room ≡ record self { kept = self.kept + 1 }) }
+    pub fn beside(self) -> Result<Allocation, CodeFault>
+        ensures { IfOk result (λ room. room ≡ record self { next_temporary = self.next_temporary + 1 }) }
     {
-        if self.kept >= MAX_WORKSPACE_WORDS_2 as usize {
+        if self.next_temporary >= MAX_WORKSPACE_WORDS_2 as usize {
             return Err(CodeFault::Workspace { line: self.line });
         }
-        Ok(Room {
-            kept: self.kept + 1,
+        Ok(Allocation {
+            next_temporary: self.next_temporary + 1,
             ..self
         })
     }
 
     /// The word that is kept next.
     pub fn word(self) -> Item
-        ensures { result ≡ Temporary self.kept }
+        ensures { result ≡ Temporary self.next_temporary }
     {
-        Item::Temporary(self.kept)
+        Item::Temporary(self.next_temporary)
     }
 }
 
-/// What code is made with: the worker, and what is known of the names in scope.
+/// The state of code generation: the worker, and the ranges of the names in scope.
 #[derive(Drop)]
 pub struct Emitter<'a> {
     pub alloc: Global,
@@ -153,7 +154,7 @@ impl<'a> Model for Emitter<'a> {
     } };
 }
 
-/// What is known of variables.
+/// The ranges of variables.
 fn facts_of(alloc: Global, kinds: &[Kind]) -> Result<Vec<Fact>, AllocError>
     ensures { IfOk result (λ facts. facts.items ≡ map fact_of_kind kinds.now) }
 {
@@ -182,7 +183,7 @@ impl<'a> Emitter<'a> {
         self.worker.variables.get(x).copied().unwrap_or(Kind::Word)
     }
 
-    /// What is known of a name.
+    /// The ranges of a name.
     pub fn fact(&self, x: usize) -> Fact
         ensures { result ≡ fact_at self.now x }
     {

@@ -1,18 +1,18 @@
 //! Code of expressions.
 //!
-//! The code of an expression pushes its value. It uses so many registers at most, that of the value among them: what
+//! The code of an expression pushes its value. It uses this many registers at most, that of the value among them: what
 //! the others hold stays. One register is enough only where the expression needs no more.
 
 ghost use Rattle.std.specs.Prelude.{◌≡◌, ◌≤◌, ℕ, ◌+◌, IfOk, OnOk, IfSome};
 ghost use Rattle.tpw_occam_core.specs.declared.expression.Expression.TheVariants as expression;
 ghost use Rattle.tpw_occam_expressions.specs.declared.emitter.Fact.{Fact};
-ghost use Rattle.tp_decode.specs.Words.{complement};
+ghost use Rattle.tp_words.specs.Words.{complement};
 ghost use Rattle.tpw_occam_expressions.specs.Agreement.{with_fact};
 ghost use Rattle.tpw_occam_expressions.specs.Values.{Holds};
 ghost use Rattle.tpw_occam_expressions.specs.Computing.{Binds, ComputesBinding, Computes, ComputesTo, IsKnown, IsKnownOf};
 ghost use Rattle.tpw_occam_expressions.specs.Computing.{IsSuccessor, IsPredecessor, inverse_of, Decides, DecidesUnequal};
 
-use crate::emitter::{Emitter, Room, constant, valued};
+use crate::emitter::{Allocation, Emitter, constant, valued};
 use crate::operators::{number, truth};
 use crate::range::Range;
 use crate::subscripts::{checked, fixed_element, indexed_element, offset_element};
@@ -25,7 +25,7 @@ const MOST_POSITIVE: u32 = 0x7FFF_FFFF;
 
 const MOST_NEGATIVE: u32 = 0x8000_0000;
 
-/// What is known of a value that was pushed: the numbers that it may be, and those that the verifier knows of.
+/// The ranges of a value that was pushed: the numbers that it may be, and those that the verifier knows of.
 #[derive(Clone, Copy)]
 pub struct Value {
     pub source: Range,
@@ -33,7 +33,7 @@ pub struct Value {
 }
 
 impl Value {
-    /// What either may be.
+    /// The ranges that have all of either.
     fn or(self, other: Value) -> Value
         ensures first { (word : ℕ) → Holds self word → Holds result word }
         ensures second { (word : ℕ) → Holds other word → Holds result word }
@@ -62,10 +62,10 @@ impl Emitter<'_> {
         &mut self,
         code: &mut Code,
         e: &Expression,
-        room: Room,
+        room: Allocation,
     ) -> Result<Value, CodeFault>
         ensures knowledge { OnOk result (self.new ≡ self.old) }
-        ensures computes { OnOk result (Computes self.old code.old code.new e.now room.registers room.kept) }
+        ensures computes { OnOk result (Computes self.old code.old code.new e.now room.registers room.next_temporary) }
         ensures known { IfOk result (λ value. IsKnown self.old e.now value) }
     {
         let line = room.line;
@@ -161,14 +161,14 @@ impl Emitter<'_> {
         code: &mut Code,
         x: usize,
         e: &Expression,
-        room: Room,
+        room: Allocation,
     ) -> Result<(), CodeFault>
         ensures kinds { OnOk result (self.new.kinds ≡ self.old.kinds) }
         ensures arrays { OnOk result (self.new.arrays ≡ self.old.arrays) }
         ensures facts { OnOk result ((fact : Fact) × (self.new ≡ with_fact x fact self.old)) }
         ensures knows { OnOk result (Binds self.old self.new x e.now) }
         ensures computes { OnOk result (ComputesBinding self.old self.new code.old code.new x e.now room.registers
-            room.kept) }
+            room.next_temporary) }
     {
         if let Some(c) = self.constant_of(e) {
             self.set_fact(x, constant(c));
@@ -202,10 +202,15 @@ impl Emitter<'_> {
 
     /// Pushes whether an expression is FALSE. Of `x > c` that is `c + 1 > x`, and of `c > x` it is `x > c - 1`.
     #[cycle(expression)]
-    fn inverted(&mut self, code: &mut Code, e: &Expression, room: Room) -> Result<Value, CodeFault>
+    fn inverted(
+        &mut self,
+        code: &mut Code,
+        e: &Expression,
+        room: Allocation,
+    ) -> Result<Value, CodeFault>
         ensures knowledge { OnOk result (self.new ≡ self.old) }
         ensures computes { OnOk result (ComputesTo self.old code.old code.new e.now (inverse_of e.now) room.registers
-            room.kept) }
+            room.next_temporary) }
         ensures known { IfOk result (λ value. IsKnownOf self.old e.now (inverse_of e.now) value) }
     {
         if let Expression::Binary {
@@ -242,10 +247,10 @@ impl Emitter<'_> {
         &mut self,
         code: &mut Code,
         e: &Expression,
-        room: Room,
+        room: Allocation,
     ) -> Result<(), CodeFault>
         ensures knowledge { OnOk result (self.new ≡ self.old) }
-        ensures decides { OnOk result (Decides self.old code.old code.new e.now room.registers room.kept) }
+        ensures decides { OnOk result (Decides self.old code.old code.new e.now room.registers room.next_temporary) }
     {
         if let Expression::Not(equal) = e {
             if let Expression::Binary {
@@ -269,11 +274,11 @@ impl Emitter<'_> {
         code: &mut Code,
         left: &Expression,
         right: &Expression,
-        room: Room,
+        room: Allocation,
     ) -> Result<(), CodeFault>
         ensures knowledge { OnOk result (self.new ≡ self.old) }
         ensures decides { OnOk result (DecidesUnequal self.old code.old code.new left.now right.now room.registers
-            room.kept) }
+            room.next_temporary) }
     {
         if let Some(0) = self.constant_of(right) {
             self.expression(code, left, room)?;

@@ -9,7 +9,7 @@ mod operators;
 mod range;
 mod subscripts;
 
-pub use emitter::{Emitter, Fact, Room, constant, counted, fact_of};
+pub use emitter::{Allocation, Emitter, Fact, constant, counted, fact_of};
 pub use expressions::Value;
 pub use range::{FULL, Range};
 pub use subscripts::{Offset, base, checked, indexed, kept_byte, reduce, settled};

@@ -2,7 +2,7 @@
 
 ghost use Rattle.std.specs.Prelude.{◌≡◌, ◌≤◌, ◌⊎◌, ◌&&◌, false, IsTrue, is_some};
 ghost use Rattle.std.specs.Option.{option_map};
-ghost use Rattle.tp_decode.specs.Words.{signed};
+ghost use Rattle.tp_words.specs.Words.{signed};
 ghost use Rattle.tpw_occam_expressions.specs.Agreement.{constant_in};
 ghost use Rattle.tpw_occam_core.specs.declared.expression.Operator.TheVariants.{ShiftLeft, ShiftRight};
 ghost use Rattle.tpw_occam_expressions.specs.Computing.{IsNoShift, immediate_of, is_immediate, is_simple, is_swapped};

@@ -9,7 +9,7 @@ ghost use Rattle.tpw_occam_expressions.specs.Computing.{HasImmediate, IsSimplePa
 ghost use Rattle.tpw_occam_expressions.specs.Computing.{applied_value};
 ghost use Rattle.tpw_occam_expressions.specs.Computing.{applied_last, applied_first};
 
-use crate::emitter::{Emitter, Room};
+use crate::emitter::{Allocation, Emitter};
 use crate::expressions::Value;
 use crate::need::{commutes, is_shift};
 use crate::operators::{apply, apply_constant, number};
@@ -18,7 +18,7 @@ use tp_decode::Instr;
 use tpw_occam_core::{Expression, Operator};
 use tpw_occam_symbolic::{Code, CodeFault, Step};
 
-/// What is known of a value that was kept in a word: the verifier knows nothing of it.
+/// The ranges of a value that was kept in a word: the verifier knows nothing of it.
 fn recalled(value: Value) -> Value
     ensures { result ≡ record { source = value.source; known = full } }
 {
@@ -37,12 +37,12 @@ impl Emitter<'_> {
         operator: Operator,
         left: &Expression,
         right: &Expression,
-        room: Room,
+        room: Allocation,
     ) -> Result<Value, CodeFault>
         ensures knowledge { OnOk result (self.new ≡ self.old) }
         ensures computes { OnOk result ((room.registers ≤ 1 → IsSimplePair self.old operator left.now right.now)
             → ComputesBoth self.old code.old code.new left.now right.now (applied_value operator left.now right.now)
-            room.registers room.kept) }
+            room.registers room.next_temporary) }
         ensures known { IfOk result (λ value. IsKnownOfBoth self.old left.now right.now (applied_value operator
             left.now right.now) value) }
     {
@@ -66,13 +66,13 @@ impl Emitter<'_> {
         operator: Operator,
         left: &Expression,
         right: &Expression,
-        room: Room,
+        room: Allocation,
     ) -> Result<Value, CodeFault>
         ensures knowledge { OnOk result (self.new ≡ self.old) }
         ensures computes { OnOk result (IsNoShift operator → (room.registers ≤ 1
             → HasImmediate self.old operator left.now right.now)
             → ComputesBoth self.old code.old code.new left.now right.now (applied_value operator left.now right.now)
-            room.registers room.kept) }
+            room.registers room.next_temporary) }
         ensures known { IfOk result (λ value. IsKnownOfBoth self.old left.now right.now (applied_value operator
             left.now right.now) value) }
     {
@@ -94,12 +94,12 @@ impl Emitter<'_> {
         operator: Operator,
         left: &Expression,
         c: u32,
-        room: Room,
+        room: Allocation,
     ) -> Result<Value, CodeFault>
         ensures knowledge { OnOk result (self.new ≡ self.old) }
         ensures computes { OnOk result (IsNoShift operator → (room.registers ≤ 1 → IsTrue (has_immediate operator c))
             → ComputesTo self.old code.old code.new left.now (applied_last operator left.now c) room.registers
-            room.kept) }
+            room.next_temporary) }
         ensures known { IfOk result (λ value. IsKnownOf self.old left.now (applied_last operator left.now c) value) }
     {
         let b = self.expression(code, left, room)?;
@@ -114,12 +114,12 @@ impl Emitter<'_> {
         operator: Operator,
         c: u32,
         right: &Expression,
-        room: Room,
+        room: Allocation,
     ) -> Result<Value, CodeFault>
         ensures knowledge { OnOk result (self.new ≡ self.old) }
         ensures computes { OnOk result (IsNoShift operator → 2 ≤ room.registers
             → ComputesTo self.old code.old code.new right.now (applied_first operator c right.now) room.registers
-            room.kept) }
+            room.next_temporary) }
         ensures known { IfOk result (λ value. IsKnownOf self.old right.now (applied_first operator c right.now) value) }
     {
         if self.need(right) < room.registers {
@@ -140,13 +140,13 @@ impl Emitter<'_> {
         code: &mut Code,
         left: &Expression,
         right: &Expression,
-        room: Room,
+        room: Allocation,
         commute: bool,
     ) -> Result<(Value, Value), CodeFault>
         ensures knowledge { OnOk result (self.new ≡ self.old) }
         ensures computes { OnOk result (ComputesTwo self.old code.old code.new left.now right.now (value_of left.now)
             (value_of right.now)
-            commute room.registers room.kept) }
+            commute room.registers room.next_temporary) }
         ensures left { IfOk result (λ both. IsKnownOf self.old left.now (value_of left.now) both.0) }
         ensures right { IfOk result (λ both. IsKnownOf self.old right.now (value_of right.now) both.1) }
     {
@@ -178,11 +178,11 @@ impl Emitter<'_> {
         code: &mut Code,
         left: &Expression,
         count: &Expression,
-        room: Room,
+        room: Allocation,
     ) -> Result<(Value, Value), CodeFault>
         ensures knowledge { OnOk result (self.new ≡ self.old) }
         ensures computes { OnOk result (ComputesTwo self.old code.old code.new left.now count.now (value_of left.now)
-            (subscript_value count.now 32) false room.registers room.kept) }
+            (subscript_value count.now 32) false room.registers room.next_temporary) }
         ensures left { IfOk result (λ both. IsKnownOf self.old left.now (value_of left.now) both.0) }
         ensures count { IfOk result (λ both. IsKnownOf self.old count.now (subscript_value count.now 32) both.1) }
     {

@@ -1,4 +1,4 @@
-//! What an operator makes of registers.
+//! Operators on registers.
 
 ghost use Rattle.std.specs.Prelude.{◌≡◌, ℕ, ◌<◌, ◌^◌, Some, false, true, IfOk, IfSome, IfNone, OnOk, IsTrue};
 ghost use Rattle.tpw_occam_core.specs.Arithmetic.{applied};
@@ -17,7 +17,7 @@ use tp_decode::Instr;
 use tpw_occam_core::Operator;
 use tpw_occam_symbolic::{Code, CodeFault};
 
-/// What is known of one number.
+/// The ranges of one number.
 fn exactly(c: u32) -> Value
     ensures { Holds result c }
 {
@@ -28,7 +28,7 @@ fn exactly(c: u32) -> Value
     }
 }
 
-/// What is known of FALSE or TRUE.
+/// The ranges of FALSE or TRUE.
 pub(crate) fn truth() -> Value
     ensures { (word : ℕ) → word < 2 → Holds result word }
 {
@@ -74,7 +74,7 @@ fn instr_of(operator: Operator, fits: bool) -> Instr
     }
 }
 
-/// What is known of what an operator makes of two values.
+/// The ranges of an operator's result on two values.
 fn result_value(operator: Operator, b: Value, a: Value) -> Value
     ensures { (vb va : ℕ) → Holds b vb → Holds a va → Holds result (applied operator vb va).word }
 {

@@ -6,7 +6,7 @@
 ghost use Rattle.std.specs.Prelude.{◌≡◌, ◌≢◌, ℕ, ◌<◌, ◌≤◌, ◌^◌, ◌↔◌, IsTrue, IfSome, FitsSigned};
 ghost use Rattle.std.specs.Prelude.{pos, negsuc, ◌≤ℤ◌, ◌+ℤ◌, ◌-ℤ◌, ◌*ℤ◌};
 ghost use Rattle.std.specs.Int.{w32, int_min, int_max};
-ghost use Rattle.tp_decode.specs.Words.{signed, complement};
+ghost use Rattle.tp_words.specs.Words.{signed, complement};
 ghost use Rattle.tpw_occam_expressions.specs.Ranges.{from_to, full, between, hull, Contains, ContainsAllOf, ContainsResults};
 ghost use Rattle.tpw_occam_expressions.specs.Ranges.{AreWords, AlwaysFits, TwinsAgree};
 
@@ -25,7 +25,7 @@ pub const FULL: Range = Range {
     high: i32::MAX,
 };
 
-/// What a byte may be.
+/// The numbers of a byte.
 pub(crate) const BYTE: Range = Range { low: 0, high: 255 };
 
 /// FALSE and TRUE.
@@ -58,7 +58,7 @@ impl Range {
         }
     }
 
-    /// The subscripts of so many elements.
+    /// The subscripts of this many elements.
     pub(crate) fn below(size: u32) -> Range
         ensures within { 0 < size → size ≤ 2 ^ 31 → (word : ℕ) → word < 2 ^ 32 → Contains result word → word < size }
         ensures contains { 0 < size → size ≤ 2 ^ 31 → (word : ℕ) → word < size → Contains result word }
@@ -73,7 +73,7 @@ impl Range {
         other.low <= self.low && self.high <= other.high
     }
 
-    /// What either may be.
+    /// The range that has all of either.
     pub(crate) fn or(self, other: Range) -> Range
         ensures ends { result ≡ from_to (int_min self.low other.low) (int_max self.high other.high) }
         ensures first { ContainsAllOf result self }
@@ -260,7 +260,7 @@ fn shifted_right(b: Range, a: Range) -> Range
     }
 }
 
-/// What may come of two operands.
+/// The range of an operator's results on two operands.
 pub(crate) fn result_range(operator: Operator, b: Range, a: Range) -> Range
     ensures contains { ContainsResults operator b a result }
     ensures fits { result ≢ full → AlwaysFits operator b a }

@@ -5,7 +5,7 @@
 
 ghost use Rattle.std.specs.Prelude.{◌≡◌, ◌⊎◌, ◌<◌, ◌≤◌, ◌+◌, ◌*◌, ◌^◌, ◌%◌, ℕ, List, length, slice_index, pos, Some};
 ghost use Rattle.std.specs.Prelude.{None, IsTrue, OnOk, IfOk, IfSome, IfNone, bit_and, nat_le};
-ghost use Rattle.tpw_occam_core.specs.Arithmetic.{answer, plain, subscript};
+ghost use Rattle.tpw_occam_core.specs.Arithmetic.{answer, pure, subscript};
 ghost use Rattle.tpw_occam_expressions.specs.Ranges.{from_to, Contains, ContainsAllOf};
 ghost use Rattle.tpw_occam_core.specs.Arrays.{size, element};
 ghost use Rattle.tpw_occam_core.specs.declared.kind.Kind.TheVariants.{Word, Byte};
@@ -18,7 +18,7 @@ ghost use Rattle.tpw_occam_expressions.specs.Computing.{IsOffset, IsOffsetOf, su
 ghost use Rattle.tpw_occam_expressions.specs.Values.{Answers, Holds, HasNumber, HasAddress, Replaces, PushesAlone};
 ghost use Rattle.tpw_occam_expressions.specs.Values.{IsAtElement, PushesAddress, PushesOver, scaled};
 
-use crate::emitter::{Emitter, Room};
+use crate::emitter::{Allocation, Emitter};
 use crate::expressions::Value;
 use crate::operators::number;
 use crate::range::{BYTE, FULL, Range};
@@ -39,7 +39,7 @@ fn check(code: &mut Code, line: u32, size: u32) -> Result<(), CodeFault>
 
 /// Takes the low bits of Areg.
 fn mask(code: &mut Code, line: u32, bits: u32) -> Result<(), CodeFault>
-    ensures { OnOk result ((i : ℕ) → Answers code.old code.new 2 i (plain (bit_and i bits))) }
+    ensures { OnOk result ((i : ℕ) → Answers code.old code.new 2 i (pure (bit_and i bits))) }
 {
     code.constant(line, bits)?;
     code.instr(line, Instr::BitAnd)
@@ -62,7 +62,7 @@ fn exponent_of(size: u32) -> Option<u32>
 /// below 0.
 fn without_sign(code: &mut Code, line: u32, known: Range) -> Result<(), CodeFault>
     ensures { OnOk result ((i : ℕ) → i < 2 ^ 32 → Contains known i
-        → Answers code.old code.new 2 i (plain (i % 2 ^ 31))) }
+        → Answers code.old code.new 2 i (pure (i % 2 ^ 31))) }
 {
     if known.is_within(Range::below(MOST_POSITIVE + 1)) {
         return Ok(());
@@ -73,7 +73,7 @@ fn without_sign(code: &mut Code, line: u32, known: Range) -> Result<(), CodeFaul
 /// Takes the remainder of Areg by a size; neither is below 0.
 fn remainder(code: &mut Code, line: u32, size: u32) -> Result<(), CodeFault>
     ensures { OnOk result ((i : ℕ) → i < 2 ^ 31 → 0 < size → size ≤ 2 ^ 31
-        → Answers code.old code.new 2 i (plain (i % size))) }
+        → Answers code.old code.new 2 i (pure (i % size))) }
 {
     code.constant(line, size)?;
     code.instr(line, Instr::Rem)
@@ -82,7 +82,7 @@ fn remainder(code: &mut Code, line: u32, size: u32) -> Result<(), CodeFault>
 /// Makes Areg, of which the verifier knows this, a number below a size, and leaves one that is below it as it is.
 pub fn reduce(code: &mut Code, line: u32, known: Range, size: u32) -> Result<Range, CodeFault>
     ensures makes { OnOk result ((i : ℕ) → i < 2 ^ 32 → Contains known i → 0 < size → size ≤ 2 ^ 31
-        → Answers code.old code.new 2 i (plain (i % 2 ^ 31 % size))) }
+        → Answers code.old code.new 2 i (pure (i % 2 ^ 31 % size))) }
     ensures known { IfOk result (λ known. (word : ℕ) → word < size → size ≤ 2 ^ 31 → Contains known word) }
 {
     if let Some(_) = exponent_of(size) {
@@ -115,7 +115,7 @@ pub fn checked(code: &mut Code, line: u32, value: Value, size: u32) -> Result<Va
 
 /// Takes the low byte of Areg where the value may be more.
 pub fn kept_byte(code: &mut Code, line: u32, value: Value) -> Result<(), CodeFault>
-    ensures { OnOk result ((i : ℕ) → Holds value i → Answers code.old code.new 2 i (plain (i % 256))) }
+    ensures { OnOk result ((i : ℕ) → Holds value i → Answers code.old code.new 2 i (pure (i % 256))) }
 {
     if value.source.is_within(BYTE) {
         return Ok(());
@@ -138,7 +138,7 @@ pub fn indexed(code: &mut Code, line: u32, array: usize, kind: Kind) -> Result<(
 /// Pushes the byte of a variable, of which the verifier then knows the range.
 fn push_byte(code: &mut Code, line: u32, x: usize) -> Result<Value, CodeFault>
     ensures makes { OnOk result ((arrays : List ℕ) (word : ℕ) → word < 256 → Does arrays code.old code.new
-        (HasWord (Variable x) word) (PushesAlone (plain word))) }
+        (HasWord (Variable x) word) (PushesAlone (pure word))) }
     ensures holds { IfOk result (λ value. (word : ℕ) → word < 256 → Holds value word) }
 {
     code.emit(line, Step::Pointer(Item::Variable(x), 0))?;
@@ -200,7 +200,7 @@ pub(crate) fn offset_element(
     ensures makes { OnOk result ((arrays bytes : List ℕ) (v : ℕ) → v < 2 ^ 32 → length bytes ≡ slice_index arrays array
         → v + offset.constant < size Word bytes → length bytes ≤ 2048 → Does arrays code.old code.new
         (λ m. HasWord (Variable offset.variable) v m × HasArray array bytes m)
-        (PushesOver 2 (plain (element Word bytes (v + offset.constant))))) }
+        (PushesOver 2 (pure (element Word bytes (v + offset.constant))))) }
     ensures holds { IfOk result (λ value. (bytes : List ℕ) (i : ℕ) → ((at : ℕ) → slice_index bytes at < 256)
         → Holds value (element Word bytes i)) }
 {
@@ -209,7 +209,7 @@ pub(crate) fn offset_element(
     Ok(element_value(Kind::Word))
 }
 
-/// What is known of an element.
+/// The ranges of an element.
 fn element_value(kind: Kind) -> Value
     ensures { (bytes : List ℕ) (i : ℕ) → ((at : ℕ) → slice_index bytes at < 256) → Holds result (element kind bytes i) }
 {
@@ -227,7 +227,7 @@ fn element_value(kind: Kind) -> Value
 fn push_fixed(code: &mut Code, line: u32, array: usize, kind: Kind, c: u32) -> Result<(), CodeFault>
     ensures { OnOk result ((arrays : List ℕ) (bytes : List ℕ) → length bytes ≡ slice_index arrays array
         → c < size kind bytes → (kind ≡ Byte → c % 4 ≡ 0) → Does arrays code.old code.new (HasArray array bytes)
-        (PushesAlone (plain (element kind bytes c)))) }
+        (PushesAlone (pure (element kind bytes c)))) }
 {
     match kind {
         Kind::Word => code.emit(line, Step::Load(Item::Array(array), c)),
@@ -241,7 +241,7 @@ fn push_fixed(code: &mut Code, line: u32, array: usize, kind: Kind, c: u32) -> R
 /// Makes Areg, the address of an element, the element.
 fn load(code: &mut Code, line: u32, kind: Kind) -> Result<(), CodeFault>
     ensures { OnOk result ((arrays : List ℕ) (a : ℕ) (bytes : List ℕ) (i : ℕ) → i < size kind bytes
-        → Does arrays code.old code.new (IsAtElement kind a bytes i) (Replaces 1 (plain (element kind bytes i)))) }
+        → Does arrays code.old code.new (IsAtElement kind a bytes i) (Replaces 1 (pure (element kind bytes i)))) }
 {
     match kind {
         Kind::Word => code.instr(line, Instr::Ldnl(0)),
@@ -259,7 +259,7 @@ pub(crate) fn fixed_element(
 ) -> Result<Value, CodeFault>
     ensures makes { OnOk result ((arrays : List ℕ) (bytes : List ℕ) → length bytes ≡ slice_index arrays array
         → c < size kind bytes → (kind ≡ Byte → c % 4 ≡ 0) → Does arrays code.old code.new (HasArray array bytes)
-        (PushesAlone (plain (element kind bytes c)))) }
+        (PushesAlone (pure (element kind bytes c)))) }
     ensures holds { IfOk result (λ value. (bytes : List ℕ) (i : ℕ) → ((at : ℕ) → slice_index bytes at < 256)
         → Holds value (element kind bytes i)) }
 {
@@ -276,7 +276,7 @@ pub(crate) fn indexed_element(
 ) -> Result<Value, CodeFault>
     ensures makes { OnOk result ((arrays : List ℕ) (bytes : List ℕ) (i : ℕ) → length bytes ≡ slice_index arrays array
         → i < size kind bytes → Does arrays code.old code.new (λ m. HasNumber i m × HasArray array bytes m)
-        (Replaces 2 (plain (element kind bytes i)))) }
+        (Replaces 2 (pure (element kind bytes i)))) }
     ensures holds { IfOk result (λ value. (bytes : List ℕ) (i : ℕ) → ((at : ℕ) → slice_index bytes at < 256)
         → Holds value (element kind bytes i)) }
 {
@@ -297,7 +297,7 @@ impl Emitter<'_> {
         }
     }
 
-    /// The variable that a subscript of so many elements is, where it is better read as a byte.
+    /// The variable that a subscript of this many elements is, where it is better read as a byte.
     fn byte_variable(&self, e: &Expression, size: u32) -> Option<usize>
         ensures { IfSome result (λ x. IsByteVariable self.now e.now x) }
     {
@@ -323,12 +323,12 @@ impl Emitter<'_> {
         code: &mut Code,
         e: &Expression,
         size: u32,
-        room: Room,
+        room: Allocation,
     ) -> Result<Value, CodeFault>
         ensures knowledge { OnOk result (self.new ≡ self.old) }
         ensures computes { OnOk result (0 < size → size ≤ 2 ^ 31
             → (room.registers ≤ 1 → IsConstantBelow self.old e.now size)
-            → ComputesTo self.old code.old code.new e.now (subscript_value e.now size) room.registers room.kept) }
+            → ComputesTo self.old code.old code.new e.now (subscript_value e.now size) room.registers room.next_temporary) }
         ensures known { IfOk result (λ value. 0 < size → size ≤ 2 ^ 31
             → IsKnownOf self.old e.now (subscript_value e.now size) value) }
     {
@@ -345,11 +345,11 @@ impl Emitter<'_> {
         code: &mut Code,
         e: &Expression,
         size: u32,
-        room: Room,
+        room: Allocation,
     ) -> Result<Value, CodeFault>
         ensures knowledge { OnOk result (self.new ≡ self.old) }
         ensures computes { OnOk result (0 < size → size ≤ 2 ^ 31 → 2 ≤ room.registers
-            → ComputesTo self.old code.old code.new e.now (subscript_value e.now size) room.registers room.kept) }
+            → ComputesTo self.old code.old code.new e.now (subscript_value e.now size) room.registers room.next_temporary) }
         ensures known { IfOk result (λ value. 0 < size → size ≤ 2 ^ 31
             → IsKnownOf self.old e.now (subscript_value e.now size) value) }
     {

@@ -1,10 +1,10 @@
-//! What is wrong with a text.
+//! The faults of a text.
 
-use crate::sort::{Role, Sort, keyword, with_article};
+use crate::entity::{EntityKind, Use, keyword, with_article};
 use std::fmt;
 use tpw_occam_terms::{Primitive, Span};
 
-/// What a text goes beyond.
+/// A limit of texts.
 #[derive(Clone, Copy, Debug, PartialEq, Eq)]
 pub enum Limit {
     /// Calls within one another.
@@ -17,7 +17,7 @@ pub enum Limit {
     Guards,
 }
 
-/// What is wrong.
+/// The kind of a fault.
 #[derive(Clone, Copy, Debug, PartialEq, Eq)]
 pub enum FaultKind<'a> {
     /// The text is not read as a tree.
@@ -27,17 +27,18 @@ pub enum FaultKind<'a> {
         name: &'a str,
         near: Option<&'a str>,
     },
-    /// A name is declared, and not in scope here.
+    /// A name is declared, and not in scope here: that of a PROC or a FUNCTION, or another one.
     OutOfScope {
         name: &'a str,
         declared: Span,
+        is_called: bool,
     },
     /// A name is used as what it is not.
     NotA {
         name: &'a str,
         declared: Span,
-        found: Sort,
-        wanted: Role,
+        found: EntityKind,
+        wanted: Use,
     },
     /// A value has another type.
     Type {
@@ -84,15 +85,16 @@ pub enum FaultKind<'a> {
         at: i32,
         elements: u32,
     },
-    /// An array that is declared has this many elements.
+    /// An array that is declared has this many elements, of so many bytes.
     ArraySize {
         elements: i64,
+        bytes: u64,
     },
     /// An array that is declared has no size.
     NoSize,
     /// Elements are INTs or BYTEs.
     BoolElements,
-    /// So many bytes are no whole number of INTs.
+    /// This many bytes are no whole number of INTs.
     NoWords {
         bytes: u64,
     },
@@ -113,7 +115,7 @@ pub enum FaultKind<'a> {
     CaseTwice {
         first: Span,
     },
-    /// So many turns.
+    /// This many turns.
     Turns {
         count: i64,
     },
@@ -142,8 +144,16 @@ pub enum FaultKind<'a> {
     WorkerBody,
     /// The worker does not begin with the packet.
     NoReceive,
+    /// It is received from another channel than the packet's, which has this name.
+    OtherPacket {
+        name: &'a str,
+    },
     /// The worker does not end with the result.
     NoSend,
+    /// It is sent to another channel than the result's, which has this name.
+    OtherResult {
+        name: &'a str,
+    },
     /// Variables outside of PROCs.
     OutsideProc,
     /// A limit is reached.
@@ -179,8 +189,8 @@ fn write_not_a<W: fmt::Write>(
     f: &mut fmt::Formatter<W>,
     name: &str,
     declared: Span,
-    found: Sort,
-    wanted: Role,
+    found: EntityKind,
+    wanted: Use,
 ) -> fmt::Result {
     let line = declared.line;
     write!(
@@ -194,12 +204,15 @@ fn write_out_of_scope<W: fmt::Write>(
     f: &mut fmt::Formatter<W>,
     name: &str,
     declared: Span,
+    is_called: bool,
 ) -> fmt::Result {
     let line = declared.line;
-    write!(f, "`{name}`, of line {line}, is not in scope here; ")?;
-    f.write_str(
-        "a PROC or a FUNCTION has the names of where it is declared, and may not call itself",
-    )
+    write!(f, "`{name}`, of line {line}, is not in scope here: ")?;
+    f.write_str(if is_called {
+        "a PROC or a FUNCTION has the names of where it is declared, and may not call itself"
+    } else {
+        "a declaration is for the one process below it, which may be a SEQ"
+    })
 }
 
 /// That a value has another type.
@@ -246,7 +259,21 @@ fn write_arguments<W: fmt::Write>(
     )
 }
 
-/// What is wrong with arrays.
+/// That an array has no such size.
+fn write_size<W: fmt::Write>(f: &mut fmt::Formatter<W>, elements: i64, bytes: u64) -> fmt::Result {
+    if elements <= 0 {
+        return write!(
+            f,
+            "an array has 1 to 2,048 bytes, and no size of {elements}"
+        );
+    }
+    write!(
+        f,
+        "an array has 1 to 2,048 bytes, and {elements} elements have {bytes}"
+    )
+}
+
+/// Writes faults of arrays.
 fn write_array<W: fmt::Write>(f: &mut fmt::Formatter<W>, kind: FaultKind<'_>) -> fmt::Result {
     match kind {
         FaultKind::Elements { wanted, found } => {
@@ -263,12 +290,7 @@ fn write_array<W: fmt::Write>(f: &mut fmt::Formatter<W>, kind: FaultKind<'_>) ->
                 "{at} is no subscript of `{name}`, which has {elements} elements"
             )
         }
-        FaultKind::ArraySize { elements } => {
-            write!(
-                f,
-                "an array has 1 to 2,048 bytes, and no size of {elements}"
-            )
-        }
+        FaultKind::ArraySize { elements, bytes } => write_size(f, elements, bytes),
         FaultKind::NoWords { bytes } => {
             write!(
                 f,
@@ -279,7 +301,7 @@ fn write_array<W: fmt::Write>(f: &mut fmt::Formatter<W>, kind: FaultKind<'_>) ->
     }
 }
 
-/// What is wrong with names, values and counts.
+/// Writes faults of names, values and counts.
 fn write_value<W: fmt::Write>(f: &mut fmt::Formatter<W>, kind: FaultKind<'_>) -> fmt::Result {
     match kind {
         FaultKind::NoByte { value } => write!(f, "{value} is no BYTE: they are 0 to 255"),
@@ -291,6 +313,18 @@ fn write_value<W: fmt::Write>(f: &mut fmt::Formatter<W>, kind: FaultKind<'_>) ->
             write!(f, "this stands in the CASE already, on line {line}")
         }
         FaultKind::Turns { count } => write!(f, "{count} turns: there may be 0 to 10,000"),
+        FaultKind::OtherPacket { name } => {
+            write!(
+                f,
+                "the packet comes from the worker's first parameter, here `{name}`"
+            )
+        }
+        FaultKind::OtherResult { name } => {
+            write!(
+                f,
+                "the result goes to the worker's second parameter, here `{name}`"
+            )
+        }
         FaultKind::OtherProtocol { name, declared } => {
             let line = declared.line;
             write!(f, "`{name}`, of line {line}, carries something else")
@@ -322,7 +356,7 @@ fn text_of(kind: FaultKind<'_>) -> &'static str {
         FaultKind::NoTraces => "the traces' channel alone is passed to a PROC",
         FaultKind::NoWorker => "the worker's PROC is wanted, as the last declaration of the text",
         FaultKind::WorkerParameters => {
-            "the worker has two or three parameters, all CHAN OF: the packet's, the result's and the traces' channel"
+            "the last PROC is the worker, with two or three parameters, all CHAN OF: the packet's, the result's and the traces' channel"
         }
         FaultKind::WorkerBody => "the worker is declarations and one SEQ",
         FaultKind::NoReceive => "the worker's SEQ begins with the packet, as in packet ? x",
@@ -343,7 +377,11 @@ impl fmt::Display for FaultKind<'_> {
                 near: Some(near),
             } => write!(f, "no `{name}` is declared here: is `{near}` meant?"),
             FaultKind::Unknown { name, near: None } => write!(f, "no `{name}` is declared here"),
-            FaultKind::OutOfScope { name, declared } => write_out_of_scope(f, name, declared),
+            FaultKind::OutOfScope {
+                name,
+                declared,
+                is_called,
+            } => write_out_of_scope(f, name, declared, is_called),
             FaultKind::NotA {
                 name,
                 declared,

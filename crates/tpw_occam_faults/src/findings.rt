@@ -1,30 +1,33 @@
-//! What is found while a text is looked at.
+//! The findings of a check.
 
 use crate::fault::{Fault, FaultKind};
 use crate::note::{Note, NoteKind};
 use std::alloc::{AllocError, AllocFailed, Global};
 use tpw_occam_terms::{MAX_FAULTS, Span};
 
+/// The most notes that are kept.
+const MAX_NOTES: usize = 1_000;
+
 /// Why no more is known.
 #[derive(Clone, Copy, Debug, PartialEq, Eq)]
-pub enum Stop {
+pub enum Interrupt {
     /// A growth was refused.
     Memory,
-    /// What is wrong is reported.
+    /// A fault is reported.
     Reported,
     /// No more is looked for: a limit is reached, of the text or of faults.
     Ended,
 }
 
-impl From<AllocError> for Stop {
+impl From<AllocError> for Interrupt {
     fn from(_: AllocError) -> Self {
-        Stop::Memory
+        Interrupt::Memory
     }
 }
 
-impl<T: Drop> From<AllocFailed<T>> for Stop {
+impl<T: Drop> From<AllocFailed<T>> for Interrupt {
     fn from(_: AllocFailed<T>) -> Self {
-        Stop::Memory
+        Interrupt::Memory
     }
 }
 
@@ -45,23 +48,32 @@ impl<'a> Findings<'a> {
     }
 
     /// Reports what is wrong, once for each place. No more is looked for behind the last fault that is reported.
-    pub fn report(&mut self, span: Span, kind: FaultKind<'a>) -> Result<(), Stop> {
+    pub fn report(&mut self, span: Span, kind: FaultKind<'a>) -> Result<(), Interrupt> {
         if self.faults.iter().any(|fault| fault.span == span) {
             return Ok(());
         }
         self.faults.push(Fault { span, kind })?;
         if self.faults.len() >= MAX_FAULTS {
-            return Err(Stop::Ended);
+            return Err(Interrupt::Ended);
         }
         Ok(())
     }
 
-    /// Notes what may not be meant, once for each place.
+    /// Notes what may not be meant, once for each place, and the same once for each line.
     pub fn note(&mut self, span: Span, kind: NoteKind<'a>) -> Result<(), AllocError> {
-        if self.notes.iter().any(|note| note.span == span) {
+        let line = span.line;
+        if self.notes.len() >= MAX_NOTES
+            || self.notes.iter().any(|note| note.span == span
+                || (note.span.line == line && note.kind == kind))
+        {
             return Ok(());
         }
         self.notes.push(Note { span, kind })?;
         Ok(())
+    }
+
+    /// Forgets all notes behind the first so many: what they are of is not done.
+    pub fn forget(&mut self, first: usize) {
+        self.notes.truncate(first);
     }
 }

@@ -1,14 +1,14 @@
-//! What is wrong with a text, and what may not be meant in it: each at its place, in the order of places.
+//! The faults and the warnings of a text: each at its place, in the order of places.
 #![tactic(auto)]
 
+mod entity;
 mod fault;
 mod findings;
 mod note;
 mod reports;
-mod sort;
 
+pub use entity::{EntityKind, Use};
 pub use fault::{Fault, FaultKind, Limit};
-pub use findings::{Findings, Stop};
-pub use note::{Note, NoteKind};
+pub use findings::{Findings, Interrupt};
+pub use note::{Construct, Flagging, Note, NoteKind, Unused};
 pub use reports::{FIRST, reported_faults, reported_notes};
-pub use sort::{Role, Sort};

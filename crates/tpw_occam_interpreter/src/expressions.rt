@@ -7,8 +7,8 @@ ghost use Rattle.tpw_occam_interpreter.specs.Memories.{state_in};
 
 use crate::arrays::element_at;
 use crate::memory::{Cells, bytes, word};
-use tp_outcome::words::complement;
-use tpw_occam_core::{Answer, applied, checked_subscript, followed, low_byte, plain};
+use tp_words::complement;
+use tpw_occam_core::{Answer, applied, bind, checked_subscript, low_byte, pure};
 use tpw_occam_scoped::Expression;
 
 /// The word of an OR, by that of its right operand.
@@ -26,15 +26,15 @@ pub(crate) fn value(cells: &Cells<'_>, e: &Expression) -> Answer
     ensures { result ≡ scoped.value_of e.now (state_in cells.now) }
 {
     match e {
-        Expression::Constant(c) => plain(*c),
-        Expression::Cell(x) => plain(word(cells, *x)),
+        Expression::Constant(c) => pure(*c),
+        Expression::Cell(x) => pure(word(cells, *x)),
         Expression::Element {
             array,
             kind,
             subscript,
         } => {
             let i = value(cells, subscript);
-            followed(i, element_at(*kind, bytes(cells, *array), i.word))
+            bind(i, element_at(*kind, bytes(cells, *array), i.word))
         }
         Expression::Listed {
             table,
@@ -42,11 +42,11 @@ pub(crate) fn value(cells: &Cells<'_>, e: &Expression) -> Answer
             subscript,
         } => {
             let i = value(cells, subscript);
-            followed(i, element_at(*kind, table, i.word))
+            bind(i, element_at(*kind, table, i.word))
         }
         Expression::Checked { below, subscript } => {
             let i = value(cells, subscript);
-            followed(i, checked_subscript(*below as usize, i.word))
+            bind(i, checked_subscript(*below as usize, i.word))
         }
         Expression::Binary {
             operator,
@@ -55,37 +55,37 @@ pub(crate) fn value(cells: &Cells<'_>, e: &Expression) -> Answer
         } => {
             let b = value(cells, left);
             let a = value(cells, right);
-            followed(b, followed(a, applied(*operator, b.word, a.word)))
+            bind(b, bind(a, applied(*operator, b.word, a.word)))
         }
         Expression::Complement(e) => {
             let a = value(cells, e);
-            followed(a, plain(complement(a.word)))
+            bind(a, pure(complement(a.word)))
         }
         Expression::Not(e) => {
             let a = value(cells, e);
-            followed(a, plain(u32::from(a.word == 0)))
+            bind(a, pure(u32::from(a.word == 0)))
         }
         Expression::LowByte(e) => {
             let a = value(cells, e);
-            followed(a, low_byte(a.word))
+            bind(a, low_byte(a.word))
         }
         Expression::And(left, right) => {
             let a = value(cells, left);
             let b = if a.word == 0 {
-                plain(0)
+                pure(0)
             } else {
                 value(cells, right)
             };
-            followed(a, b)
+            bind(a, b)
         }
         Expression::Or(left, right) => {
             let a = value(cells, left);
             let b = if a.word == 0 {
                 either(value(cells, right))
             } else {
-                plain(1)
+                pure(1)
             };
-            followed(a, b)
+            bind(a, b)
         }
         Expression::Within {
             cell,
@@ -93,7 +93,7 @@ pub(crate) fn value(cells: &Cells<'_>, e: &Expression) -> Answer
             within,
         } => {
             let a = value(cells, bound);
-            followed(a, value(&Cells::With(*cell, a.word, &*cells), within))
+            bind(a, value(&Cells::With(*cell, a.word, &*cells), within))
         }
     }
 }

@@ -12,7 +12,7 @@ use crate::expressions::value;
 use crate::memory::{Cells, Memory, bytes};
 use crate::messages::{bytes_in, send, trace};
 use std::alloc::{AllocError, Global};
-use tpw_occam_core::{Answer, Kind, checked_subscript, followed, plain};
+use tpw_occam_core::{Answer, Kind, bind, checked_subscript, pure};
 use tpw_occam_scoped::{Assignment, Bytes, Process, Target};
 
 /// Why a process is not run to its end.
@@ -39,7 +39,7 @@ fn subscript_of(memory: &Memory, target: &Target) -> Answer
     ensures { result ≡ scoped.subscript_of target.now (state_of memory.now) }
 {
     match target {
-        Target::Cell { .. } => plain(0),
+        Target::Cell { .. } => pure(0),
         Target::Element {
             array,
             kind,
@@ -47,7 +47,7 @@ fn subscript_of(memory: &Memory, target: &Target) -> Answer
         } => {
             let i = value(&Cells::Of(memory), subscript);
             let count = size(*kind, bytes(&Cells::Of(memory), *array));
-            followed(i, checked_subscript(count, i.word))
+            bind(i, checked_subscript(count, i.word))
         }
     }
 }
@@ -105,7 +105,7 @@ fn receive_word(memory: &mut Memory, target: &Target) -> Result<(), AllocError>
 {
     let i = subscript_of(memory, target);
     let word = element(Kind::Word, &memory.packet, 0);
-    assigned(memory, target, i, plain(word))
+    assigned(memory, target, i, pure(word))
 }
 
 /// An array takes the packet.

@@ -14,7 +14,7 @@ use std::alloc::{AllocError, Global};
 use tpw_occam_core::Answer;
 use tpw_occam_scoped::{Expression, Process};
 
-/// What a worker makes of a packet.
+/// The result of a packet: its bytes, its flag, and its traces.
 #[derive(Debug, Drop)]
 pub struct Given {
     pub result: Vec<u8>,
@@ -43,7 +43,7 @@ pub fn value_in(memory: &Memory, e: &Expression) -> Answer
     value(&Cells::Of(memory), e)
 }
 
-/// What is given in the end: nothing where more is traced than may be.
+/// The result in the end: nothing where more is traced than may be.
 fn outcome(memory: Memory) -> Option<Given>
     ensures { IsGiven (meant (state_of memory)) result }
 {
@@ -57,7 +57,7 @@ fn outcome(memory: Memory) -> Option<Given>
     })
 }
 
-/// What a worker makes of a packet; nothing where the packet is lost, since more is traced than may be.
+/// The result of a packet; nothing where the packet is lost, since more is traced than may be.
 pub fn run_worker(alloc: Global, p: &Process, packet: &[u8]) -> Result<Option<Given>, AllocError>
     ensures { IfOk result (IsGiven (scoped.meaning p.now packet.now)) }
 {

@@ -1,4 +1,4 @@
-//! What is written to a memory, which grows where it has no room.
+//! Writes to a memory, which grows where it has no room.
 
 ghost use Rattle.std.specs.Prelude.{◌≡◌, ◌<◌, ℕ, ◌==◌, replicate, vec_len, slice_index, if◌then◌else◌, OnOk};
 ghost use Rattle.tpw_occam_core.specs.Arrays.{with_element};
@@ -100,7 +100,7 @@ impl Memory {
         put_array(alloc, &mut self.arrays, a, bytes)
     }
 
-    /// An array has so many bytes, which are 0.
+    /// An array has this many bytes, which are 0.
     pub fn clear_array(&mut self, alloc: Global, a: usize, count: usize) -> Result<(), AllocError>
         ensures { OnOk result (state_of self.new ≡ state.with_array a (replicate count 0) (state_of self.old)) }
     {

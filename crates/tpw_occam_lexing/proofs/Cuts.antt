@@ -85,7 +85,7 @@ digits_cut bytes utf8 is =
     IsCharBoundary-from_rest bytes 1 (run class.Hexadecimal (drop 1 bytes)) (omega (arith, is.0))
     (run_cut class.Hexadecimal (drop 1 bytes) tt (tail_utf8 bytes utf8 is))
 
--- behind a quote that stands behind a quote and so many bytes
+-- behind a quote that stands behind a quote and this many bytes
 pub quotes_cut : (bytes : List ℕ) (n : ℕ) → IsUtf8 bytes → IsMarked bytes → n < length (drop 1 bytes) → get_or (drop 1 bytes) n 0 < 128
     → IsCharBoundary bytes (n + 2)
 quotes_cut bytes n utf8 is lt narrow =
@@ -107,7 +107,7 @@ quote_front : (bytes : List ℕ) → begins 39 bytes ≡ true → (0 < length by
 quote_front [] h = cc
 quote_front (c ∷ more) h = (omega arith, first_narrow c h)
 
--- a quote stands behind so many bytes
+-- a quote stands behind this many bytes
 pub quote_behind : (bytes : List ℕ) (n : ℕ) → begins 39 (drop n bytes) ≡ true → (n < length bytes) × (get_or bytes n 0 < 128)
 quote_behind bytes n h =
     let front = quote_front (drop n bytes) h in

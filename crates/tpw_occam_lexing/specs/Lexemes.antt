@@ -99,7 +99,7 @@ abbrev pub is_closed : Within → ℕ → Bool
 is_closed within.Plain c = c == 34
 is_closed other c = false
 
--- one more, and so many more
+-- one more, and this many more
 abbrev pub plus : ℕ → Option ℕ → Option ℕ
 plus k n = option_map (λ n. n + k) n
 

@@ -35,7 +35,7 @@ followed None behind = None
 followed (Some (lexeme, zero)) behind = None
 followed (Some (lexeme, suc n)) behind = prepended (lexeme ∷ []) (behind n)
 
--- the lexemes of a line behind so many bytes
+-- the lexemes of a line behind this many bytes
 abbrev pub lexemes : ℕ → List ℕ → Option (List Lexeme)
 lexemes n [] = Some []
 lexemes (suc n) (c ∷ more) = lexemes n more

@@ -5,7 +5,7 @@ ghost use Rattle.tpw_occam_lexing.specs.Bytes.{has, is_letter, run};
 
 use tpw_occam_terms::is_hexadecimal;
 
-/// What bytes a run of bytes has.
+/// The class of the bytes of a run.
 #[derive(Clone, Copy)]
 pub(crate) enum Class {
     /// Those of a name or a keyword.

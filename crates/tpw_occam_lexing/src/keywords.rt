@@ -245,7 +245,7 @@ impl Keyword {
             .find(|keyword| keyword.spelling().eq_ignore_ascii_case(word))
     }
 
-    /// What occam has, and this language has not, where it is a word of that.
+    /// The part of occam that a word begins, and that this language has not.
     pub fn unsupported(self) -> Option<Unsupported> {
         match self {
             Keyword::Alt | Keyword::Pri => Some(Unsupported::Alternative),

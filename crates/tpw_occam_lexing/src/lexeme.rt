@@ -69,7 +69,7 @@ fn decimal(rest: &str) -> Read<'_>
     }
 }
 
-/// What stands behind the first byte, which is ASCII.
+/// The rest behind the first byte, which is ASCII.
 fn behind(rest: &str) -> &str
     requires { IsMarked rest.now }
     ensures { result.now ≡ drop 1 rest.now }
@@ -146,7 +146,7 @@ impl Within {
         }
     }
 
-    /// What stands behind a byte.
+    /// The state behind a byte.
     #[tactic(auto, unfolding(crate::specs::Lexemes::further))]
     fn further(self, byte: u8) -> Option<Within>
         ensures { result ≡ further self byte }

@@ -20,7 +20,7 @@ pub struct Line<'a> {
     /// How many spaces stand in front of it.
     pub indent: usize,
     pub items: Vec<Item<'a>>,
-    /// What is wrong with it.
+    /// The faults of the line.
     pub faults: Vec<Fault>,
     /// Whether what was read last is no token.
     pub ends_wrong: bool,
@@ -30,14 +30,14 @@ pub struct Line<'a> {
     pub end: Span,
 }
 
-/// What a line, or what is left of it, begins with.
+/// The front of a line, or of what is left of it.
 #[derive(Clone, Copy)]
 pub(crate) enum Next<'a> {
     /// Nothing, or a comment.
     End,
     Space,
     Lexeme(Token<'a>, usize),
-    /// What is no token.
+    /// No token.
     Nothing,
 }
 
@@ -51,7 +51,7 @@ fn is_comment(bytes: &[u8]) -> bool
     }
 }
 
-/// What stands at the front.
+/// The front of a text.
 pub(crate) fn front_of(rest: &str) -> Next<'_>
     ensures whole { lexemes 0 rest.now ≡ onward result rest.now }
     ensures cut { IsCut result rest.now }

@@ -1,4 +1,4 @@
-//! What is wrong with a line, and the tokens that it has all the same.
+//! Recovery: the faults of a line, and the tokens that it has all the same.
 
 use crate::bytes::{Class, is_letter, run};
 use crate::line::{Line, Next, front_of};
@@ -7,7 +7,7 @@ use crate::token::Item;
 use std::alloc::{AllocError, Global};
 use tpw_occam_terms::{FaultKind, Span, quoted};
 
-/// What is wrong at the front of a text: which bytes are shown, and how many are passed over.
+/// A fault at the front of a text: which bytes are shown, and how many are passed over.
 #[derive(Clone, Copy)]
 struct Bad {
     kind: FaultKind,
@@ -37,7 +37,7 @@ fn run_of(text: &str, class: Class) -> usize {
     run(text.as_bytes(), class)
 }
 
-/// What is wrong with what stands within the quotes of a character.
+/// The fault of what is within the quotes of a character.
 fn bad_kind(within: &str) -> FaultKind {
     if run_of(within, Class::Wide) > 0 {
         return FaultKind::NotAscii;
@@ -61,7 +61,7 @@ fn bad_character(rest: &str) -> Bad {
     }
 }
 
-/// What is wrong at a place within a text, where [`quoted`] finds nothing.
+/// The fault at a place within a text, where [`quoted`] finds nothing.
 fn bad_byte(left: &str, at: usize) -> Bad {
     match run_of(left, Class::Wide) {
         0 => Bad {
@@ -123,7 +123,7 @@ fn foreign(bytes: &[u8]) -> usize {
         .unwrap_or(bytes.len())
 }
 
-/// What is wrong where there is no token.
+/// The fault where there is no token.
 fn bad_at(rest: &str) -> Bad {
     let bytes = rest.as_bytes();
     match bytes.first() {

@@ -4,16 +4,16 @@ use crate::keywords::Keyword;
 use crate::symbol::Symbol;
 use tpw_occam_terms::Span;
 
-/// What a text is made of. What is spelled is a part of the text.
+/// A token of a text. Its spelling is a part of the text.
 #[derive(Clone, Copy)]
 pub enum Token<'a> {
     Name(&'a str),
     Keyword(Keyword),
     /// The digits of a number, behind `#` where they are hexadecimal.
     Number(&'a str),
-    /// What stands between the quotes of `'a'`.
+    /// The characters between the quotes of `'a'`.
     Character(&'a str),
-    /// What stands between the quotes of `"text"`.
+    /// The characters between the quotes of `"text"`.
     Text(&'a str),
     Symbol(Symbol),
 }

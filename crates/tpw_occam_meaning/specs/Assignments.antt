@@ -3,9 +3,9 @@ use Rattle.std.specs.Prelude.{ℕ, false, ◌||◌, Option, Some, None}
 use Rattle.tpw_occam_core.specs.declared.arithmetic.Answer.{Answer}
 use Rattle.tpw_occam_core.specs.declared.kind.Kind.{Kind}
 use Rattle.tpw_occam_core.specs.declared.kind.Kind.TheVariants as elements
-use Rattle.tpw_occam_core.specs.Arithmetic.{plain, subscript}
+use Rattle.tpw_occam_core.specs.Arithmetic.{pure, subscript}
 use Rattle.tpw_occam_core.specs.Arrays.{size, kept, with_element}
-use Rattle.tpw_occam_core.specs.Meaning.{followed}
+use Rattle.tpw_occam_core.specs.Meaning.{bind}
 use Rattle.tpw_occam_terms.specs.declared.name.Primitive.{Primitive}
 use Rattle.tpw_occam_terms.specs.declared.name.Primitive.TheVariants.{Byte}
 use Rattle.tpw_occam_meaning.specs.declared.expression.Expression.{Expression}
@@ -44,13 +44,13 @@ abbrev pub element_target : View → Value → Option Target
 element_target view i =
     and_then (written_array view) (λ a. Some (record {
       of = element_type view.kind;
-      subscript = λ s. followed (at i s) (subscript (size view.kind (s.arrays a)));
+      subscript = λ s. bind (at i s) (subscript (size view.kind (s.arrays a)));
       put = λ i word s. with_array a (with_element view.kind (s.arrays a) i word) s;
     }))
 
 abbrev pub target_in : Entry → Option Target
 target_in (Is (Variable of x)) =
-    Some (record { of = of; subscript = λ s. plain 0; put = λ i word s. with_cell x (kept (cell_kind of) word) s })
+    Some (record { of = of; subscript = λ s. pure 0; put = λ i word s. with_cell x (kept (cell_kind of) word) s })
 target_in (Is (Element view i)) = element_target view (word_value i)
 target_in other = None
 

@@ -2,7 +2,7 @@
 use Rattle.std.specs.Prelude.{ℕ, Bool, true, false, ◌==◌, Option, Some, None, List, [], ◌∷◌}
 use Rattle.tpw_occam_core.specs.declared.kind.Kind.TheVariants as elements
 use Rattle.tpw_occam_core.specs.Arithmetic.{subscript}
-use Rattle.tpw_occam_core.specs.Meaning.{followed}
+use Rattle.tpw_occam_core.specs.Meaning.{bind}
 use Rattle.tpw_occam_terms.specs.declared.name.Primitive.{Primitive}
 use Rattle.tpw_occam_terms.specs.declared.name.Primitive.TheVariants.{Int}
 use Rattle.tpw_occam_meaning.specs.declared.expression.Expression.{Expression}
@@ -32,7 +32,7 @@ referred (tree.Name name) of names d next = and_then (lent of (found name names)
 referred (tree.Element' p a q i span) of names d next =
     and_then (named a names) (λ view. and_then (written_array view) (λ a. as_type of (element_type view.kind)
     (and_then (value_of i Int names d) (λ i.
-    given d (of_one (λ i. followed i (subscript view.size)) i) (λ word n. next (Element view word) n)))))
+    given d (of_one (λ i. bind i (subscript view.size)) i) (λ word n. next (Element view word) n)))))
 referred (tree.Bracketed' p e span) of names d next = referred e of names d next
 referred other of names d next = None
 

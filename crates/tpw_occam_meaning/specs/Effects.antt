@@ -30,11 +30,11 @@ selected_by word constants selected rest =
     and_then selected (λ f. and_then rest (λ g.
     Some (λ s. (if list_any (λ constant. constant == word_in word s) constants then f else g) s)))
 
--- so many turns, whose index is in a cell
+-- this many turns, whose index is in a cell
 abbrev pub repeated : ℕ → ℕ → ℕ → Effect → Effect
 repeated x start count body = and_then body (λ f. Some (turns f x start count))
 
--- within a cell that is 0 first, or an array of so many bytes that are
+-- within a cell that is 0 first, or an array of this many bytes that are
 abbrev pub within_variable : ℕ → Effect → Effect
 within_variable x body = and_then body (λ f. Some (λ s. f (with_cell x 0 s)))
 

@@ -3,12 +3,12 @@ use Rattle.std.specs.Prelude.{ℕ, ◌+◌, ◌-◌, ◌^◌, Bool, true, false,
 use Rattle.std.specs.Prelude.{Option, Some, None}
 use Rattle.std.specs.Prelude.{List, [], ◌∷◌, ◌++◌, length}
 use Rattle.std.specs.Int.{w32, to_le_bytes}
-use Rattle.tp_step.specs.Numbers.{truth}
+use Rattle.tp_words.specs.Numbers.{truth}
 use Rattle.tpw_occam_core.specs.declared.kind.Kind.{Kind}
 use Rattle.tpw_occam_core.specs.declared.kind.Kind.TheVariants as elements
-use Rattle.tpw_occam_core.specs.Arithmetic.{plain}
+use Rattle.tpw_occam_core.specs.Arithmetic.{pure}
 use Rattle.tpw_occam_core.specs.Arrays.{size}
-use Rattle.tpw_occam_core.specs.Meaning.{followed}
+use Rattle.tpw_occam_core.specs.Meaning.{bind}
 use Rattle.tpw_occam_terms.specs.declared.name.Primitive.{Primitive}
 use Rattle.tpw_occam_terms.specs.declared.name.Primitive.TheVariants.{Int, Bool as Truth, Byte}
 use Rattle.tpw_occam_meaning.specs.declared.expression.Expression.{Expression}
@@ -31,7 +31,7 @@ use Rattle.tpw_occam_meaning.specs.Values.{type_of_two, operands_of, combined}
 -- the value of a name
 abbrev pub value_in : Primitive → Entry → Option Value
 value_in of (Is (Fixed other word)) = as_type of other (Some (word_value word))
-value_in of (Is (Variable other x)) = as_type of other (Some (Varying (λ s. plain (s.cells x))))
+value_in of (Is (Variable other x)) = as_type of other (Some (Varying (λ s. pure (s.cells x))))
 value_in of (Is (Element view i)) = as_type of (element_type view.kind) (Some (element_of view (word_value i)))
 value_in of other = None
 
@@ -112,7 +112,7 @@ element_bytes elements.Byte word = word ∷ []
 abbrev pub within : ℕ → Value → (Word → ℕ → Option Value) → Option Value
 within d (Known word false) next = next (Constant word) d
 within d v next =
-    and_then (next (Kept d) (d + 1)) (λ rest. Some (Varying (λ s. followed (at v s) (λ a. at rest (with_cell d a s)))))
+    and_then (next (Kept d) (d + 1)) (λ rest. Some (Varying (λ s. bind (at v s) (λ a. at rest (with_cell d a s)))))
 
 -- what passes its arguments to a FUNCTION
 abbrev pub Passing : Type 0
@@ -143,10 +143,10 @@ abbrev mutual
       as_type of Int (and_then (named e names) (λ view. Some (Known view.size false)))
   value_of (tree.Monadic' (one.Convert to) span p e) of names d =
       as_type of to (and_then (type_of e names) (λ from. and_then (converted from to) (λ make.
-      and_then (value_of e from names d) (λ v. Some (of_one (λ a. followed a make) v)))))
+      and_then (value_of e from names d) (λ v. Some (of_one (λ a. bind a make) v)))))
   value_of (tree.Monadic' operator span p e) of names d =
       as_type of (type_of_one operator) (and_then (operand_of operator) (λ operand.
-      and_then (value_of e operand names d) (λ v. Some (of_one (λ a. followed a (monadic operator)) v))))
+      and_then (value_of e operand names d) (λ v. Some (of_one (λ a. bind a (monadic operator)) v))))
   value_of (tree.Dyadic' operator span p e q f) of names d =
       as_type of (type_of_two operator) (and_then (operands_of operator (compared e f names)) (λ operand.
       and_then (value_of e operand names d) (λ b. and_then (value_of f operand names d) (λ a.

@@ -1,4 +1,5 @@
--- What there may be: an ill-formed tree means nothing.
+-- Options. An ill-formed part of a tree means nothing, and so does what it is needed for: the body of a PROC that is
+-- never called is not.
 use Rattle.std.specs.Prelude.{Option, Some, None, Bool, true, false}
 
 -- goes on with what there is

@@ -2,7 +2,7 @@
 use Rattle.std.specs.Prelude.{ℕ, Bool, true, false, Option, Some, None, List}
 use Rattle.std.specs.Int.{w32, to_le_bytes}
 use Rattle.tpw_occam_core.specs.declared.kind.Kind.TheVariants as elements
-use Rattle.tpw_occam_core.specs.Arithmetic.{plain}
+use Rattle.tpw_occam_core.specs.Arithmetic.{pure}
 use Rattle.tpw_occam_core.specs.Arrays.{element}
 use Rattle.tpw_occam_terms.specs.declared.name.Primitive.TheVariants.{Int}
 use Rattle.tpw_occam_meaning.specs.declared.expression.Expression.{Expression}
@@ -42,7 +42,7 @@ tracing message = Some (λ s. with_traced (message.bytes s) (flagged (message.fl
 abbrev pub received : Protocol → Expression → Names → ℕ → Effect
 received OneWord e names d =
     and_then (target_of e names d) (λ target. as_type Int target.of
-    (Some (λ s. assigned target (target.subscript s) (plain (element elements.Word s.packet 0)) s)))
+    (Some (λ s. assigned target (target.subscript s) (pure (element elements.Word s.packet 0)) s)))
 received (Several kind n) e names d =
     and_then (array_of e (record { kind = kind; size = Some n; is_variable = true }) names) (λ view.
     and_then (written_array view) (λ a. Some (λ s. with_array a s.packet s)))

@@ -3,8 +3,8 @@
 use Rattle.std.specs.Prelude.{ℕ, Bool, false, ◌==◌, if◌then◌else◌, Option, Some, None, List, [], ◌∷◌}
 use lib.Pointwise.{pointwise}
 use Rattle.tpw_occam_core.specs.declared.kind.Kind.{Kind}
-use Rattle.tpw_occam_core.specs.Arithmetic.{plain}
-use Rattle.tpw_occam_core.specs.Meaning.{followed, element_at}
+use Rattle.tpw_occam_core.specs.Arithmetic.{pure}
+use Rattle.tpw_occam_core.specs.Meaning.{bind, element_at}
 use Rattle.tpw_occam_terms.specs.declared.name.Primitive.{Primitive}
 use Rattle.tpw_occam_terms.specs.declared.name.Name.{Name}
 use Rattle.tpw_occam_meaning.specs.declared.types.Parameters.{Parameters}
@@ -32,7 +32,7 @@ pub record View : Type 0 where
   pub size : ℕ
   pub is_variable : Bool
 
--- what a channel carries: an INT, or so many elements
+-- what a channel carries: an INT, or this many elements
 pub data Protocol : Type 0 where
   OneWord : Protocol
   Several : Kind → ℕ → Protocol
@@ -116,12 +116,12 @@ bytes_in (Table bytes) s = bytes
 
 abbrev pub word_value : Word → Value
 word_value (Constant word) = Known word false
-word_value (Kept x) = Varying (λ s. plain (s.cells x))
+word_value (Kept x) = Varying (λ s. pure (s.cells x))
 
 -- the element of an array at a subscript, which is checked; of a table at a known subscript it is known
 abbrev pub element_in : Storage → Kind → Value → Value
-element_in (Array a) kind i = Varying (λ s. followed (at i s) (element_at kind (s.arrays a)))
-element_in (Table bytes) kind i = of_one (λ i. followed i (element_at kind bytes)) i
+element_in (Array a) kind i = Varying (λ s. bind (at i s) (element_at kind (s.arrays a)))
+element_in (Table bytes) kind i = of_one (λ i. bind i (element_at kind bytes)) i
 
 abbrev pub element_of : View → Value → Value
 element_of view i = element_in view.storage view.kind i

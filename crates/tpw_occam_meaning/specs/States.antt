@@ -43,7 +43,7 @@ with_traced bytes s = record s { traced = s.traced ++ bytes }
 abbrev pub with_result : List ℕ → State → State
 with_result bytes s = record s { result = bytes }
 
--- the state after so many turns, of which the index is `start` in the first
+-- the state after this many turns, of which the index is `start` in the first
 abbrev pub turns : (State → State) → ℕ → ℕ → ℕ → State → State
 turns body x start zero s = s
 turns body x start (suc n) s = body (with_cell x ((start + n) % 2 ^ 32) (turns body x start n s))

@@ -17,7 +17,7 @@ use Rattle.tpw_occam_meaning.specs.Names.{Names, Shape, Form, OfValue, OfVariabl
 use Rattle.tpw_occam_meaning.specs.Names.{Protocol, OneWord, Several}
 use Rattle.tpw_occam_meaning.specs.Values.{as_type, kind_of}
 
--- how many bytes so many elements have
+-- how many bytes this many elements have
 abbrev pub bytes_of : Kind → ℕ → ℕ
 bytes_of elements.Word n = 4 * n
 bytes_of elements.Byte n = n

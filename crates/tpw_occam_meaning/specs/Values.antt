@@ -1,13 +1,13 @@
 -- Values, their types, and what operators make of them.
 use Rattle.std.specs.Prelude.{ℕ, Bool, true, false, not, ◌==◌, ◌-ℤ◌, pos, int_lt, int_le, nat_lt, Option, Some, None}
-use Rattle.tp_decode.specs.Words.{signed, low_word, complement}
-use Rattle.tp_step.specs.Numbers.{truth}
+use Rattle.tp_words.specs.Words.{signed, low_word, complement}
+use Rattle.tp_words.specs.Numbers.{truth}
 use Rattle.tpw_occam_core.specs.declared.arithmetic.Answer.{Answer}
 use Rattle.tpw_occam_core.specs.declared.kind.Kind.{Kind}
 use Rattle.tpw_occam_core.specs.declared.kind.Kind.TheVariants as kind
 use Rattle.tpw_occam_core.specs.declared.expression.Operator.TheVariants as core
-use Rattle.tpw_occam_core.specs.Arithmetic.{answer, plain, applied, low_byte}
-use Rattle.tpw_occam_core.specs.Meaning.{followed, both, either}
+use Rattle.tpw_occam_core.specs.Arithmetic.{answer, pure, applied, low_byte}
+use Rattle.tpw_occam_core.specs.Meaning.{bind, both, either}
 use Rattle.tpw_occam_terms.specs.declared.name.Primitive.{Primitive}
 use Rattle.tpw_occam_terms.specs.declared.name.Primitive.TheVariants.{Int, Bool as Truth, Byte}
 use Rattle.tpw_occam_meaning.specs.declared.operator.Monadic.{Monadic}
@@ -91,9 +91,9 @@ operand_of (one.Convert to) = None
 
 -- what a conversion makes of a word of another type
 abbrev pub converted : Primitive → Primitive → Option (ℕ → Answer)
-converted Truth Int = Some plain
-converted Truth Byte = Some plain
-converted Byte Int = Some plain
+converted Truth Int = Some pure
+converted Truth Byte = Some pure
+converted Byte Int = Some pure
 converted Int Byte = Some low_byte
 converted from to = None
 
@@ -101,8 +101,8 @@ converted from to = None
 abbrev pub monadic : Monadic → ℕ → Answer
 monadic one.Negate a = applied core.Subtract 0 a
 monadic one.Minus a = applied core.Minus 0 a
-monadic one.Not a = plain (truth (a == 0))
-monadic other a = plain (complement a)
+monadic one.Not a = pure (truth (a == 0))
+monadic other a = pure (complement a)
 
 -- the type of what an operator of two operands makes
 abbrev pub type_of_two : Dyadic → Primitive
@@ -152,18 +152,18 @@ dyadic two.BitOr b a = applied core.BitOr b a
 dyadic two.ExclusiveOr b a = applied core.BitXor b a
 dyadic two.ShiftLeft b a = applied core.ShiftLeft b a
 dyadic two.ShiftRight b a = applied core.ShiftRight b a
-dyadic two.Equal b a = plain (truth (b == a))
-dyadic two.NotEqual b a = plain (truth (not (b == a)))
-dyadic two.Less b a = plain (truth (int_lt (signed b) (signed a)))
-dyadic two.Greater b a = plain (truth (int_lt (signed a) (signed b)))
-dyadic two.AtMost b a = plain (truth (int_le (signed b) (signed a)))
-dyadic two.AtLeast b a = plain (truth (int_le (signed a) (signed b)))
-dyadic two.After b a = plain (truth (int_lt (pos 0) (signed (low_word (pos b -ℤ pos a)))))
-dyadic two.And b a = both b (plain a)
-dyadic two.Or b a = either b (plain a)
+dyadic two.Equal b a = pure (truth (b == a))
+dyadic two.NotEqual b a = pure (truth (not (b == a)))
+dyadic two.Less b a = pure (truth (int_lt (signed b) (signed a)))
+dyadic two.Greater b a = pure (truth (int_lt (signed a) (signed b)))
+dyadic two.AtMost b a = pure (truth (int_le (signed b) (signed a)))
+dyadic two.AtLeast b a = pure (truth (int_le (signed a) (signed b)))
+dyadic two.After b a = pure (truth (int_lt (pos 0) (signed (low_word (pos b -ℤ pos a)))))
+dyadic two.And b a = both b (pure a)
+dyadic two.Or b a = either b (pure a)
 
 -- an operator with its operands: the right one of AND and OR counts only where the left one does not decide
 abbrev pub combined : Dyadic → Answer → Answer → Answer
-combined two.And left right = followed left (λ b. both b right)
-combined two.Or left right = followed left (λ b. either b right)
-combined operator left right = followed left (λ b. followed right (dyadic operator b))
+combined two.And left right = bind left (λ b. both b right)
+combined two.Or left right = bind left (λ b. either b right)
+combined operator left right = bind left (λ b. bind right (dyadic operator b))

@@ -136,7 +136,7 @@ pub enum Declarations<'a> {
     More(Declaration<'a>, Box<Declarations<'a>>),
 }
 
-/// What a text declares, its worker last.
+/// The declarations of a text, its worker last.
 pub struct Source<'a> {
     pub declarations: Declarations<'a>,
 }

@@ -1,5 +1,5 @@
-//! What names stand for while a text is resolved, on the call's own stack; and what numbers, characters, operators and
-//! types are by themselves.
+//! Bindings of names while a text is resolved, on the call's own stack; and the values of numbers, characters,
+//! operators and types.
 #![tactic(auto)]
 
 mod arrays;

@@ -1,4 +1,4 @@
-//! What names and expressions are by themselves.
+//! Names and expressions by themselves.
 
 ghost use Rattle.std.specs.Prelude.{◌≡◌, None, Some, MatchOption};
 ghost use Rattle.tpw_occam_meaning.specs.Names.{found};

@@ -1,33 +1,33 @@
-//! What operators make of values.
+//! The results of operators on values.
 
 ghost use Rattle.std.specs.Prelude.{◌≡◌, int_le};
-ghost use Rattle.tp_decode.specs.Words.{signed};
-ghost use Rattle.tp_step.specs.Numbers.{truth};
+ghost use Rattle.tp_words.specs.Words.{signed};
+ghost use Rattle.tp_words.specs.Numbers.{truth};
 ghost use Rattle.tpw_occam_core.specs.Meaning as core;
 ghost use Rattle.tpw_occam_meaning.specs.Values as text;
 
-use tp_outcome::words::{complement, difference, is_less, is_positive};
-use tpw_occam_core::{Answer, Operator, applied, followed, plain};
+use tp_words::{complement, difference, is_less, is_positive};
+use tpw_occam_core::{Answer, Operator, applied, bind, pure};
 use tpw_occam_meaning::{Dyadic, Monadic};
 
 /// Whether a word is at most another, both read signed, as a word.
-#[tactic(auto, using(tp_outcome::proofs::Casts::casts))]
+#[tactic(auto, using(tp_words::proofs::Casts::casts))]
 fn is_at_most(a: u32, b: u32) -> u32
     ensures { result ≡ truth (int_le (signed a) (signed b)) }
 {
     u32::from(a.cast_signed() <= b.cast_signed())
 }
 
-/// What an operator makes of a word.
+/// The result of an operator on a word.
 pub fn monadic(operator: Monadic, a: u32) -> Answer
     ensures { result ≡ text.monadic operator a }
 {
     match operator {
         Monadic::Negate => applied(Operator::Subtract, 0, a),
         Monadic::Minus => applied(Operator::Minus, 0, a),
-        Monadic::Not => plain(u32::from(a == 0)),
+        Monadic::Not => pure(u32::from(a == 0)),
         Monadic::Complement | Monadic::BitNot | Monadic::Size | Monadic::Convert(_) => {
-            plain(complement(a))
+            pure(complement(a))
         }
     }
 }
@@ -52,26 +52,26 @@ fn of_words(operator: Dyadic, b: u32, a: u32) -> Answer
         Dyadic::ExclusiveOr => applied(Operator::BitXor, b, a),
         Dyadic::ShiftLeft => applied(Operator::ShiftLeft, b, a),
         Dyadic::ShiftRight => applied(Operator::ShiftRight, b, a),
-        Dyadic::Equal => plain(u32::from(b == a)),
-        Dyadic::NotEqual => plain(u32::from(!(b == a))),
-        Dyadic::Less => plain(is_less(b, a)),
-        Dyadic::Greater => plain(is_less(a, b)),
-        Dyadic::AtMost => plain(is_at_most(b, a)),
-        Dyadic::AtLeast => plain(is_at_most(a, b)),
-        Dyadic::After => plain(u32::from(is_positive(difference(b, a)))),
-        Dyadic::And => both(b, plain(a)),
-        Dyadic::Or => either(b, plain(a)),
+        Dyadic::Equal => pure(u32::from(b == a)),
+        Dyadic::NotEqual => pure(u32::from(!(b == a))),
+        Dyadic::Less => pure(is_less(b, a)),
+        Dyadic::Greater => pure(is_less(a, b)),
+        Dyadic::AtMost => pure(is_at_most(b, a)),
+        Dyadic::AtLeast => pure(is_at_most(a, b)),
+        Dyadic::After => pure(u32::from(is_positive(difference(b, a)))),
+        Dyadic::And => both(b, pure(a)),
+        Dyadic::Or => either(b, pure(a)),
     }
 }
 
-/// What `AND` makes of its left operand and the right one.
+/// The result of `AND` on its left operand and the right one.
 fn both(b: u32, right: Answer) -> Answer
     ensures { result ≡ core.both b right }
 {
-    if b == 0 { plain(0) } else { right }
+    if b == 0 { pure(0) } else { right }
 }
 
-/// What `OR` makes of its left operand and the right one.
+/// The result of `OR` on its left operand and the right one.
 fn either(b: u32, right: Answer) -> Answer
     ensures { result ≡ core.either b right }
 {
@@ -81,20 +81,17 @@ fn either(b: u32, right: Answer) -> Answer
             flag: right.flag,
         }
     } else {
-        plain(1)
+        pure(1)
     }
 }
 
-/// What an operator makes of its two operands.
+/// The result of an operator on its two operands.
 pub fn combined(operator: Dyadic, left: Answer, right: Answer) -> Answer
     ensures { result ≡ text.combined operator left right }
 {
     match operator {
-        Dyadic::And => followed(left, both(left.word, right)),
-        Dyadic::Or => followed(left, either(left.word, right)),
-        other => followed(
-            left,
-            followed(right, of_words(other, left.word, right.word)),
-        ),
+        Dyadic::And => bind(left, both(left.word, right)),
+        Dyadic::Or => bind(left, either(left.word, right)),
+        other => bind(left, bind(right, of_words(other, left.word, right.word))),
     }
 }

@@ -1,4 +1,4 @@
-//! What names stand for.
+//! Bindings of names.
 
 ghost use Rattle.std.specs.Prelude.{◌≡◌, MatchOption};
 ghost use Rattle.tpw_occam_meaning.specs.Names.{found, Nothing};
@@ -31,7 +31,7 @@ pub struct View<'s> {
     pub is_variable: bool,
 }
 
-/// What a channel carries.
+/// The protocol of a channel.
 #[derive(Clone, Copy)]
 pub enum Protocol {
     OneWord,
@@ -45,7 +45,7 @@ pub enum Channel {
     Traces,
 }
 
-/// What an array has to be.
+/// The shape that an array has to have.
 #[derive(Clone, Copy)]
 pub struct Shape {
     pub kind: Kind,
@@ -53,7 +53,7 @@ pub struct Shape {
     pub is_variable: bool,
 }
 
-/// What an argument has to be.
+/// The form that an argument has to have.
 #[derive(Clone, Copy)]
 pub enum Form {
     OfValue(Primitive),
@@ -62,7 +62,7 @@ pub enum Form {
     OfChannel(Protocol),
 }
 
-/// What a name stands for.
+/// The binding of a name.
 #[derive(Clone, Copy)]
 pub enum Meaning<'s, 't, 'a> {
     /// A value that is only read.
@@ -83,7 +83,7 @@ pub enum Scope<'s, 't, 'a> {
     Within(&'a str, Meaning<'s, 't, 'a>, &'s Scope<'s, 't, 'a>),
 }
 
-/// What a name stands for, and the names that were declared before it.
+/// The binding of a name, and the names that were declared before it.
 pub fn look_up<'t, 'r, 's, 'a>(
     scope: &'r Scope<'s, 't, 'a>,
     name: Name<'_>,

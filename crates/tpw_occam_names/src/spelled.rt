@@ -1,4 +1,4 @@
-//! What numbers and characters spell.
+//! The values of numbers and characters, as they are spelled.
 
 ghost use Rattle.std.specs.Prelude.{◌≡◌, ◌<◌, Some, IfSome};
 ghost use Rattle.tpw_occam_terms.specs.Spelling.{digit, letter};

@@ -90,7 +90,7 @@ fn dyadic(parts: &[Part<'_>]) -> Option<Dyadic> {
     }
 }
 
-/// What stands between commas.
+/// The kind of a list, by what is between its commas.
 #[derive(Clone, Copy)]
 pub(crate) enum ListKind {
     Expressions,
@@ -111,7 +111,7 @@ fn channel<'a>(parts: &[Part<'a>]) -> Option<(Name<'a>, Direction)> {
     }
 }
 
-/// What stands between two commas.
+/// An item between two commas.
 #[cycle(expressions)]
 fn list_item<'a>(
     draft: &mut Draft<'a>,
@@ -187,7 +187,7 @@ fn named<'a>(
     }
 }
 
-/// What stands within brackets, as one operand.
+/// The parts within brackets, as one operand.
 #[cycle(expressions)]
 fn grouped<'a>(
     draft: &mut Draft<'a>,

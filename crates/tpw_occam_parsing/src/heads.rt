@@ -1,4 +1,4 @@
-//! What a line says by itself, whatever stands below it.
+//! The head of a line by itself, whatever is below it.
 
 use crate::declarations::{declaration, declared_names, procedure_head, seems_declaration, value};
 use crate::draft::{DeclarationNode, Draft, ExpressionId, ExpressionNode, ProcessNode, Stretch};
@@ -15,14 +15,14 @@ use tpw_occam_lexing::{Keyword, Symbol};
 use tpw_occam_meaning::Dyadic;
 use tpw_occam_terms::{Fault, FaultKind, Name, Span, Unsupported, Wanted};
 
-/// What a line says with what stands below it.
+/// A line with what is below it.
 #[derive(Clone, Copy)]
 pub(crate) enum Entry<'a> {
     Declaration(DeclarationNode<'a>),
     Process(ProcessNode<'a>),
 }
 
-/// What stands below a line with a fault, as its first word tells.
+/// The lines below one with a fault, as its first word tells.
 #[derive(Clone, Copy)]
 pub(crate) enum Below {
     Unknown,
@@ -31,7 +31,7 @@ pub(crate) enum Below {
     Cases,
 }
 
-/// What a line says by itself.
+/// The head of a line by itself.
 #[derive(Clone, Copy)]
 pub(crate) enum Head<'a> {
     /// A line that nothing stands below.
@@ -298,7 +298,7 @@ fn construct<'a>(
     }
 }
 
-/// What a line says; or why it says nothing.
+/// The head of a line; or why it has none.
 pub(crate) fn head_of<'a>(
     draft: &mut Draft<'a>,
     parts: &[Part<'a>],
@@ -320,7 +320,7 @@ pub(crate) fn head_of<'a>(
     }
 }
 
-/// What is known of a line with a fault.
+/// The head of a line with a fault.
 pub(crate) fn wrong_head<'a>(
     draft: &mut Draft<'a>,
     parts: &[Part<'a>],
@@ -353,7 +353,7 @@ pub(crate) fn wrong_head<'a>(
     }
 }
 
-/// What stands below a line that begins with a keyword.
+/// The lines below one that begins with a keyword.
 fn below_of(keyword: Option<Keyword>) -> Below {
     match keyword {
         Some(Keyword::Seq | Keyword::Proc | Keyword::While | Keyword::Par | Keyword::Inline) =>

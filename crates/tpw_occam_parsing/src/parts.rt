@@ -153,14 +153,14 @@ pub(crate) fn width_of(parts: &[Part<'_>]) -> usize {
     }
 }
 
-/// What stands within the bracket that is the first part, and the place of the one that closes it.
+/// The parts within the bracket that is the first part, and the place of the one that closes it.
 pub(crate) fn within<'t, 'a>(parts: &'t [Part<'a>], end: Span) -> (&'t [Part<'a>], Span) {
     let inner = width_of(parts).saturating_sub(2);
     let (within, rest) = around_first(parts, inner);
     (within, place(rest, end))
 }
 
-/// So many parts behind the first, and those behind them.
+/// This many parts behind the first, and those behind them.
 fn around_first<'t, 'a>(parts: &'t [Part<'a>], count: usize) -> (&'t [Part<'a>], &'t [Part<'a>]) {
     let rest = behind(parts, 1);
     rest.split_at(count.min(rest.len()))

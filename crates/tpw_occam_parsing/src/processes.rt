@@ -38,7 +38,7 @@ struct Level {
     is_wrong: bool,
 }
 
-/// What is read, and what was found wrong.
+/// The drafts that are read, and the faults that were found.
 #[derive(Drop)]
 pub(crate) struct Parser<'t, 'a> {
     pub draft: Draft<'a>,
@@ -65,7 +65,7 @@ impl<'a> Parser<'_, 'a> {
         })
     }
 
-    /// What was read, or none and a fault is recorded.
+    /// The draft that was read, or none and a fault is recorded.
     fn recover<T: Copy>(&mut self, read: Result<T, Stop>) -> Result<Option<T>, AllocError> {
         match read {
             Ok(read) => Ok(Some(read)),
@@ -101,7 +101,7 @@ impl<'a> Parser<'_, 'a> {
         }
     }
 
-    /// What a line says by itself, a fault told.
+    /// The head of a line by itself, its fault recorded.
     fn head(&mut self, row: Row) -> Result<Head<'a>, AllocError> {
         let parts = parts_of_row(self.parts, row);
         if row.is_wrong && row.unsupported.is_none() {
@@ -192,7 +192,7 @@ impl<'a> Parser<'_, 'a> {
         Ok(())
     }
 
-    /// What a colon is to end behind a line.
+    /// The construct that a colon is to end behind a line.
     fn end_behind(&self, row: Row, below: &[Row], entry: Entry<'a>) -> End {
         match entry {
             Entry::Declaration(DeclarationNode::Wrong { .. })
@@ -392,7 +392,7 @@ impl<'a> Parser<'_, 'a> {
         self.filled(head, row, below, depth - 1)
     }
 
-    /// What a line says, filled with what stands below it.
+    /// The draft of a line, filled with what is below it.
     #[cycle(processes)]
     fn filled(
         &mut self,

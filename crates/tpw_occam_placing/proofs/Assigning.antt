@@ -10,7 +10,7 @@ use Rattle.tpw_occam_core.specs.declared.process.Assignment.{Assignment}
 use Rattle.tpw_occam_core.specs.declared.process.Target.TheVariants as target
 use Rattle.tpw_occam_core.specs.Arithmetic.{subscript}
 use Rattle.tpw_occam_core.specs.Arrays.{size, kept, with_element}
-use Rattle.tpw_occam_core.specs.Meaning.{Store, followed, with_value, with_array, array_of, kind_of}
+use Rattle.tpw_occam_core.specs.Meaning.{Store, bind, with_value, with_array, array_of, kind_of}
 use Rattle.tpw_occam_core.specs.Meaning as core
 use Rattle.tpw_occam_meaning.specs.States.{State}
 use Rattle.tpw_occam_meaning.specs.States as state
@@ -51,7 +51,7 @@ module _ (tables : Tables) (scope : Scope) where
   pub target_element : (to : ScopedTarget) (a n : ℕ) (kind : Kind) (e : Scoped) (made : Expression) → to ≡ Element a kind e
       → array_at tables scope a ≡ Some n → IsPlaced tables scope e made → IsTarget tables scope to (target.Element n kind made)
   target_element to a n kind e made is lies placed = subst (λ (k : ScopedTarget). IsTarget tables scope k (target.Element n kind made)) (sym is) (record {
-    subscript = λ s t holds i. followed (placed s t holds i) (subscript (size kind (holds.arrays a n lies i)));
+    subscript = λ s t holds i. bind (placed s t holds i) (subscript (size kind (holds.arrays a n lies i)));
     put = λ i word s t holds.
         subst (λ (before : List ℕ). Holds tables scope (state.with_array a (with_element kind before i word) s) (with_array n (with_element kind (array_of t n) i word) t))
         (holds.arrays a n lies)

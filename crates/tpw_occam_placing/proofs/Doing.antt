@@ -51,7 +51,7 @@ module _ (tables : Tables) where
         holds_without tables scope (f (with_cell x word s)) (g (with_value n word t)) x n p lies new
         (body (with_cell x word s) (with_value n word t) (holds_within tables scope s t x n p word lies new holds))
 
-    -- so many turns
+    -- this many turns
     pub done_turns : (s : State) (t : Store) (start count : ℕ) → Holds tables scope s t
         → Holds tables scope (scoped.turns f x start count s) (core.turns g n start count t)
     done_turns s t start zero holds = holds

@@ -54,7 +54,7 @@ module _ (tables : Tables) (scope : Scope) where
       (done_chosen tables scope (state.flagged (scoped.value_of e s).flag s) (core.flagged (scoped.value_of e s).flag t) (scoped.value_of e s).word
       f g f' g' guarded rest (holds_flagged tables scope s t (scoped.value_of e s).flag holds))
 
-  -- within an array of so many bytes
+  -- within an array of this many bytes
   pub done_array : (p : Bor (Unit {0})) (a n bytes : ℕ) (f : State → State) (g : Store → Store) → is_this a (array_in tables n) ≡ true
       → array_at tables scope a ≡ None → bytes_of (storage_at tables n) ≡ bytes
       → ((s : State) (t : Store) → Holds tables (Array' n p scope) s t → Holds tables (Array' n p scope) (f s) (g t))

@@ -19,11 +19,11 @@ use Rattle.tpw_occam_core.specs.declared.worker.Place.{Place}
 use Rattle.tpw_occam_core.specs.declared.worker.Place.TheVariants as place
 use Rattle.tpw_occam_core.specs.declared.worker.Storage.{Storage}
 use Rattle.tpw_occam_core.specs.declared.worker.Storage.TheVariants.{Zeros, Table}
-use Rattle.tp_decode.specs.Words.{complement}
-use Rattle.tp_step.specs.Numbers.{truth}
-use Rattle.tpw_occam_core.specs.Arithmetic.{plain, subscript, low_byte, applied}
+use Rattle.tp_words.specs.Words.{complement}
+use Rattle.tp_words.specs.Numbers.{truth}
+use Rattle.tpw_occam_core.specs.Arithmetic.{pure, subscript, low_byte, applied}
 use Rattle.tpw_occam_core.specs.Arrays.{element}
-use Rattle.tpw_occam_core.specs.Meaning.{Store, with_value, with_array, first_bytes, most_traced, received, followed, both, either, element_at}
+use Rattle.tpw_occam_core.specs.Meaning.{Store, with_value, with_array, first_bytes, most_traced, received, bind, both, either, element_at}
 use Rattle.tpw_occam_core.specs.Meaning as core
 use Rattle.tpw_occam_core.specs.Sound.{bytes_of, is_table}
 use Rattle.tpw_occam_terms.specs.declared.span.Span.{Span}
@@ -76,22 +76,22 @@ or_true false = refl
 -- a value depends on cells and arrays
 value_by : (e : Expression) (s t : State) → s.cells ≡ t.cells → s.arrays ≡ t.arrays → scoped.value_of e s ≡ scoped.value_of e t
 value_by (expression.Constant c) s t cells arrays = refl
-value_by (expression.Cell x) s t cells arrays = λ i. plain (cells i x)
+value_by (expression.Cell x) s t cells arrays = λ i. pure (cells i x)
 value_by (expression.Element' a kind p e) s t cells arrays =
-    λ i. followed (value_by e s t cells arrays i) (element_at kind (arrays i a))
-value_by (expression.Listed' table kind p e) s t cells arrays = λ i. followed (value_by e s t cells arrays i) (element_at kind table.items)
-value_by (expression.Checked' below p e) s t cells arrays = λ i. followed (value_by e s t cells arrays i) (subscript below)
+    λ i. bind (value_by e s t cells arrays i) (element_at kind (arrays i a))
+value_by (expression.Listed' table kind p e) s t cells arrays = λ i. bind (value_by e s t cells arrays i) (element_at kind table.items)
+value_by (expression.Checked' below p e) s t cells arrays = λ i. bind (value_by e s t cells arrays i) (subscript below)
 value_by (expression.Binary' operator p e q f) s t cells arrays =
-    λ i. followed (value_by e s t cells arrays i) (λ b. followed (value_by f s t cells arrays i) (applied operator b))
-value_by (expression.Complement' p e) s t cells arrays = λ i. followed (value_by e s t cells arrays i) (λ a. plain (complement a))
-value_by (expression.Not' p e) s t cells arrays = λ i. followed (value_by e s t cells arrays i) (λ a. plain (truth (a == 0)))
-value_by (expression.LowByte' p e) s t cells arrays = λ i. followed (value_by e s t cells arrays i) low_byte
+    λ i. bind (value_by e s t cells arrays i) (λ b. bind (value_by f s t cells arrays i) (applied operator b))
+value_by (expression.Complement' p e) s t cells arrays = λ i. bind (value_by e s t cells arrays i) (λ a. pure (complement a))
+value_by (expression.Not' p e) s t cells arrays = λ i. bind (value_by e s t cells arrays i) (λ a. pure (truth (a == 0)))
+value_by (expression.LowByte' p e) s t cells arrays = λ i. bind (value_by e s t cells arrays i) low_byte
 value_by (expression.And' p e q f) s t cells arrays =
-    λ i. followed (value_by e s t cells arrays i) (λ a. both a (value_by f s t cells arrays i))
+    λ i. bind (value_by e s t cells arrays i) (λ a. both a (value_by f s t cells arrays i))
 value_by (expression.Or' p e q f) s t cells arrays =
-    λ i. followed (value_by e s t cells arrays i) (λ a. either a (value_by f s t cells arrays i))
+    λ i. bind (value_by e s t cells arrays i) (λ a. either a (value_by f s t cells arrays i))
 value_by (expression.Within' x p e q f) s t cells arrays =
-    λ i. followed (value_by e s t cells arrays i) (λ a.
+    λ i. bind (value_by e s t cells arrays i) (λ a.
     value_by f (state.with_cell x a s) (state.with_cell x a t) (ap (λ (c : ℕ → ℕ). λ y. if y == x then a else c y) cells) arrays i)
 
 -- ---- two places

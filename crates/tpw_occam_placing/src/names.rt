@@ -1,4 +1,5 @@
-//! What a text declares: where it lies in a worker, and in which lines of the text it is in scope. No clause says so.
+//! The declarations of a text: where they lie in a worker, and in which lines of the text they are in scope. No clause
+//! says so.
 
 use crate::needs::needed;
 use crate::tables::{Fault, Tables};
@@ -18,7 +19,7 @@ pub struct Declared {
     pub lines: BTreeSet<u32>,
 }
 
-/// What is declared so far, and the numbers of what is in scope.
+/// The declarations so far, and the numbers of those in scope.
 #[derive(Drop)]
 struct Found {
     all: Vec<Declared>,
@@ -54,7 +55,7 @@ impl Found {
         self.around.pop();
     }
 
-    /// What a process declares.
+    /// Adds the declarations of a process.
     fn add_process(&mut self, alloc: Global, tables: &Tables, p: &Process) -> Result<(), Fault> {
         match p {
             Process::Sequence(first, second)
@@ -140,7 +141,7 @@ impl Found {
     }
 }
 
-/// What the text of a worker declares, from its first line on.
+/// The declarations of a worker's text, from its first line on.
 pub fn names_of(alloc: Global, p: &Process) -> Result<Vec<Declared>, Fault> {
     let tables = needed(alloc, p)?;
     let mut found = Found {

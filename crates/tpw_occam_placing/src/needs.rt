@@ -19,7 +19,7 @@ impl Tables {
         None
     }
 
-    /// The number of the array of so many bytes that is for an array.
+    /// The number of the array of this many bytes that is for an array.
     pub(crate) fn array_for(&self, array: usize, bytes: u32) -> Option<usize> {
         for (n, other) in self.arrays.iter().enumerate() {
             if let (true, Some(Storage::Zeros(count))) = (*other == array, self.storages.get(n)) {
@@ -41,7 +41,7 @@ impl Tables {
         Ok(())
     }
 
-    /// So many bytes for an array.
+    /// This many bytes for an array.
     fn need_array(&mut self, array: usize, bytes: u32) -> Result<(), Fault> {
         if self.array_for(array, bytes).is_some() {
             return Ok(());

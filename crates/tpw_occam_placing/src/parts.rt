@@ -1,10 +1,10 @@
 //! Expressions of a worker, built of their parts. Each contract says what is built, by what the parts mean.
 
 ghost use Rattle.std.specs.Prelude.{◌≡◌, ◌==◌, IfOk};
-ghost use Rattle.tp_decode.specs.Words.{complement};
-ghost use Rattle.tp_step.specs.Numbers.{truth};
-ghost use Rattle.tpw_occam_core.specs.Arithmetic.{plain, subscript, low_byte, applied};
-ghost use Rattle.tpw_occam_core.specs.Meaning.{Store, value_of, followed, both, either, element_at, array_of, with_value};
+ghost use Rattle.tp_words.specs.Words.{complement};
+ghost use Rattle.tp_words.specs.Numbers.{truth};
+ghost use Rattle.tpw_occam_core.specs.Arithmetic.{pure, subscript, low_byte, applied};
+ghost use Rattle.tpw_occam_core.specs.Meaning.{Store, value_of, bind, both, either, element_at, array_of, with_value};
 
 use std::alloc::{AllocError, Global};
 use tpw_occam_core::{Expression, Kind, Operator};
@@ -17,7 +17,7 @@ pub(crate) fn element(
     at: Expression,
 ) -> Result<Expression, AllocError>
     ensures { IfOk result (λ e. (t : Store) →
-        value_of e t ≡ followed (value_of at t) (element_at kind (array_of t array))) }
+        value_of e t ≡ bind (value_of at t) (element_at kind (array_of t array))) }
 {
     Ok(Expression::Element {
         array,
@@ -28,7 +28,7 @@ pub(crate) fn element(
 
 /// A subscript, checked against a size.
 pub(crate) fn checked(alloc: Global, below: u32, at: Expression) -> Result<Expression, AllocError>
-    ensures { IfOk result (λ e. (t : Store) → value_of e t ≡ followed (value_of at t) (subscript below)) }
+    ensures { IfOk result (λ e. (t : Store) → value_of e t ≡ bind (value_of at t) (subscript below)) }
 {
     Ok(Expression::Checked {
         below,
@@ -44,7 +44,7 @@ pub(crate) fn binary(
     right: Expression,
 ) -> Result<Expression, AllocError>
     ensures { IfOk result (λ e. (t : Store) →
-        value_of e t ≡ followed (value_of left t) (λ b. followed (value_of right t) (applied operator b))) }
+        value_of e t ≡ bind (value_of left t) (λ b. bind (value_of right t) (applied operator b))) }
 {
     Ok(Expression::Binary {
         operator,
@@ -56,7 +56,7 @@ pub(crate) fn binary(
 /// `~e`.
 pub(crate) fn complement(alloc: Global, operand: Expression) -> Result<Expression, AllocError>
     ensures { IfOk result (λ e. (t : Store) →
-        value_of e t ≡ followed (value_of operand t) (λ a. plain (complement a))) }
+        value_of e t ≡ bind (value_of operand t) (λ a. pure (complement a))) }
 {
     Ok(Expression::Complement(Box::new(alloc, operand)?))
 }
@@ -64,14 +64,14 @@ pub(crate) fn complement(alloc: Global, operand: Expression) -> Result<Expressio
 /// `NOT e`.
 pub(crate) fn not(alloc: Global, operand: Expression) -> Result<Expression, AllocError>
     ensures { IfOk result (λ e. (t : Store) →
-        value_of e t ≡ followed (value_of operand t) (λ a. plain (truth (a == 0)))) }
+        value_of e t ≡ bind (value_of operand t) (λ a. pure (truth (a == 0)))) }
 {
     Ok(Expression::Not(Box::new(alloc, operand)?))
 }
 
 /// `BYTE e`.
 pub(crate) fn byte(alloc: Global, operand: Expression) -> Result<Expression, AllocError>
-    ensures { IfOk result (λ e. (t : Store) → value_of e t ≡ followed (value_of operand t) low_byte) }
+    ensures { IfOk result (λ e. (t : Store) → value_of e t ≡ bind (value_of operand t) low_byte) }
 {
     Ok(Expression::LowByte(Box::new(alloc, operand)?))
 }
@@ -83,7 +83,7 @@ pub(crate) fn and(
     right: Expression,
 ) -> Result<Expression, AllocError>
     ensures { IfOk result (λ e. (t : Store) →
-        value_of e t ≡ followed (value_of left t) (λ a. both a (value_of right t))) }
+        value_of e t ≡ bind (value_of left t) (λ a. both a (value_of right t))) }
 {
     Ok(Expression::And(Box::new(alloc, left)?, Box::new(alloc, right)?))
 }
@@ -95,7 +95,7 @@ pub(crate) fn or(
     right: Expression,
 ) -> Result<Expression, AllocError>
     ensures { IfOk result (λ e. (t : Store) →
-        value_of e t ≡ followed (value_of left t) (λ a. either a (value_of right t))) }
+        value_of e t ≡ bind (value_of left t) (λ a. either a (value_of right t))) }
 {
     Ok(Expression::Or(Box::new(alloc, left)?, Box::new(alloc, right)?))
 }
@@ -108,7 +108,7 @@ pub(crate) fn within(
     within: Expression,
 ) -> Result<Expression, AllocError>
     ensures { IfOk result (λ e. (t : Store) →
-        value_of e t ≡ followed (value_of value t) (λ a. value_of within (with_value name a t))) }
+        value_of e t ≡ bind (value_of value t) (λ a. value_of within (with_value name a t))) }
 {
     Ok(Expression::Let {
         name,

@@ -1,4 +1,4 @@
-//! What is in scope.
+//! Declarations in scope.
 
 /// The variables and arrays in which something that is in scope lies, from the innermost on.
 #[derive(Clone, Copy)]

@@ -165,7 +165,7 @@ impl Tables {
         self.bytes(n) == self.bytes(m)
     }
 
-    /// An array of so many bytes in which an array lies that is not in scope.
+    /// An array of this many bytes in which an array lies that is not in scope.
     pub(crate) fn free_array(&self, scope: &Scope<'_>, array: usize, bytes: u32) -> Option<usize>
         ensures lies { IfSome result (λ n. is_this array (array_in self.now n) ≡ true) }
         ensures bytes { IfSome result (λ n. bytes_of (storage_at self.now n) ≡ bytes) }
@@ -182,7 +182,7 @@ impl Tables {
         None
     }
 
-    /// Whether an array of the worker is so many zeros at first.
+    /// Whether an array of the worker is this many zeros at first.
     fn has_zeros(&self, n: usize, bytes: u32) -> bool
         ensures { IsTrue result → bytes_of (storage_at self.now n) ≡ bytes }
     {

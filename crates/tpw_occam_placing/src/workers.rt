@@ -32,7 +32,7 @@ pub(crate) struct Packet {
     pub(crate) spare: Option<usize>,
 }
 
-/// What is done behind the packet, and what is sent.
+/// The processes behind the packet, and the result.
 #[derive(Drop)]
 pub(crate) struct Steps {
     pub(crate) body: Process,
@@ -40,7 +40,7 @@ pub(crate) struct Steps {
     pub(crate) line: u32,
 }
 
-/// What a worker does, and what is declared for the whole of it.
+/// The process of a worker, and the declarations of the whole of it.
 #[derive(Drop)]
 pub(crate) struct Parts {
     pub(crate) receive: Place,
@@ -174,7 +174,7 @@ fn finished(
     }
 }
 
-/// What is declared for the whole worker is in scope.
+/// The scope of the declarations of the whole worker.
 fn with_spare(alloc: Global, spare: Option<usize>) -> Result<Vec<usize>, Fault> {
     let mut variables = Vec::new(alloc);
     if let Some(n) = spare {
@@ -289,7 +289,7 @@ fn computed(
     })
 }
 
-/// What is declared for the whole worker, the packet, and what is behind it.
+/// The declarations of the whole worker, the packet, and the processes behind it.
 fn begun(
     alloc: Global,
     tables: &Tables,

@@ -31,7 +31,7 @@ fn is_same(one: Token<'_>, other: Token<'_>) -> bool
     }
 }
 
-/// What stands behind a token, which is the first.
+/// The items behind a token, which is the first.
 pub(crate) fn taken<'t, 'a>(token: Token<'_>, items: &'t [Item<'a>]) -> Option<&'t [Item<'a>]>
     ensures { IfSome result (λ rest. seen items.now ≡ lexeme_of token.entry ∷ seen rest.now) }
 {

@@ -14,7 +14,7 @@ use tpw_occam_meaning::Source;
 use tpw_occam_parsing::draft_of;
 use tpw_occam_terms::{Fault, placed_faults};
 
-/// What is known of a text.
+/// The standing of a text.
 #[derive(Clone, Copy, PartialEq, Eq)]
 pub enum Standing {
     /// It is the tree, written out.
@@ -36,7 +36,7 @@ pub struct Parsed<'a> {
     pub standing: Standing,
 }
 
-/// What is known of a text that has such lines.
+/// The standing of a text that has such lines.
 fn standing_of(lexed: &Lexed<'_>, source: &Source<'_>, has_faults: bool) -> Standing
     ensures { result ≡ Standing.Read → (lexed.now.is_clean ≡ true) × (seen_lines lexed.now.lines.items ≡ unparse source.now) }
 {

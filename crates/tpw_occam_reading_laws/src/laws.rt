@@ -16,13 +16,13 @@ ghost use Rattle.tpw_occam_meaning.specs.Values.{Value};
 ghost use Rattle.tpw_occam_reading.specs.Spelled.{spelled};
 ghost use Rattle.tpw_occam_reading.specs.Unparse.{process_lines, unparse};
 
-/// What is written as an expression has at most one value of a type.
+/// An expression's writing has at most one value of a type.
 pub fn an_expression_has_one_value()
     ensures { (e f : Expression) (of : Primitive) (names : Names) (d : ℕ) (v w : Value) → spelled e [] ≡ spelled f []
         → value_of e of names d ≡ Some v → value_of f of names d ≡ Some w → v ≡ w }
 {}
 
-/// What is written as a process does at most one thing.
+/// A process's writing does at most one thing.
 pub fn a_process_does_one_thing()
     ensures { (p q : Process) (names : Names) (d : ℕ) (f g : State → State) → process_lines p 0 [] ≡ process_lines q 0 []
         → run p names d ≡ Some f → run q names d ≡ Some g → f ≡ g }

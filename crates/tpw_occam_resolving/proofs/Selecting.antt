@@ -3,10 +3,10 @@ use Rattle.std.proofs.Common.{◌≡◌, ℕ, ◌==◌, Bool, true, false, ◌||
 use Rattle.std.specs.List.{list_any}
 use Rattle.std.specs.declared.boxed.Box.{Box}
 use Rattle.std.specs.declared.alloc.Global.{Global}
-use Rattle.tp_step.specs.Numbers.{truth}
+use Rattle.tp_words.specs.Numbers.{truth}
 use Rattle.tpw_occam_core.specs.declared.expression.Operator.TheVariants.{Equal}
-use Rattle.tpw_occam_core.specs.Arithmetic.{plain, applied}
-use Rattle.tpw_occam_core.specs.Meaning.{followed, either}
+use Rattle.tpw_occam_core.specs.Arithmetic.{pure, applied}
+use Rattle.tpw_occam_core.specs.Meaning.{bind, either}
 use Rattle.tpw_occam_meaning.specs.declared.expression.Expression as tree
 use Rattle.tpw_occam_terms.specs.declared.span.Span.{Span}
 use Rattle.tpw_occam_meaning.specs.declared.tree.Cases.{Cases}
@@ -21,7 +21,7 @@ use Rattle.tpw_occam_scoped.specs.declared.expression.Expression.{Expression}
 use Rattle.tpw_occam_scoped.specs.Meaning.{value_of}
 use Rattle.tpw_occam_resolving.specs.Cases.{cased}
 
-either_made : (b r : Bool) → followed (plain (truth b)) (λ a. either a (plain (truth r))) ≡ plain (truth (b || r))
+either_made : (b r : Bool) → bind (pure (truth b)) (λ a. either a (pure (truth r))) ≡ pure (truth (b || r))
 either_made true true = refl
 either_made true false = refl
 either_made false true = refl
@@ -29,18 +29,18 @@ either_made false false = refl
 
 -- one constant more
 pub one_more_made : (e equal others w : Expression) (first : ℕ) (more all : List ℕ) (word : Word) → all ≡ first ∷ more →
-    value_of w ≡ (λ s. plain (word_in word s)) →
-    value_of equal ≡ (λ s. followed (plain first) (λ b. followed (value_of w s) (applied Equal b))) →
-    value_of others ≡ (λ s. plain (truth (list_any (λ c. c == word_in word s) more))) →
-    value_of e ≡ (λ s. followed (value_of equal s) (λ a. either a (value_of others s))) →
-    value_of e ≡ (λ s. plain (truth (list_any (λ c. c == word_in word s) all)))
+    value_of w ≡ (λ s. pure (word_in word s)) →
+    value_of equal ≡ (λ s. bind (pure first) (λ b. bind (value_of w s) (applied Equal b))) →
+    value_of others ≡ (λ s. pure (truth (list_any (λ c. c == word_in word s) more))) →
+    value_of e ≡ (λ s. bind (value_of equal s) (λ a. either a (value_of others s))) →
+    value_of e ≡ (λ s. pure (truth (list_any (λ c. c == word_in word s) all)))
 one_more_made e equal others w first more all word all-is w-is equal-is others-is e-is =
     e-is
-    ∙ (λ i s. followed (equal-is i s) (λ a. either a (others-is i s)))
-    ∙ (λ i s. followed (followed (plain first) (λ b. followed (w-is i s) (applied Equal b)))
-    (λ a. either a (plain (truth (list_any (λ c. c == word_in word s) more)))))
+    ∙ (λ i s. bind (equal-is i s) (λ a. either a (others-is i s)))
+    ∙ (λ i s. bind (bind (pure first) (λ b. bind (w-is i s) (applied Equal b)))
+    (λ a. either a (pure (truth (list_any (λ c. c == word_in word s) more)))))
     ∙ (λ i s. either_made (first == word_in word s) (list_any (λ c. c == word_in word s) more) i)
-    ∙ (λ i s. plain (truth (list_any (λ c. c == word_in word s) (sym all-is i))))
+    ∙ (λ i s. pure (truth (list_any (λ c. c == word_in word s) (sym all-is i))))
 
 or_false : (p : Bool) → (p || false) ≡ p
 or_false true = refl
@@ -55,14 +55,14 @@ chosen_is true f g s = ap f (not_flagged s)
 chosen_is false f g s = ap g (not_flagged s)
 
 selected_step : (word : Word) (constants : List ℕ) (f g : Effect) →
-    guarded_by (Varying (λ s. plain (truth (list_any (λ c. c == word_in word s) constants)))) f g ≡ selected_by word constants f g
+    guarded_by (Varying (λ s. pure (truth (list_any (λ c. c == word_in word s) constants)))) f g ≡ selected_by word constants f g
 selected_step word constants None g = refl
 selected_step word constants (Some f) None = refl
 selected_step word constants (Some f) (Some g) =
     λ i. Some (λ s. chosen_is (list_any (λ c. c == word_in word s) constants) f g s i)
 
 pub selected_made : (word : Word) (constants : List ℕ) (guard : Expression) (f g : Effect) →
-    value_of guard ≡ (λ s. plain (truth (list_any (λ c. c == word_in word s) constants))) →
+    value_of guard ≡ (λ s. pure (truth (list_any (λ c. c == word_in word s) constants))) →
     guarded_by (Varying (value_of guard)) f g ≡ selected_by word constants f g
 selected_made word constants guard f g guard-is =
     ap (λ v. guarded_by (Varying v) f g) guard-is ∙ selected_step word constants f g

@@ -20,7 +20,7 @@ pub enum Array<'s> {
     Written { kind: Kind, bytes: Vec<u8> },
 }
 
-/// How many elements so many bytes have.
+/// How many elements this many bytes have.
 fn elements(kind: Kind, bytes: &[u8]) -> usize
     ensures { result ≡ size kind bytes.now }
 {

@@ -1,4 +1,4 @@
-//! What is passed to PROCs under another name.
+//! Arguments that are passed to PROCs under another name.
 
 ghost use Rattle.std.specs.Prelude.{◌≡◌, ℕ, Some, IfOk};
 ghost use Rattle.tpw_occam_meaning.specs.Calls as text;
@@ -23,21 +23,21 @@ use tpw_occam_names::{
 use tpw_occam_scoped::Value;
 use tpw_occam_terms::{Name, Primitive};
 
-/// What a parameter is another name for.
+/// The place that a parameter is another name for.
 #[derive(Clone, Copy)]
 pub(crate) enum Place<'s> {
     Variable(Primitive, usize),
     Element(View<'s>, Word),
 }
 
-/// What is passed under another name: its place, and the subscript that is worked out for it, or a constant.
+/// An argument under another name: its place, and the subscript that is worked out for it, or a constant.
 #[derive(Drop)]
 pub(crate) struct Lent<'s> {
     pub(crate) place: Place<'s>,
     pub(crate) subscript: Value,
 }
 
-/// What the parameter stands for.
+/// The binding of the parameter.
 pub(crate) fn meaning_of<'t, 'r, 'a>(lent: &'r Lent<'r>) -> Meaning<'r, 't, 'a>
     ensures { (names : Names) → entry_of result names ≡ Is (place_of lent.now.place) }
 {
@@ -121,7 +121,7 @@ pub(crate) fn same_protocol(one: Protocol, other: Protocol) -> bool
     }
 }
 
-/// What the traces' channel carries, where a name is that.
+/// The protocol of the traces' channel, where a name is that.
 pub(crate) fn traces(scope: &Scope<'_, '_, '_>, name: Name<'_>) -> Result<Protocol, Fault>
     ensures { IfOk result (λ p.
         messages.carried Traces (found name.entry (names_of scope.now)) ≡ Some (protocol_of p)) }
@@ -132,7 +132,7 @@ pub(crate) fn traces(scope: &Scope<'_, '_, '_>, name: Name<'_>) -> Result<Protoc
     }
 }
 
-/// What an argument carries that is the traces' channel.
+/// The protocol of an argument that is the traces' channel.
 pub(crate) fn traces_of(scope: &Scope<'_, '_, '_>, e: &Expression<'_>) -> Result<Protocol, Fault>
     ensures { IfOk result (λ p. text.traces_of e.now (names_of scope.now) ≡ Some (protocol_of p)) }
 {

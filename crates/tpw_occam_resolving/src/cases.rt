@@ -2,8 +2,8 @@
 
 ghost use Rattle.std.specs.Prelude.{◌≡◌, ◌==◌, true, not, Some, IfOk};
 ghost use Rattle.std.specs.List.{list_any};
-ghost use Rattle.tp_step.specs.Numbers.{truth};
-ghost use Rattle.tpw_occam_core.specs.Arithmetic.{plain};
+ghost use Rattle.tp_words.specs.Numbers.{truth};
+ghost use Rattle.tpw_occam_core.specs.Arithmetic.{pure};
 ghost use Rattle.tpw_occam_meaning.specs.Effects.{selected_by};
 ghost use Rattle.tpw_occam_meaning.specs.Expressions.{type_of};
 ghost use Rattle.tpw_occam_meaning.specs.Names.{word_in};
@@ -108,7 +108,7 @@ pub(crate) fn has_else(cases: &Cases<'_>) -> bool
 
 /// A constant, or the word of a cell.
 fn word_expression(word: Word) -> Made
-    ensures { value_of result ≡ (λ s. plain (word_in (word_of word) s)) }
+    ensures { value_of result ≡ (λ s. pure (word_in (word_of word) s)) }
 {
     match word {
         Word::Constant(word) => Made::Constant(word),
@@ -118,7 +118,7 @@ fn word_expression(word: Word) -> Made
 
 /// Whether a word is one of these constants.
 fn is_one_of(alloc: Global, word: Word, constants: &[u32]) -> Result<Made, AllocError>
-    ensures { IfOk result (λ e. value_of e ≡ (λ s. plain (truth
+    ensures { IfOk result (λ e. value_of e ≡ (λ s. pure (truth
         (list_any (λ constant. constant == word_in (word_of word) s) constants.now)))) }
 {
     match constants.split_first() {
@@ -136,7 +136,7 @@ fn is_one_of(alloc: Global, word: Word, constants: &[u32]) -> Result<Made, Alloc
     }
 }
 
-/// What is selected where a word is one of these constants, and else the rest.
+/// The choice of a process where a word is one of these constants, and else of the rest.
 pub(crate) fn selection(
     alloc: Global,
     word: Word,

@@ -1,4 +1,4 @@
-//! What declarations say.
+//! The values and shapes of declarations.
 
 ghost use Rattle.std.specs.Prelude.{◌≡◌, ◌∷◌, Some, IfOk, map};
 ghost use Rattle.std.specs.List.{list_all};
@@ -66,14 +66,14 @@ pub fn may_be_declared(value: &Value) -> bool
     }
 }
 
-/// Whether a message has so many bytes: 1 to 64 words.
+/// Whether a message has this many bytes: 1 to 64 words.
 fn is_message(bytes: u32) -> bool
     ensures { result ≡ is_message bytes }
 {
     bytes % 4 == 0 && 4 <= bytes && bytes <= 256
 }
 
-/// What a channel carries.
+/// The protocol of a channel.
 fn protocol<'t, 'a>(
     alloc: Global,
     scope: &Scope<'_, 't, 'a>,
@@ -101,7 +101,7 @@ fn protocol<'t, 'a>(
     }
 }
 
-/// What an argument of a type has to be.
+/// The form that an argument of a type has to have.
 fn form<'t, 'a>(
     alloc: Global,
     scope: &Scope<'_, 't, 'a>,
@@ -139,7 +139,7 @@ fn with_form(form: Form, forms: Vec<Form>) -> Result<Vec<Form>, Fault>
     Ok(all)
 }
 
-/// What the arguments of a call have to be, where the parameter before these has such a form.
+/// The forms that the arguments of a call have to have, where the parameter before these has such a form.
 fn forms_behind<'t, 'a>(
     alloc: Global,
     scope: &Scope<'_, 't, 'a>,
@@ -172,7 +172,7 @@ fn forms_behind<'t, 'a>(
     }
 }
 
-/// What the arguments of a call have to be.
+/// The forms that the arguments of a call have to have.
 pub fn forms_of<'t, 'a>(
     alloc: Global,
     scope: &Scope<'_, 't, 'a>,
@@ -219,7 +219,7 @@ fn type_in_table(scope: &Scope<'_, '_, '_>, e: &Expression<'_>) -> Option<Primit
     }
 }
 
-/// What a table has to be that is declared.
+/// The shape that a declared table has to have.
 fn shape_of_table<'t, 'a>(
     alloc: Global,
     scope: &Scope<'_, 't, 'a>,

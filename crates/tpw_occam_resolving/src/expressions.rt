@@ -25,7 +25,7 @@ use tpw_occam_names::{
 use tpw_occam_scoped::Value;
 use tpw_occam_terms::{Name, Primitive};
 
-/// What is made of an expression of a type, where `d` things are declared.
+/// The value of an expression of a type, where `d` things are declared.
 #[cycle(value)]
 pub fn value<'t, 'a>(
     alloc: Global,
@@ -130,7 +130,7 @@ pub fn value<'t, 'a>(
     }
 }
 
-/// What is made of an operand of a type, which is that of the whole.
+/// The value of an operand of a type, which is that of the whole.
 #[cycle(value)]
 fn operand<'t, 'a>(
     alloc: Global,
@@ -151,7 +151,7 @@ fn operand<'t, 'a>(
     value(alloc, scope, d, e, wanted, room - 1)
 }
 
-/// What is made of a FUNCTION's expression, with what is passed.
+/// The value of a FUNCTION's expression, with its arguments.
 #[cycle(value)]
 fn called<'t, 'a>(
     alloc: Global,
@@ -188,7 +188,7 @@ fn called<'t, 'a>(
     }
 }
 
-/// What is made of a FUNCTION's expression, with the rest of what is passed.
+/// The value of a FUNCTION's expression, with the rest of its arguments.
 #[cycle(value)]
 fn passed<'t, 'a>(
     alloc: Global,

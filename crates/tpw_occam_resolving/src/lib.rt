@@ -1,4 +1,4 @@
-//! From the tree of a text to its scoped core: names become numbers, and calls are put in line.
+//! From the tree of a text to its scoped core: names become numbers, and calls are inlined.
 #![tactic(auto)]
 
 mod arrays;

@@ -16,7 +16,7 @@ use tpw_occam_names::{Fault, Protocol, Scope, Shape};
 use tpw_occam_scoped::{Message, Process};
 use tpw_occam_terms::{Name, Primitive};
 
-/// What is sent.
+/// The core of a message.
 pub fn message<'t, 'a>(
     alloc: Global,
     scope: &Scope<'_, 't, 'a>,

@@ -1,7 +1,7 @@
-//! What operators make of values. What is made of values that are known is known.
+//! The values of operators. Those of known values are known.
 
 ghost use Rattle.std.specs.Prelude.{◌≡◌, Some, IfOk};
-ghost use Rattle.tpw_occam_core.specs.Meaning.{followed};
+ghost use Rattle.tpw_occam_core.specs.Meaning.{bind};
 ghost use Rattle.tpw_occam_meaning.specs.declared.operator.Dyadic.TheVariants as two;
 ghost use Rattle.tpw_occam_meaning.specs.Maybe.{and_then};
 ghost use Rattle.tpw_occam_meaning.specs.Values as text;
@@ -9,7 +9,7 @@ ghost use Rattle.tpw_occam_scoped.specs.Made.{value_made};
 ghost use Rattle.tpw_occam_scoped.specs.Meaning.{value_of};
 
 use std::alloc::{AllocError, Global};
-use tpw_occam_core::{Operator, followed, low_byte};
+use tpw_occam_core::{Operator, bind, low_byte};
 use tpw_occam_meaning::{Dyadic, Monadic};
 use tpw_occam_names::{Fault, combined, monadic};
 use tpw_occam_scoped::{Expression, Value};
@@ -21,7 +21,7 @@ fn monadic_expression(
     operator: Monadic,
     e: Expression,
 ) -> Result<Expression, AllocError>
-    ensures { IfOk result (λ r. value_of r ≡ (λ s. followed (value_of e s) (text.monadic operator))) }
+    ensures { IfOk result (λ r. value_of r ≡ (λ s. bind (value_of e s) (text.monadic operator))) }
 {
     match operator {
         Monadic::Negate => {
@@ -35,12 +35,12 @@ fn monadic_expression(
     }
 }
 
-/// What an operator makes of its one operand.
+/// The value of an operator on its one operand.
 pub(crate) fn of_one(alloc: Global, operator: Monadic, a: Value) -> Result<Value, AllocError>
-    ensures { IfOk result (λ r. value_made r ≡ text.of_one (λ a. followed a (text.monadic operator)) (value_made a)) }
+    ensures { IfOk result (λ r. value_made r ≡ text.of_one (λ a. bind a (text.monadic operator)) (value_made a)) }
 {
     match a {
-        Value::Known(a) => Ok(Value::Known(followed(a, monadic(operator, a.word)))),
+        Value::Known(a) => Ok(Value::Known(bind(a, monadic(operator, a.word)))),
         Value::Varying(e) => Ok(Value::Varying(monadic_expression(alloc, operator, e)?)),
     }
 }
@@ -130,7 +130,7 @@ fn dyadic_expression(
     }
 }
 
-/// What an operator makes of two values that are not both known.
+/// The value of an operator on two values that are not both known.
 fn varying(alloc: Global, operator: Dyadic, b: Value, a: Value) -> Result<Value, AllocError>
     ensures { IfOk result (λ r. value_made r
         ≡ text.Varying (λ s. text.combined operator (text.at (value_made b) s) (text.at (value_made a) s))) }
@@ -140,7 +140,7 @@ fn varying(alloc: Global, operator: Dyadic, b: Value, a: Value) -> Result<Value,
     Ok(Value::Varying(dyadic_expression(alloc, operator, left, right)?))
 }
 
-/// What an operator makes of its two operands.
+/// The value of an operator on its two operands.
 pub(crate) fn of_two(
     alloc: Global,
     operator: Dyadic,
@@ -166,14 +166,14 @@ pub(crate) fn converted(
     a: Value,
 ) -> Result<Value, Fault>
     ensures { IfOk result (λ r. and_then (text.converted from to) (λ make.
-        Some (text.of_one (λ a. followed a make) (value_made a))) ≡ Some (value_made r)) }
+        Some (text.of_one (λ a. bind a make) (value_made a))) ≡ Some (value_made r)) }
 {
     match (from, to) {
         (Primitive::Bool, Primitive::Int | Primitive::Byte) | (Primitive::Byte, Primitive::Int) => {
             Ok(a)
         }
         (Primitive::Int, Primitive::Byte) => match a {
-            Value::Known(a) => Ok(Value::Known(followed(a, low_byte(a.word)))),
+            Value::Known(a) => Ok(Value::Known(bind(a, low_byte(a.word)))),
             Value::Varying(e) => Ok(Value::Varying(Expression::byte(alloc, e)?)),
         },
         _ => Err(Fault::Wrong),

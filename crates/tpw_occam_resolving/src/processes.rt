@@ -146,7 +146,7 @@ fn how_many(steps: &Processes<'_>) -> usize {
     }
 }
 
-/// So many of some processes as a balanced tree, and those behind them.
+/// This many of some processes as a balanced tree, and those behind them.
 #[cycle(process)]
 fn some<'t, 'a>(
     alloc: Global,
@@ -176,7 +176,7 @@ fn some<'t, 'a>(
     }
 }
 
-/// What is behind the first guard that is TRUE.
+/// The process behind the first guard that is TRUE.
 #[cycle(process)]
 fn first_true<'t, 'a>(
     alloc: Global,
@@ -203,7 +203,7 @@ fn first_true<'t, 'a>(
     }
 }
 
-/// What stands behind a declaration, with the names and the numbers that it takes.
+/// The process behind a declaration, with the names and the numbers that it takes.
 #[cycle(process)]
 fn declared<'t, 'a>(
     alloc: Global,
@@ -294,7 +294,7 @@ fn declared<'t, 'a>(
     }
 }
 
-/// What stands behind another name for an array, or one for a table.
+/// The process behind another name for an array, or one for a table.
 #[cycle(process)]
 fn array_declared<'t, 'a>(
     alloc: Global,
@@ -315,7 +315,7 @@ fn array_declared<'t, 'a>(
     process(alloc, &within, d, rest, room - 1)
 }
 
-/// What stands behind the declaration of a PROC.
+/// The process behind the declaration of a PROC.
 #[cycle(process)]
 fn procedure_declared<'t, 'a>(
     alloc: Global,
@@ -339,7 +339,7 @@ fn procedure_declared<'t, 'a>(
     process(alloc, &within, d, rest, room - 1)
 }
 
-/// What stands behind the declaration of a FUNCTION.
+/// The process behind the declaration of a FUNCTION.
 #[cycle(process)]
 fn function_declared<'t, 'a>(
     alloc: Global,
@@ -526,7 +526,7 @@ fn entered<'t, 'a>(
     }
 }
 
-/// What is behind the constants that a word is one of, or behind ELSE.
+/// The process behind the constants that a word is one of, or behind ELSE.
 #[cycle(process)]
 fn case<'t, 'a>(
     alloc: Global,
@@ -554,7 +554,7 @@ fn case<'t, 'a>(
     Ok(Process::passed_to(alloc, None, d, passed, body)?)
 }
 
-/// What is behind ELSE, or STOP.
+/// The process behind ELSE, or STOP.
 #[cycle(process)]
 fn otherwise<'t, 'a>(
     alloc: Global,
@@ -580,7 +580,7 @@ fn otherwise<'t, 'a>(
     }
 }
 
-/// What is behind the constants that a word is one of, or the other.
+/// The process behind the constants that a word is one of, or the other.
 #[cycle(process)]
 fn selected<'t, 'a>(
     alloc: Global,

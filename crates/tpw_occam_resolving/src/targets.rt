@@ -16,14 +16,14 @@ use tpw_occam_names::{Fault, Meaning, Scope, Shape, Storage, View, element_type,
 use tpw_occam_scoped::{Assignment, Process, Target, Value, assigning, no_assignments};
 use tpw_occam_terms::{Name, Primitive};
 
-/// What is assigned to, of a type.
+/// The target of an assignment, of a type.
 #[derive(Drop)]
 pub struct Typed {
     pub of: Primitive,
     pub target: Target,
 }
 
-/// What a cell is of a type.
+/// The kind of a cell of a type.
 pub fn cell_kind(of: Primitive) -> Kind
     ensures { result ≡ text.cell_kind of }
 {
@@ -77,7 +77,7 @@ fn variable_target(of: Primitive, cell: usize) -> Typed
     }
 }
 
-/// What a name is that is assigned to.
+/// The target of an assignment that is a name.
 fn target_in(alloc: Global, scope: &Scope<'_, '_, '_>, name: Name<'_>) -> Result<Typed, Fault>
     ensures { IfOk result (λ t.
         text.target_in (found name.entry (names_of scope.now)) ≡ Some (target_made t.of t.target)) }

@@ -7,7 +7,7 @@ use std::alloc::Global;
 use tpw_occam_names::Fault;
 use tpw_occam_terms::quoted;
 
-/// What stands behind the first bytes.
+/// The rest behind the first bytes.
 fn behind(spelled: &str, width: usize) -> Result<&str, Fault>
     ensures { IfOk result (λ rest. rest.now ≡ drop width spelled.now) }
 {

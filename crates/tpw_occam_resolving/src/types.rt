@@ -60,7 +60,7 @@ fn size_in<'t, 'a>(
     }
 }
 
-/// What elements are.
+/// The kind of elements.
 pub(crate) fn kind_of(of: Primitive) -> Option<Kind>
     ensures { result ≡ values.kind_of of }
 {
@@ -71,7 +71,7 @@ pub(crate) fn kind_of(of: Primitive) -> Option<Kind>
     }
 }
 
-/// What an array of a type has to be.
+/// The shape that an array of a type has to have.
 pub fn shape<'t, 'a>(
     alloc: Global,
     scope: &Scope<'_, 't, 'a>,
@@ -101,7 +101,7 @@ pub fn is_single(sizes: &Sizes<'_>) -> bool
     matches!(sizes, Sizes::End)
 }
 
-/// How many bytes so many elements have, where they are fewer than 2 to the 32.
+/// How many bytes this many elements have, where they are fewer than 2 to the 32.
 pub fn bytes_of(kind: Kind, n: usize) -> Result<u32, Fault>
     ensures { IfOk result (λ bytes. bytes ≡ types.bytes_of kind n) }
 {
@@ -118,7 +118,7 @@ pub fn bytes_of(kind: Kind, n: usize) -> Result<u32, Fault>
     }
 }
 
-/// Whether a replicated SEQ may begin with an index and make so many turns.
+/// Whether a replicated SEQ may begin with an index and make this many turns.
 pub(crate) fn are_turns(start: u32, count: u32) -> bool
     ensures { result ≡ are_turns start count }
 {

@@ -2,7 +2,7 @@
 
 ghost use Rattle.std.specs.Prelude.{◌≡◌, false, Some, IfOk};
 ghost use Rattle.tpw_occam_core.specs.Arithmetic.{subscript};
-ghost use Rattle.tpw_occam_core.specs.Meaning.{followed};
+ghost use Rattle.tpw_occam_core.specs.Meaning.{bind};
 ghost use Rattle.tpw_occam_meaning.specs.Expressions as text;
 ghost use Rattle.tpw_occam_meaning.specs.Literals as literals;
 ghost use Rattle.tpw_occam_meaning.specs.Maybe.{and_then};
@@ -14,7 +14,7 @@ ghost use Rattle.tpw_occam_names.specs.Scopes.{names_of, view_of, word_of};
 ghost use Rattle.tpw_occam_scoped.specs.Made.{value_made};
 
 use std::alloc::Global;
-use tpw_occam_core::{checked_subscript, followed};
+use tpw_occam_core::{bind, checked_subscript};
 use tpw_occam_meaning::Expression as Tree;
 use tpw_occam_names::{
     Fault, Meaning, Scope, Storage, View, Word, character, element_at, element_type, look_up,
@@ -98,7 +98,7 @@ pub(crate) fn element(alloc: Global, view: View<'_>, i: Value) -> Result<Value, 
             Ok(Value::Varying(Expression::element(alloc, a, view.kind, i)?))
         }
         Storage::Table(table) => match i {
-            Value::Known(i) => Ok(Value::Known(followed(i, element_at(view.kind, table, i.word)))),
+            Value::Known(i) => Ok(Value::Known(bind(i, element_at(view.kind, table, i.word)))),
             Value::Varying(i) => {
                 let table = Vec::from_slice(alloc, table)?;
                 Ok(Value::Varying(Expression::listed(alloc, table, view.kind, i)?))
@@ -109,10 +109,10 @@ pub(crate) fn element(alloc: Global, view: View<'_>, i: Value) -> Result<Value, 
 
 /// A subscript, checked against a size.
 pub(crate) fn checked(alloc: Global, size: usize, i: Value) -> Result<Value, Fault>
-    ensures { IfOk result (λ r. value_made r ≡ types.of_one (λ i. followed i (subscript size)) (value_made i)) }
+    ensures { IfOk result (λ r. value_made r ≡ types.of_one (λ i. bind i (subscript size)) (value_made i)) }
 {
     match i {
-        Value::Known(i) => Ok(Value::Known(followed(i, checked_subscript(size, i.word)))),
+        Value::Known(i) => Ok(Value::Known(bind(i, checked_subscript(size, i.word)))),
         Value::Varying(i) => match u32::try_from(size) {
             Ok(size) => Ok(Value::Varying(Expression::checked(alloc, size, i)?)),
             Err(_) => Err(Fault::Wrong),

@@ -6,7 +6,7 @@ use Rattle.tpw_occam_meaning.specs.Messages.{Message}
 use Rattle.tpw_occam_meaning.specs.Names.{Word, Constant, Kept, Storage, Array, Table}
 use Rattle.tpw_occam_meaning.specs.States.{with_cell}
 use Rattle.tpw_occam_meaning.specs.Values.{Value, Known, Varying, known, at}
-use Rattle.tpw_occam_core.specs.Meaning.{followed}
+use Rattle.tpw_occam_core.specs.Meaning.{bind}
 use Rattle.tpw_occam_terms.specs.declared.name.Primitive.{Primitive}
 use Rattle.tpw_occam_scoped.specs.declared.value.Value as made
 use Rattle.tpw_occam_scoped.specs.declared.value.Value.TheVariants as value
@@ -49,7 +49,7 @@ passed_to d v body = within_value d v body
 -- .. and an expression
 abbrev pub passed_into : ℕ → Value → Value → Value
 passed_into d (Known word false) rest = rest
-passed_into d v rest = Varying (λ s. followed (at v s) (λ a. at rest (with_cell d a s)))
+passed_into d v rest = Varying (λ s. bind (at v s) (λ a. at rest (with_cell d a s)))
 
 -- what is assigned to, of a type
 abbrev pub target_made : Primitive → made_target.Target → Target

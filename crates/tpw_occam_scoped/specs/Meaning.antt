@@ -1,13 +1,13 @@
 -- What a scoped core does to the state, on which a text means what it does too.
 use Rattle.std.specs.Prelude.{ℕ, Bool, false, true, not, ◌||◌, ◌==◌, List, [], ◌∷◌, replicate, Option}
 use Rattle.std.specs.Int.{w32, to_le_bytes}
-use Rattle.tp_decode.specs.Words.{complement}
-use Rattle.tp_step.specs.Numbers.{truth}
+use Rattle.tp_words.specs.Words.{complement}
+use Rattle.tp_words.specs.Numbers.{truth}
 use Rattle.tpw_occam_core.specs.declared.arithmetic.Answer.{Answer}
 use Rattle.tpw_occam_core.specs.declared.kind.Kind.TheVariants.{Word}
-use Rattle.tpw_occam_core.specs.Arithmetic.{plain, subscript, low_byte, applied}
+use Rattle.tpw_occam_core.specs.Arithmetic.{pure, subscript, low_byte, applied}
 use Rattle.tpw_occam_core.specs.Arrays.{size, element, kept, with_element}
-use Rattle.tpw_occam_core.specs.Meaning.{followed, both, either, element_at}
+use Rattle.tpw_occam_core.specs.Meaning.{bind, both, either, element_at}
 use Rattle.tpw_occam_core.specs.Meaning.{Meant}
 use Rattle.tpw_occam_meaning.specs.States.{State, first, with_cell, with_array, flagged, stored, with_traced}
 use Rattle.tpw_occam_meaning.specs.States.{with_result, turns, chosen}
@@ -29,25 +29,25 @@ use Rattle.tpw_occam_scoped.specs.declared.process.Process.TheVariants as proces
 -- ---- expressions
 
 abbrev pub value_of : Expression → State → Answer
-value_of (Constant c) s = plain c
-value_of (Cell x) s = plain (s.cells x)
-value_of (Element' a kind p e) s = followed (value_of e s) (element_at kind (s.arrays a))
-value_of (Listed' table kind p e) s = followed (value_of e s) (element_at kind table.items)
-value_of (Checked' below p e) s = followed (value_of e s) (subscript below)
-value_of (Binary' operator p e q f) s = followed (value_of e s) (λ b. followed (value_of f s) (applied operator b))
-value_of (Complement' p e) s = followed (value_of e s) (λ a. plain (complement a))
-value_of (Not' p e) s = followed (value_of e s) (λ a. plain (truth (a == 0)))
-value_of (LowByte' p e) s = followed (value_of e s) low_byte
-value_of (And' p e q f) s = followed (value_of e s) (λ a. both a (value_of f s))
-value_of (Or' p e q f) s = followed (value_of e s) (λ a. either a (value_of f s))
-value_of (Within' x p e q f) s = followed (value_of e s) (λ a. value_of f (with_cell x a s))
+value_of (Constant c) s = pure c
+value_of (Cell x) s = pure (s.cells x)
+value_of (Element' a kind p e) s = bind (value_of e s) (element_at kind (s.arrays a))
+value_of (Listed' table kind p e) s = bind (value_of e s) (element_at kind table.items)
+value_of (Checked' below p e) s = bind (value_of e s) (subscript below)
+value_of (Binary' operator p e q f) s = bind (value_of e s) (λ b. bind (value_of f s) (applied operator b))
+value_of (Complement' p e) s = bind (value_of e s) (λ a. pure (complement a))
+value_of (Not' p e) s = bind (value_of e s) (λ a. pure (truth (a == 0)))
+value_of (LowByte' p e) s = bind (value_of e s) low_byte
+value_of (And' p e q f) s = bind (value_of e s) (λ a. both a (value_of f s))
+value_of (Or' p e q f) s = bind (value_of e s) (λ a. either a (value_of f s))
+value_of (Within' x p e q f) s = bind (value_of e s) (λ a. value_of f (with_cell x a s))
 
 -- ---- assignments
 
 -- the subscript of a target, checked; a cell has none
 abbrev pub subscript_of : Target → State → Answer
-subscript_of (target.Cell x kind) s = plain 0
-subscript_of (target.Element a kind e) s = followed (value_of e s) (subscript (size kind (s.arrays a)))
+subscript_of (target.Cell x kind) s = pure 0
+subscript_of (target.Element a kind e) s = bind (value_of e s) (subscript (size kind (s.arrays a)))
 
 -- the state in which a target, with this subscript, has a word
 abbrev pub put : Target → ℕ → ℕ → State → State
@@ -93,7 +93,7 @@ run (process.If' e p guarded q rest) s =
 run (process.Variable' name x kind p body) s = run body (with_cell x 0 s)
 run (process.Value' name x e p body) s = run body (stored x (value_of e s) s)
 run (process.Array' name a bytes p body) s = run body (with_array a (replicate bytes 0) s)
-run (process.ReceiveWord t) s = assigned t (subscript_of t s) (plain (element Word s.packet 0)) s
+run (process.ReceiveWord t) s = assigned t (subscript_of t s) (pure (element Word s.packet 0)) s
 run (process.ReceiveArray a) s = with_array a s.packet s
 run (process.Trace m) s = with_traced (bytes_of m s) (flagged (flag_of m s) s)
 run (process.Send m) s = with_result (bytes_of m s) (flagged (flag_of m s) s)

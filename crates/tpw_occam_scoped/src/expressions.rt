@@ -1,10 +1,10 @@
 //! Expressions, built of their parts. Each contract says what value is built, by those of the parts, in each state.
 
 ghost use Rattle.std.specs.Prelude.{◌≡◌, ◌==◌, IfOk};
-ghost use Rattle.tp_decode.specs.Words.{complement};
-ghost use Rattle.tp_step.specs.Numbers.{truth};
-ghost use Rattle.tpw_occam_core.specs.Arithmetic.{plain, subscript, low_byte, applied};
-ghost use Rattle.tpw_occam_core.specs.Meaning.{followed, both, either, element_at};
+ghost use Rattle.tp_words.specs.Words.{complement};
+ghost use Rattle.tp_words.specs.Numbers.{truth};
+ghost use Rattle.tpw_occam_core.specs.Arithmetic.{pure, subscript, low_byte, applied};
+ghost use Rattle.tpw_occam_core.specs.Meaning.{bind, both, either, element_at};
 ghost use Rattle.tpw_occam_meaning.specs.States.{with_cell};
 ghost use Rattle.tpw_occam_scoped.specs.Meaning.{value_of};
 
@@ -20,7 +20,7 @@ impl Expression {
         kind: Kind,
         at: Expression,
     ) -> Result<Expression, AllocError>
-        ensures { IfOk result (λ e. value_of e ≡ (λ s. followed (value_of at s) (element_at kind (s.arrays array)))) }
+        ensures { IfOk result (λ e. value_of e ≡ (λ s. bind (value_of at s) (element_at kind (s.arrays array)))) }
     {
         Ok(Expression::Element {
             array,
@@ -36,7 +36,7 @@ impl Expression {
         kind: Kind,
         at: Expression,
     ) -> Result<Expression, AllocError>
-        ensures { IfOk result (λ e. value_of e ≡ (λ s. followed (value_of at s) (element_at kind table.items))) }
+        ensures { IfOk result (λ e. value_of e ≡ (λ s. bind (value_of at s) (element_at kind table.items))) }
     {
         Ok(Expression::Listed {
             table,
@@ -47,7 +47,7 @@ impl Expression {
 
     /// A subscript, checked against a size.
     pub fn checked(alloc: Global, below: u32, at: Expression) -> Result<Expression, AllocError>
-        ensures { IfOk result (λ e. value_of e ≡ (λ s. followed (value_of at s) (subscript below))) }
+        ensures { IfOk result (λ e. value_of e ≡ (λ s. bind (value_of at s) (subscript below))) }
     {
         Ok(Expression::Checked {
             below,
@@ -63,7 +63,7 @@ impl Expression {
         right: Expression,
     ) -> Result<Expression, AllocError>
         ensures { IfOk result (λ e.
-            value_of e ≡ (λ s. followed (value_of left s) (λ b. followed (value_of right s) (applied operator b)))) }
+            value_of e ≡ (λ s. bind (value_of left s) (λ b. bind (value_of right s) (applied operator b)))) }
     {
         Ok(Expression::Binary {
             operator,
@@ -74,35 +74,35 @@ impl Expression {
 
     /// `~e`.
     pub fn complement(alloc: Global, operand: Expression) -> Result<Expression, AllocError>
-        ensures { IfOk result (λ e. value_of e ≡ (λ s. followed (value_of operand s) (λ a. plain (complement a)))) }
+        ensures { IfOk result (λ e. value_of e ≡ (λ s. bind (value_of operand s) (λ a. pure (complement a)))) }
     {
         Ok(Expression::Complement(Box::new(alloc, operand)?))
     }
 
     /// `NOT e`.
     pub fn not(alloc: Global, operand: Expression) -> Result<Expression, AllocError>
-        ensures { IfOk result (λ e. value_of e ≡ (λ s. followed (value_of operand s) (λ a. plain (truth (a == 0))))) }
+        ensures { IfOk result (λ e. value_of e ≡ (λ s. bind (value_of operand s) (λ a. pure (truth (a == 0))))) }
     {
         Ok(Expression::Not(Box::new(alloc, operand)?))
     }
 
     /// `BYTE e`.
     pub fn byte(alloc: Global, operand: Expression) -> Result<Expression, AllocError>
-        ensures { IfOk result (λ e. value_of e ≡ (λ s. followed (value_of operand s) low_byte)) }
+        ensures { IfOk result (λ e. value_of e ≡ (λ s. bind (value_of operand s) low_byte)) }
     {
         Ok(Expression::LowByte(Box::new(alloc, operand)?))
     }
 
     /// `e AND f`.
     pub fn and(alloc: Global, left: Expression, right: Expression) -> Result<Expression, AllocError>
-        ensures { IfOk result (λ e. value_of e ≡ (λ s. followed (value_of left s) (λ a. both a (value_of right s)))) }
+        ensures { IfOk result (λ e. value_of e ≡ (λ s. bind (value_of left s) (λ a. both a (value_of right s)))) }
     {
         Ok(Expression::And(Box::new(alloc, left)?, Box::new(alloc, right)?))
     }
 
     /// `e OR f`.
     pub fn or(alloc: Global, left: Expression, right: Expression) -> Result<Expression, AllocError>
-        ensures { IfOk result (λ e. value_of e ≡ (λ s. followed (value_of left s) (λ a. either a (value_of right s)))) }
+        ensures { IfOk result (λ e. value_of e ≡ (λ s. bind (value_of left s) (λ a. either a (value_of right s)))) }
     {
         Ok(Expression::Or(Box::new(alloc, left)?, Box::new(alloc, right)?))
     }
@@ -115,7 +115,7 @@ impl Expression {
         within: Expression,
     ) -> Result<Expression, AllocError>
         ensures { IfOk result (λ e.
-            value_of e ≡ (λ s. followed (value_of value s) (λ a. value_of within (with_cell cell a s)))) }
+            value_of e ≡ (λ s. bind (value_of value s) (λ a. value_of within (with_cell cell a s)))) }
     {
         Ok(Expression::Within {
             cell,

@@ -1,8 +1,8 @@
-//! Workers in occam whose names are resolved and whose calls are put in line: cells and arrays have numbers, and each is
+//! Workers in occam whose names are resolved and whose calls are inlined: cells and arrays have numbers, and each is
 //! declared where it is used. The number of what is declared is how much is declared around it.
 //!
-//! What a core does is a function on the state on which `tpw_occam_meaning` says what a text does. [`Value`] and
-//! [`Process`] are built by calls whose contracts say that in the words of the text's meaning.
+//! A core means a function on the state on which `tpw_occam_meaning` says what a text does.
+//! [`Value`] and [`Process`] are built by calls whose contracts say that in the words of the text's meaning.
 #![tactic(auto)]
 
 mod expression;

@@ -4,7 +4,7 @@ use crate::expression::Expression;
 use tpw_occam_core::Kind;
 use tpw_occam_terms::Span;
 
-/// What is assigned to.
+/// The target of an assignment.
 #[derive(Drop)]
 pub enum Target {
     /// A cell, which keeps a word or its low byte.
@@ -33,7 +33,7 @@ pub enum Bytes {
     Table(Vec<u8>),
 }
 
-/// What is sent.
+/// A message.
 #[derive(Drop)]
 pub enum Message {
     Value(Expression),
@@ -41,7 +41,8 @@ pub enum Message {
 }
 
 /// A process. A SEQ is a tree of pairs, to be built balanced, and an IF a chain: a guard, what it leads to, and the
-/// rest of the IF, which ends in STOP. Of what is declared, `name` is the place of its name in the text, which means nothing.
+/// rest of the IF, which ends in STOP. Of what is declared, `name` is the place of its name in the text, which means
+/// nothing.
 pub enum Process {
     Skip,
     Stop,

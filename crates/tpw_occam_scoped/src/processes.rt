@@ -135,7 +135,7 @@ impl Process {
         }
     }
 
-    /// A process with an array of its own, of so many bytes.
+    /// A process with an array of its own, of this many bytes.
     pub fn array(
         alloc: Global,
         name: Span,

@@ -1,7 +1,7 @@
-//! What is made of an expression: a value that is known, or an expression of the core.
+//! The value of an expression: known, or an expression of the core.
 
 ghost use Rattle.std.specs.Prelude.{◌≡◌, true, false, IfOk};
-ghost use Rattle.tpw_occam_core.specs.Meaning.{followed};
+ghost use Rattle.tpw_occam_core.specs.Meaning.{bind};
 ghost use Rattle.tpw_occam_meaning.specs.Names as text;
 ghost use Rattle.tpw_occam_meaning.specs.States.{with_cell};
 ghost use Rattle.tpw_occam_meaning.specs.Values as text_values;
@@ -94,7 +94,7 @@ fn flagged(alloc: Global, word: u32) -> Result<Expression, AllocError>
 /// A value within which another one lies in a cell.
 fn within(alloc: Global, cell: usize, value: Value, rest: Value) -> Result<Value, AllocError>
     ensures { IfOk result (λ v. value_made v ≡ text_values.Varying (λ s.
-        followed (text_values.at (value_made value) s) (λ a. text_values.at (value_made rest) (with_cell cell a s)))) }
+        bind (text_values.at (value_made value) s) (λ a. text_values.at (value_made rest) (with_cell cell a s)))) }
 {
     let value = value.expression(alloc)?;
     let rest = rest.expression(alloc)?;

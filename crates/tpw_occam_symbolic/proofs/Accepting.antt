@@ -10,10 +10,10 @@ use Rattle.tpw_asm.specs.declared.program.Program.{Program}
 use Rattle.tpw_asm.specs.Layout.{addresses_from, spelled_at, spelled_from}
 use Rattle.tpw_asm.specs.Assembly.{IsAssembly}
 use Rattle.tpw_occam_symbolic.specs.declared.code.CodeLine.{CodeLine}
-use Rattle.tpw_occam_symbolic.specs.Carried.{Site, address_of, operation_of, instr_of}
+use Rattle.tpw_occam_symbolic.specs.MatchStates.{Site, address_of, operation_of, instr_of}
 use Rattle.tpw_occam_symbolic.specs.Placing.{line_at, HasOperand}
-use Rattle.tpw_occam_symbolic.proofs.CarryingCode.{shortest_spells, first_address, parts}
-use Rattle.tpw_occam_symbolic.proofs.CarryingImage.{IsMadeOf, plain_spelling, operand_fits, line_there, code_joined, long}
+use Rattle.tpw_occam_symbolic.proofs.SimulationCode.{shortest_spells, first_address, parts}
+use Rattle.tpw_occam_symbolic.proofs.SimulationImage.{IsMadeOf, plain_spelling, operand_fits, line_there, code_joined, long}
 
 abbrev pub cut_of : Site → ℕ → CodeLine → Cut
 cut_of site place line = record { bytes = shortest (instr_of site place line.step); instr = instr_of site place line.step }

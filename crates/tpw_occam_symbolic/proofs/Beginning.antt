@@ -21,12 +21,12 @@ use Rattle.tpw_occam_symbolic.specs.declared.code.CodeLine.{CodeLine}
 use Rattle.tpw_occam_symbolic.specs.Code.{Lines}
 use Rattle.tpw_occam_symbolic.specs.Blocks.{Blocks, is_item, bytes_at}
 use Rattle.tpw_occam_symbolic.specs.Symbolic.{Machine, Leads, number}
-use Rattle.tpw_occam_symbolic.specs.Carried.{Site, base_of, operation_of}
+use Rattle.tpw_occam_symbolic.specs.MatchStates.{Site, base_of, operation_of}
 use Rattle.tpw_occam_symbolic.specs.Placing.{words_at, local_at, site_of, places, line_at, HasOperand, first_blocks, HoldsFirst, IsPlaced, IsBuilt}
-use Rattle.tpw_occam_symbolic.proofs.Carrying.{same_item}
-use Rattle.tpw_occam_symbolic.proofs.CarryingImage.{IsMadeOf, workspace_most}
-use Rattle.tpw_occam_symbolic.proofs.CarryingStart.{first_bytes, IsFirst, Gives}
-use Rattle.tpw_occam_symbolic.proofs.CarryingWhole.{site, starts_first, program_carries}
+use Rattle.tpw_occam_symbolic.proofs.Simulation.{same_item}
+use Rattle.tpw_occam_symbolic.proofs.SimulationImage.{IsMadeOf, workspace_most}
+use Rattle.tpw_occam_symbolic.proofs.SimulationStart.{first_bytes, IsFirst, Gives}
+use Rattle.tpw_occam_symbolic.proofs.SimulationWhole.{site, starts_first, program_carries}
 
 -- ---- lists
 

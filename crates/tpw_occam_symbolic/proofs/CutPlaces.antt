@@ -6,7 +6,7 @@ use Rattle.std.proofs.lemmas.Bool.Decides.{nat_tests}
 use Rattle.std.proofs.lemmas.Option.{same_Some}
 use Rattle.tp_decode.specs.Cutting.{Cut, cut_at}
 use Rattle.tpw_occam_symbolic.specs.declared.code.CodeLine.{CodeLine}
-use Rattle.tpw_occam_symbolic.specs.Carried.{Site, address_of}
+use Rattle.tpw_occam_symbolic.specs.MatchStates.{Site, address_of}
 use Rattle.tpw_occam_symbolic.proofs.Accepting.{cut_of, cuts_from, IsLaidOut}
 
 -- the element at a place of a list

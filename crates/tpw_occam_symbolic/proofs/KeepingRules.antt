@@ -23,11 +23,11 @@ use Rattle.tpw_occam_symbolic.specs.declared.code.Turns.{Turns}
 use Rattle.tpw_occam_symbolic.specs.Code.{Lines, line_of}
 use Rattle.tpw_occam_symbolic.specs.Flowing.{GoesWell, FlowsOn, Ends, AreFewAround, is_around}
 use Rattle.tpw_occam_symbolic.specs.Program.{KeepsRules, GivesRuled}
-use Rattle.tpw_occam_symbolic.specs.Carried.{Site}
+use Rattle.tpw_occam_symbolic.specs.MatchStates.{Site}
 use Rattle.tpw_occam_symbolic.specs.Placing.{words_at, site_of, places, loop_at, IsRow, IsBuilt}
 use Rattle.tpw_occam_symbolic.proofs.Flowing.{side_of}
-use Rattle.tpw_occam_symbolic.proofs.CarryingImage.{IsMadeOf, workspace_most, small}
-use Rattle.tpw_occam_symbolic.proofs.CarryingPlaces.{lies_between}
+use Rattle.tpw_occam_symbolic.proofs.SimulationImage.{IsMadeOf, workspace_most, small}
+use Rattle.tpw_occam_symbolic.proofs.SimulationPlaces.{lies_between}
 use Rattle.tpw_occam_symbolic.proofs.Beginning.{is_made_of}
 use Rattle.tpw_occam_symbolic.proofs.Accepting.{cuts_from, is_cut, laid_out}
 use Rattle.tpw_occam_symbolic.proofs.Nesting.{Way, stops, goes_on, jumps, branches, turns_back, IsInside, IsWhole, keeps_nest}

@@ -27,7 +27,7 @@ use Rattle.tpw_occam_symbolic.specs.declared.code.Step.{Step}
 use Rattle.tpw_occam_symbolic.specs.declared.code.Step.TheVariants.{Plain, Load, Store, Pointer, JumpTo, CjTo, Distance}
 use Rattle.tpw_occam_symbolic.specs.declared.code.CodeLine.{CodeLine}
 use Rattle.tpw_occam_symbolic.specs.declared.code.Turns.{Turns}
-use Rattle.tpw_occam_symbolic.specs.Carried.{Site, address_of, instr_of}
+use Rattle.tpw_occam_symbolic.specs.MatchStates.{Site, address_of, instr_of}
 use Rattle.tpw_occam_symbolic.specs.Flowing.{is_straight, is_straight_instr, KeepsTo, IsBeforeOrWithin, is_around as lies_around}
 use Rattle.tpw_occam_symbolic.proofs.Accepting.{cut_of, cuts_from, IsLaidOut}
 use Rattle.tpw_occam_symbolic.proofs.CutPlaces.{below, at_most, is_at_most, is_one, found, only, get_some}

@@ -33,7 +33,7 @@ with_bytes item at bytes blocks other k =
     if is_item item other && nat_le at k && nat_lt k (at + length bytes) then slice_index bytes (k - at)
     else blocks other k
 
--- so many bytes of an item from a place on
+-- this many bytes of an item from a place on
 unfoldable pub bytes_at : Blocks → Item → ℕ → ℕ → List ℕ
 bytes_at blocks item at zero = []
 bytes_at blocks item at (suc n) = blocks item at ∷ bytes_at blocks item (at + 1) n

@@ -1,7 +1,7 @@
 -- Code: what the steps of a worker are, one behind another.
 use Rattle.std.specs.Prelude.{ℕ, ◌+◌, Bool, nat_le, List, [], ◌∷◌, ◌++◌, length}
 use Rattle.tp_prefix.specs.Canonical.{canonical}
-use Rattle.tp_decode.specs.Words.{signed}
+use Rattle.tp_words.specs.Words.{signed}
 use Rattle.tp_decode.specs.declared.instr.Instr.TheVariants.{Lend}
 use Rattle.tpw_occam_symbolic.specs.declared.items.Item.TheVariants.{Variable}
 use Rattle.tpw_occam_symbolic.specs.declared.code.Step.{Step}

@@ -12,7 +12,7 @@ use Rattle.std.specs.Int.{w32, to_le_bytes}
 use Rattle.tpw_occam_symbolic.specs.Blocks.{bytes_at, word_at}
 use Rattle.tpw_occam_symbolic.specs.Symbolic.{Machine, Leads, at_place}
 
--- whole words of so many bytes
+-- whole words of this many bytes
 abbrev pub word_bytes : ℕ → ℕ
 word_bytes bytes = 4 * ((bytes + 3) / 4)
 
@@ -20,11 +20,11 @@ word_bytes bytes = 4 * ((bytes + 3) / 4)
 abbrev pub most_cleared : ℕ
 most_cleared = 32
 
--- the bytes that one `move` clears of an array of so many
+-- the bytes that one `move` clears of an array of this many
 abbrev pub cleared_bytes : ℕ → ℕ
 cleared_bytes bytes = if nat_le (word_bytes bytes) (4 * most_cleared) then word_bytes bytes else 4 * most_cleared
 
--- Items are large enough for what a step does with them, where arrays have so many bytes. A pointer to an array may go
+-- Items are large enough for what a step does with them, where arrays have this many bytes. A pointer to an array may go
 -- to each of its words.
 abbrev pub Serves : List ℕ → (Item → ℕ) → Step → Type 0
 Serves arrays sizes (Load item word) = 4 * word + 4 ≤ sizes item

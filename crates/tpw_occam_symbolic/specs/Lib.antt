@@ -5,5 +5,5 @@ pub mod Blocks
 pub mod Symbolic
 pub mod Leading
 pub mod Flowing
-pub mod Carried
+pub mod MatchStates
 pub mod Placing

@@ -3,7 +3,7 @@ use Rattle.std.specs.Prelude.{◌≡◌, ℕ, ◌+◌, ◌*◌, ◌<◌, ◌≤�
 use Rattle.std.specs.Prelude.{slice_index_or, None, IsTrue, pos, ◌+ℤ◌, ◌-ℤ◌, ◌≤ℤ◌}
 use Rattle.std.specs.Int.{w32, to_le_bytes}
 use mir.Val.{SFits}
-use Rattle.tp_decode.specs.Words.{signed}
+use Rattle.tp_words.specs.Words.{signed}
 use Rattle.tp_decode.specs.Table.{entry}
 use Rattle.tp_flow.specs.Limits.{most_turns, greatest_index}
 use Rattle.tpw_asm.specs.declared.program.Spot.TheVariants.{Place}
@@ -25,7 +25,7 @@ use Rattle.tpw_occam_symbolic.specs.Program.{place_bytes, message_bytes}
 use Rattle.tpw_occam_symbolic.specs.Code.{Lines}
 use Rattle.tpw_occam_symbolic.specs.Blocks.{Blocks, is_item, bytes_at}
 use Rattle.tpw_occam_symbolic.specs.Leading.{Serves, cleared_bytes}
-use Rattle.tpw_occam_symbolic.specs.Carried.{Site, operation_of}
+use Rattle.tpw_occam_symbolic.specs.MatchStates.{Site, operation_of}
 
 -- how many words an item has, and the local word that it begins with
 abbrev pub words_at : List Placed → Item → ℕ
@@ -69,7 +69,7 @@ HasOperand site (Store item word) = site.locals item + word < 2 ^ 31
 HasOperand site (Pointer item word) = site.locals item + word < 2 ^ 31
 HasOperand site step = Unit {0}
 
--- so many words are enough for the zeros of each array that may be declared
+-- this many words are enough for the zeros of each array that may be declared
 abbrev pub AreEnough : Worker → ℕ → Type 0
 AreEnough w words =
     IsTrue (are_declared w) → (a : ℕ) → IsTrue (is_new_array w.arrays.items (globals w) a)
@@ -115,7 +115,7 @@ first_blocks w (Constant c) i = slice_index (to_le_bytes w32 c) i
 first_blocks w (Array a) i = slice_index (slice_index_or (map first_bytes w.arrays.items) a []) i
 first_blocks w item i = 0
 
--- the words of an item, behind so many words of the workspace, are what the item is at first
+-- the words of an item, behind this many words of the workspace, are what the item is at first
 abbrev pub HoldsFirst : Worker → ℕ → List ℕ → Placed → Type 0
 HoldsFirst w start words one =
     (i : ℕ) → i < one.words

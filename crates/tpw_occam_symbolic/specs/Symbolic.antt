@@ -8,18 +8,18 @@ use Rattle.std.specs.Prelude.{if◌then◌else◌, pos, ◌+ℤ◌, ◌-ℤ◌, 
 use Rattle.std.specs.Prelude.{slice_get}
 use Rattle.std.specs.Prelude.{Option, Some, None}
 use Rattle.std.specs.Ordering.{int_eq}
-use Rattle.tp_decode.specs.Words.{signed, low_word, complement}
+use Rattle.tp_words.specs.Words.{signed, low_word, complement}
 use Rattle.tp_decode.specs.declared.instr.Instr.{Instr}
 use Rattle.tp_decode.specs.declared.instr.Instr.TheVariants.{Ldnl, Ldc, Adc, Eqc, Stnl, Rev, Lb, Bsub, Diff, Add, Input}
 use Rattle.tp_decode.specs.declared.instr.Instr.TheVariants.{Prod, Gt, Wsub, Output, Sub, Seterr, Csub0, Stopp, Rem}
 use Rattle.tp_decode.specs.declared.instr.Instr.TheVariants.{Lend, Div, BitNot, BitXor, Sb, Shr, Shl, BitAnd, MoveBytes}
 use Rattle.tp_decode.specs.declared.instr.Instr.TheVariants.{BitOr, Sum, Mul}
 use Rattle.tp_step.specs.Maybe.{◌>>=◌, ◌>>◌, only_if}
-use Rattle.tp_step.specs.Numbers.{truth}
+use Rattle.tp_words.specs.Numbers.{truth}
 use Rattle.tp_step.specs.Effects.{link0_output, link1_output, link0_input}
 use Rattle.tpw_occam_core.specs.declared.arithmetic.Answer.{Answer}
 use Rattle.tpw_occam_core.specs.declared.expression.Operator.TheVariants as operator
-use Rattle.tpw_occam_core.specs.Arithmetic.{plain, checked, applied}
+use Rattle.tpw_occam_core.specs.Arithmetic.{pure, checked, applied}
 use Rattle.tpw_occam_symbolic.specs.declared.items.Item.{Item}
 use Rattle.tpw_occam_symbolic.specs.declared.code.Step.{Step}
 use Rattle.tpw_occam_symbolic.specs.declared.code.Step.TheVariants.{Plain, Load, Store, Pointer, JumpTo, CjTo, Distance}
@@ -90,7 +90,7 @@ abbrev pub distance_to : ℕ → Contents → Option ℕ
 distance_to place (distance from to) = if to == place then Some from else None
 distance_to place c = None
 
--- so many bytes of an item, from a place on, are there
+-- this many bytes of an item, from a place on, are there
 abbrev pub has_bytes : Machine → Item → ℕ → ℕ → Bool
 has_bytes m item at n = nat_le (at + n) (m.sizes item)
 
@@ -100,7 +100,7 @@ has_bytes m item at n = nat_le (at + n) (m.sizes item)
 abbrev pub shifted : ℕ → ℕ → Option Answer
 shifted a word = do
   only_if (nat_lt a 32)
-  Some (plain word)
+  Some (pure word)
 
 -- what is made of two numbers: b in Breg and a in Areg
 abbrev pub pair_answer : Instr → (b a : ℕ) → Option Answer

@@ -105,7 +105,7 @@ fn check_words(worker: &Worker, placed: &[Placed], words: &[u32]) -> Result<(), 
     Ok(())
 }
 
-/// What items are at first.
+/// Puts the first contents of items into words.
 fn put_items(worker: &Worker, placed: &[Placed], words: &mut [u32]) {
     for place in placed {
         match place.item {

@@ -1,4 +1,4 @@
-//! What has words of the workspace.
+//! Items: what has words of the workspace.
 
 ghost use Rattle.std.specs.Prelude.{◌≡◌};
 ghost use Rattle.tpw_occam_symbolic.specs.Blocks.{sort_of, number_of, is_item};
@@ -7,12 +7,12 @@ ghost use Rattle.tpw_occam_symbolic.specs.Blocks.{sort_of, number_of, is_item};
 /// and messages.
 pub const START: u32 = 5;
 
-/// What has words of the workspace.
+/// An item: what has words of the workspace.
 #[derive(Clone, Copy, Debug, PartialEq, Eq)]
 pub enum Item {
     /// A variable, by its number; as the index of a loop it has the count behind it.
     Variable(usize),
-    /// What is kept while another operand is evaluated, by how many are kept already.
+    /// An operand that is kept while another is evaluated, by how many are kept already.
     Temporary(usize),
     /// A constant, which is an initial word.
     Constant(u32),
@@ -22,7 +22,7 @@ pub enum Item {
     Zeros,
 }
 
-/// What an item is.
+/// The sort of an item.
 fn sort(item: Item) -> u32
     ensures { result ≡ sort_of item }
 {

@@ -5,7 +5,7 @@ use std::alloc::{AllocError, Global};
 use tp_image::Version;
 use tpw_asm::{AssemblyFault, Line, Operation, Program, addresses};
 
-/// An operation whose places lie before so many lines.
+/// An operation whose places lie before this many lines.
 fn within(operation: Operation, count: usize) -> Operation {
     match operation {
         Operation::Plain(instr) => Operation::Plain(instr),
@@ -18,7 +18,7 @@ fn within(operation: Operation, count: usize) -> Operation {
     }
 }
 
-/// The first so many lines, whose jumps go no further.
+/// The first this many lines, whose jumps go no further.
 fn front(alloc: Global, lines: &[Line], count: usize) -> Result<Vec<Line>, AllocError> {
     let mut front = Vec::with_capacity(alloc, count)?;
     for line in lines.iter().take(count) {
@@ -33,7 +33,7 @@ fn front(alloc: Global, lines: &[Line], count: usize) -> Result<Vec<Line>, Alloc
     Ok(front)
 }
 
-/// Whether the first so many lines are short enough.
+/// Whether the first this many lines are short enough.
 fn fits(alloc: Global, lines: &[Line], count: usize) -> Result<bool, CodeFault> {
     let program = Program {
         version: Version::Two,

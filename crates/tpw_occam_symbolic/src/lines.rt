@@ -2,7 +2,7 @@
 
 ghost use Rattle.std.specs.Prelude.{◌≡◌, ◌+◌, ◌<◌, ◌≤◌, ◌^◌, pos, true, map, All, IfOk, OnOk};
 ghost use Rattle.tpw_occam_symbolic.specs.declared.code.Step.TheVariants.{Pointer};
-ghost use Rattle.tpw_occam_symbolic.specs.Carried.{operation_of};
+ghost use Rattle.tpw_occam_symbolic.specs.MatchStates.{operation_of};
 ghost use Rattle.tpw_occam_symbolic.specs.Placing.{words_at, local_at, places, line_at, HasOperand, IsServed, IsPlaced};
 ghost use Rattle.tpw_occam_symbolic.specs.Placing.{loop_at, AreTurns, IsRow};
 
@@ -22,7 +22,7 @@ const MAX_LOCAL: u32 = 0x4000_0000;
 /// The most turns of a loop.
 const MAX_TURNS: u32 = 10_000;
 
-/// The local word of an item's word. The item is placed and has so many words, as `words_of` of `uses` has it.
+/// The local word of an item's word. The item is placed and has this many words, as `words_of` of `uses` has it.
 fn local_word(placed: &[Placed], item: Item, words: u32, word: u32) -> Result<i32, CodeFault>
     ensures word { IfOk result (λ local. local ≡ pos (local_at placed.now item + word)) }
     ensures small { OnOk result (local_at placed.now item + word < 2 ^ 31) }

@@ -1,4 +1,4 @@
-//! What the words of the workspace are used for.
+//! The uses of the words of the workspace.
 
 ghost use Rattle.std.specs.Prelude.{◌≡◌, ◌<◌, ◌≤◌, ◌*◌, ◌^◌, map, slice_index};
 ghost use Rattle.std.specs.List.{list_any};
@@ -84,7 +84,7 @@ fn words_of(worker: &Worker, loops: &[Turns], item: Item) -> u32 {
     }
 }
 
-/// What a use at a place counts for: more in each loop around it.
+/// The weight of a use at a place: more in each loop around it.
 fn weight_at(loops: &[Turns], place: usize) -> u32 {
     let mut weight = 1u32;
     for turns in loops {
@@ -118,7 +118,7 @@ fn used_by(worker: &Worker, loops: &[Turns], place: usize, line: CodeLine) -> Op
     })
 }
 
-/// What code uses, in the order of first uses.
+/// The uses of items in a code, in the order of first uses.
 pub(crate) fn uses_of(
     alloc: Global,
     worker: &Worker,

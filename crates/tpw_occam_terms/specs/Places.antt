@@ -18,7 +18,7 @@ line_after bytes = fold line_behind 1 bytes
 abbrev pub column_after : List ℕ → ℕ
 column_after bytes = fold column_behind 1 bytes
 
--- behind so many bytes of a text stand this line and this column
+-- behind this many bytes of a text stand this line and this column
 pub record IsReached (text : List ℕ) (bytes line column : ℕ) : Type 0 where
   pub in_text : bytes ≤ length text
   pub at_line : line_after (take bytes text) ≡ line

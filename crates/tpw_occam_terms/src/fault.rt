@@ -1,10 +1,10 @@
-//! What is wrong with a text.
+//! The faults of a text.
 
 use crate::span::Span;
 use crate::unsupported::Unsupported;
 use std::fmt;
 
-/// What is wanted at a place, where something else stands or nothing.
+/// The part that is wanted at a place, where something else is there or nothing.
 #[derive(Clone, Copy, Debug, PartialEq, Eq)]
 pub enum Wanted {
     Expression,
@@ -133,7 +133,7 @@ impl fmt::Display for Wanted {
     }
 }
 
-/// What is wrong.
+/// The kind of a fault.
 #[derive(Clone, Copy, Debug, PartialEq, Eq)]
 pub enum FaultKind {
     /// A tab.
@@ -164,13 +164,13 @@ pub enum FaultKind {
     OpenText,
     /// `*` and a letter that mean nothing.
     BadEscape,
-    /// What is no ASCII, within quotes.
+    /// A byte that is no ASCII, within quotes.
     NotAscii,
     /// A bracket that is not closed in its line.
     Unclosed,
     /// A bracket that closes none, or another kind.
     Unopened,
-    /// What occam has, and workers have not.
+    /// A part of occam that workers have not.
     Unsupported(Unsupported),
     /// Something else is wanted here.
     Wanted(Wanted),

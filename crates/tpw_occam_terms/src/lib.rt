@@ -1,4 +1,4 @@
-//! What all passes over a text in occam share: names and types, places in the text, what is spelled between quotes, and
+//! The vocabulary of all passes over a text in occam: names and types, places in the text, spellings between quotes, and
 //! what may be wrong with how a text is written.
 #![tactic(auto)]
 

@@ -84,7 +84,7 @@ fn reach(text: &[u8], from: Reached, span: Span) -> Reached
     }
 }
 
-/// How many bytes of one line stand from a place on, at most so many.
+/// How many bytes of one line stand from a place on, at most this many.
 fn width_at(text: &[u8], from: Reached, most: usize) -> usize
     requires { IsReached text.now from.bytes from.line from.column }
     ensures reached { IsReached text.now (from.bytes + result) from.line (from.column + result) }
@@ -99,7 +99,7 @@ fn width_at(text: &[u8], from: Reached, most: usize) -> usize
     text.len() - from.bytes
 }
 
-/// So many bytes from a place on, or those up to its line's end.
+/// This many bytes from a place on, or those up to its line's end.
 fn stretch(text: &[u8], from: Reached, most: usize) -> Span
     requires { IsReached text.now from.bytes from.line from.column }
     ensures placed { LiesIn text.now result }

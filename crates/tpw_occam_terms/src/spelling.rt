@@ -1,4 +1,4 @@
-//! What is spelled between quotes.
+//! Spellings between quotes.
 
 ghost use Rattle.std.specs.Prelude.{◌≡◌, ◌<◌, ◌≤◌, IfOk, IfSome, IfNone, is_some, length, drop, option_map};
 ghost use Rattle.tpw_occam_terms.specs.Spelling.{digit, hexadecimal, letter, escaped, front, Spells};

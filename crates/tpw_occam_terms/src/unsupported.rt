@@ -1,8 +1,8 @@
-//! What occam has, and workers have not.
+//! The parts of occam that workers have not.
 
 use std::fmt;
 
-/// What occam has, and this language has not.
+/// A part of occam that this language has not.
 #[derive(Clone, Copy, Debug, PartialEq, Eq)]
 pub enum Unsupported {
     /// `WHILE`

@@ -6,13 +6,13 @@ use crate::limits::levels_within;
 use crate::operators::checked;
 use crate::signatures::{Callee, Form, Signature};
 use crate::trees::{bare, name_alone, span_of};
-use crate::value::{Root, Value, Worth};
-use tpw_occam_faults::{FaultKind, Role, Stop};
+use crate::value::{Constness, Root, Value};
+use tpw_occam_faults::{FaultKind, Interrupt, Use};
 use tpw_occam_meaning::{Expression as Tree, Expressions};
 use tpw_occam_names::element_type;
 use tpw_occam_terms::{Name, Primitive, Span};
 
-/// What a parameter stands for, and whether a name is bound around the body for it.
+/// The binding of a parameter, and whether a name is bound around the body for it.
 #[derive(Clone, Copy)]
 pub(crate) struct Passed<'t, 'a> {
     meaning: Meaning<'t, 'a>,
@@ -39,8 +39,8 @@ fn alias<'t, 'a>(meaning: Meaning<'t, 'a>) -> Passed<'t, 'a> {
 /// A parameter that stands for a value: a constant, a name that has it already, or a name that is bound to it.
 fn passed_value<'t, 'a>(value: Value, fixed: Option<Meaning<'t, 'a>>) -> Passed<'t, 'a> {
     let of = value.of;
-    match (value.worth, fixed) {
-        (Worth::Constant(word), _) => alias(Meaning::Constant { of, word }),
+    match (value.constness, fixed) {
+        (Constness::Constant(word), _) => alias(Meaning::Constant { of, word }),
         (_, Some(meaning)) => alias(meaning),
         (_, None) => Passed {
             meaning: Meaning::Value {
@@ -60,7 +60,7 @@ impl<'t, 'a> Checker<'t, 'a> {
         entry: Entry<'t, 'a>,
         signature: Signature,
         found: usize,
-    ) -> Result<(), Stop> {
+    ) -> Result<(), Interrupt> {
         if signature.count == found {
             return Ok(());
         }
@@ -73,7 +73,7 @@ impl<'t, 'a> Checker<'t, 'a> {
         Err(self.fault(name.span, kind))
     }
 
-    /// What a parameter stands for whose argument is a name with a value that stays the same while the body is
+    /// The binding of a parameter whose argument is a name with a value that stays the same while the body is
     /// evaluated: one that is given its value once, or a variable where the body is an expression.
     fn fixed(&self, scope: Scope, e: &Tree<'a>, callee: Callee) -> Option<Meaning<'t, 'a>> {
         let name = name_alone(e)?;
@@ -101,7 +101,7 @@ impl<'t, 'a> Checker<'t, 'a> {
         scope: Scope,
         e: &Tree<'a>,
         view: View,
-    ) -> Result<Passed<'t, 'a>, Stop> {
+    ) -> Result<Passed<'t, 'a>, Interrupt> {
         let Some(name) = name_alone(e) else {
             return Err(self.fault(span_of(e), FaultKind::VariableWanted));
         };
@@ -116,7 +116,7 @@ impl<'t, 'a> Checker<'t, 'a> {
         scope: Scope,
         name: Name<'a>,
         wanted: Protocol,
-    ) -> Result<Passed<'t, 'a>, Stop> {
+    ) -> Result<Passed<'t, 'a>, Interrupt> {
         let (channel, protocol) = self.channel_of(scope, name)?;
         if channel != Channel::Traces {
             return Err(self.fault(name.span, FaultKind::NoTraces));
@@ -138,7 +138,7 @@ impl<'t, 'a> Checker<'t, 'a> {
         scope: Scope,
         e: &'t Tree<'a>,
         wanted: Protocol,
-    ) -> Result<Passed<'t, 'a>, Stop> {
+    ) -> Result<Passed<'t, 'a>, Interrupt> {
         match bare(e) {
             Tree::Name(name) => self.traces(scope, *name, wanted),
             Tree::Channel { name, .. } => self.traces(scope, *name, wanted),
@@ -153,7 +153,7 @@ impl<'t, 'a> Checker<'t, 'a> {
         found: Primitive,
         wanted: Primitive,
         span: Span,
-    ) -> Result<(), Stop> {
+    ) -> Result<(), Interrupt> {
         if found == wanted {
             return Ok(());
         }
@@ -171,7 +171,7 @@ impl<'t, 'a> Checker<'t, 'a> {
         scope: Scope,
         name: Name<'a>,
         wanted: Primitive,
-    ) -> Result<Passed<'t, 'a>, Stop> {
+    ) -> Result<Passed<'t, 'a>, Interrupt> {
         let entry = self.find(scope, name)?;
         let found = match entry.meaning {
             Meaning::Variable { of, variable } => {
@@ -179,14 +179,14 @@ impl<'t, 'a> Checker<'t, 'a> {
                 of
             }
             Meaning::Element { of, .. } => of,
-            _ => return Err(self.not_a(name, entry, Role::Variable)),
+            _ => return Err(self.not_a(name, entry, Use::Variable)),
         };
         self.check_type(Some(name.text), found, wanted, name.span)?;
         Ok(alias(entry.meaning))
     }
 
     /// A parameter that is another name for an element, whose subscript is worked out at the call.
-    fn passed_element(&mut self, view: View, subscript: Worth, span: Span) -> Passed<'t, 'a> {
+    fn passed_element(&mut self, view: View, subscript: Constness, span: Span) -> Passed<'t, 'a> {
         self.cells.write_array(view.storage);
         let subscript = checked(view.elements, subscript, span);
         Passed {
@@ -194,7 +194,7 @@ impl<'t, 'a> Checker<'t, 'a> {
                 storage: view.storage,
                 of: element_type(view.kind),
             },
-            is_bound: !matches!(subscript, Worth::Constant(_)),
+            is_bound: !matches!(subscript, Constness::Constant(_)),
         }
     }
 
@@ -207,14 +207,14 @@ impl<'t, 'a> Checker<'t, 'a> {
         array: Name<'a>,
         subscript: &'t Tree<'a>,
         depth: u32,
-    ) -> Result<Passed<'t, 'a>, Stop> {
+    ) -> Result<Passed<'t, 'a>, Interrupt> {
         let place = self.subscript_at(subscript);
         let view = self.written_view(frame.scope, array);
         let subscript = self.expression(frame, subscript, Some(Primitive::Int), depth);
         let (view, subscript) = (view?, subscript?);
-        self.check_subscript(array, view, subscript.worth, place)?;
+        self.check_subscript(array, view, subscript.constness, place)?;
         self.check_type(Some(array.text), element_type(view.kind), of, array.span)?;
-        Ok(self.passed_element(view, subscript.worth, array.span))
+        Ok(self.passed_element(view, subscript.constness, array.span))
     }
 
     /// A parameter that is another name for a variable or an element.
@@ -225,7 +225,7 @@ impl<'t, 'a> Checker<'t, 'a> {
         of: Primitive,
         e: &'t Tree<'a>,
         depth: u32,
-    ) -> Result<Passed<'t, 'a>, Stop> {
+    ) -> Result<Passed<'t, 'a>, Interrupt> {
         match bare(e) {
             Tree::Name(name) => self.passed_variable(frame.scope, *name, of),
             Tree::Element {
@@ -237,13 +237,13 @@ impl<'t, 'a> Checker<'t, 'a> {
                 self.element_reference(frame, of, array, subscript, depth)
             }
             Tree::Channel { name, .. } => {
-                Err(self.no_channel(frame.scope, *name, Role::Variable))
+                Err(self.no_channel(frame.scope, *name, Use::Variable))
             }
             other => { Err(self.fault(span_of(other), FaultKind::VariableWanted)) }
         }
     }
 
-    /// What a parameter stands for where this is its argument.
+    /// The binding of a parameter where this is its argument.
     #[cycle(expressions)]
     fn passed(
         &mut self,
@@ -252,7 +252,7 @@ impl<'t, 'a> Checker<'t, 'a> {
         e: &'t Tree<'a>,
         callee: Callee,
         depth: u32,
-    ) -> Result<Passed<'t, 'a>, Stop> {
+    ) -> Result<Passed<'t, 'a>, Interrupt> {
         match form {
             Form::Value(of) => {
                 let value = self.expression(frame, e, Some(of), depth)?;
@@ -276,12 +276,12 @@ impl<'t, 'a> Checker<'t, 'a> {
     fn with_argument(
         &mut self,
         name: Name<'a>,
-        passed: Result<Passed<'t, 'a>, Stop>,
+        passed: Result<Passed<'t, 'a>, Interrupt>,
         bound: Bound,
-    ) -> Result<Bound, Stop> {
+    ) -> Result<Bound, Interrupt> {
         let (passed, is_right) = match passed {
             Ok(passed) => (passed, true),
-            Err(Stop::Reported) => (alias(Meaning::Wrong), false),
+            Err(Interrupt::Reported) => (alias(Meaning::Wrong), false),
             Err(stop) => return Err(stop),
         };
         Ok(Bound {
@@ -300,7 +300,7 @@ impl<'t, 'a> Checker<'t, 'a> {
         arguments: &'t Expressions<'a>,
         scope: Scope,
         depth: u32,
-    ) -> Result<Bound, Stop> {
+    ) -> Result<Bound, Interrupt> {
         let mut bound = Bound {
             scope,
             names: 0,

@@ -77,4 +77,14 @@ impl<'a> Cells<'a> {
         let cell = self.cells.get(at)?;
         if cell.is_read { None } else { Some(cell.name) }
     }
+
+    /// The name of one that is read, and never written to.
+    pub fn unwritten(&self, at: usize) -> Option<Name<'a>> {
+        let cell = self.cells.get(at)?;
+        if cell.is_read && !cell.is_written {
+            Some(cell.name)
+        } else {
+            None
+        }
+    }
 }

@@ -1,4 +1,4 @@
-//! What is known while a text is checked.
+//! The state of a check.
 
 use crate::cells::Cells;
 use crate::environment::{Environment, Meaning, Scope};
@@ -6,7 +6,7 @@ use crate::limits::{MAX_CALLS, MAX_IN_LINE};
 use crate::per_call::PerCall;
 use crate::signatures::{Parameter, Signature};
 use std::alloc::{AllocError, Global};
-use tpw_occam_faults::{FaultKind, Findings, Limit, NoteKind, Stop};
+use tpw_occam_faults::{FaultKind, Findings, Interrupt, Limit, NoteKind};
 use tpw_occam_terms::{Name, Span};
 
 /// The names in scope, and how many calls may still lie within one another.
@@ -39,6 +39,8 @@ pub struct Checker<'t, 'a> {
     pub findings: Findings<'a>,
     pub cells: Cells<'a>,
     pub per_call: PerCall,
+    /// The bytes that are traced at the least up to here.
+    pub traced: u64,
     pub(crate) environment: Environment<'t, 'a>,
     /// The parameters of all PROCs and FUNCTIONs.
     pub(crate) parameters: Vec<Parameter<'a>>,
@@ -55,6 +57,7 @@ impl<'t, 'a> Checker<'t, 'a> {
             findings: Findings::new(alloc),
             cells: Cells::new(alloc),
             per_call: PerCall::new(alloc),
+            traced: 0,
             environment: Environment::new(alloc),
             parameters: Vec::new(alloc),
             tables: Vec::new(alloc),
@@ -63,18 +66,18 @@ impl<'t, 'a> Checker<'t, 'a> {
     }
 
     /// Reports what is wrong; returns why no more is made of it.
-    pub fn fault(&mut self, span: Span, kind: FaultKind<'a>) -> Stop {
+    pub fn fault(&mut self, span: Span, kind: FaultKind<'a>) -> Interrupt {
         match self.findings.report(span, kind) {
-            Ok(()) => Stop::Reported,
+            Ok(()) => Interrupt::Reported,
             Err(stop) => stop,
         }
     }
 
     /// Counts an expression or a process.
-    pub fn count(&mut self, span: Span) -> Result<(), Stop> {
+    pub fn count(&mut self, span: Span) -> Result<(), Interrupt> {
         if self.left == 0 {
             self.findings.report(span, FaultKind::Limit(Limit::InLine))?;
-            return Err(Stop::Ended);
+            return Err(Interrupt::Ended);
         }
         self.left -= 1;
         Ok(())
@@ -116,31 +119,35 @@ impl<'t, 'a> Checker<'t, 'a> {
         Ok(count)
     }
 
-    /// Notes each variable and array that is never read.
-    pub fn note_unread(&mut self) -> Result<(), AllocError> {
+    /// Notes each variable and array that is never read, or that is read and never written to.
+    pub fn note_cells(&mut self) -> Result<(), AllocError> {
         for at in 0..self.cells.count() {
             if let Some(name) = self.cells.unread(at) {
                 self.findings
                     .note(name.span, NoteKind::NeverRead { name: name.text })?;
+            }
+            if let Some(name) = self.cells.unwritten(at) {
+                self.findings
+                    .note(name.span, NoteKind::NeverWritten { name: name.text })?;
             }
         }
         Ok(())
     }
 }
 
-/// What was made, or what stands for it where the fault is reported.
-pub fn or_else<T: Drop>(made: Result<T, Stop>, other: T) -> Result<T, Stop> {
+/// The value that was made, or another where its fault is reported.
+pub fn or_else<T: Drop>(made: Result<T, Interrupt>, other: T) -> Result<T, Interrupt> {
     match made {
-        Err(Stop::Reported) => Ok(other),
+        Err(Interrupt::Reported) => Ok(other),
         made => made,
     }
 }
 
-/// What was made; nothing where the fault is reported.
-pub fn recovered<T: Drop>(made: Result<T, Stop>) -> Result<Option<T>, Stop> {
+/// The value that was made; nothing where its fault is reported.
+pub fn recovered<T: Drop>(made: Result<T, Interrupt>) -> Result<Option<T>, Interrupt> {
     match made {
         Ok(made) => Ok(Some(made)),
-        Err(Stop::Reported) => Ok(None),
+        Err(Interrupt::Reported) => Ok(None),
         Err(stop) => Err(stop),
     }
 }

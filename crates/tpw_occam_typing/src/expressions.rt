@@ -1,16 +1,17 @@
 //! Expressions.
 //!
-//! `depth` counts down with each expression that lies within another, calls in line among them.
+//! `depth` counts down with each expression that lies within another, inlined calls among them.
 
 use crate::checker::{Checker, Frame};
 use crate::environment::{Meaning, Scope, Storage, View};
+use crate::flags::decides;
 use crate::limits::levels_within;
 use crate::operators::{is_order, low_byte, of_one, of_two, operand_of, operands_of};
 use crate::subscripts::Subscript;
 use crate::trees::{bare, count_of, is_number, name_of, span_of};
-use crate::value::{Root, Value, Worth, answered, computed, constant};
+use crate::value::{Constness, Root, Value, answered, computed, constant};
 use crate::words::{MOST_NEGATIVE, MOST_POSITIVE};
-use tpw_occam_faults::{FaultKind, Limit, Role, Stop};
+use tpw_occam_faults::{FaultKind, Interrupt, Limit, Use};
 use tpw_occam_meaning::{Dyadic, Expression as Tree, Expressions, Monadic};
 use tpw_occam_names::{character, element_at, element_type, number};
 use tpw_occam_terms::{FaultKind as Misread, Name, Primitive, Span};
@@ -22,7 +23,7 @@ impl<'t, 'a> Checker<'t, 'a> {
         spelled: &str,
         wanted: Option<Primitive>,
         span: Span,
-    ) -> Result<Value, Stop> {
+    ) -> Result<Value, Interrupt> {
         let Some(value) = number(spelled) else {
             return Err(self.fault(span, FaultKind::Syntax(Misread::BigNumber)));
         };
@@ -34,7 +35,7 @@ impl<'t, 'a> Checker<'t, 'a> {
     }
 
     /// A character.
-    fn character(&mut self, spelled: &str, span: Span) -> Result<Value, Stop> {
+    fn character(&mut self, spelled: &str, span: Span) -> Result<Value, Interrupt> {
         match character(spelled) {
             Some(value) => Ok(constant(Primitive::Byte, value)),
             None => Err(self.fault(span, FaultKind::Syntax(Misread::BadCharacter))),
@@ -47,7 +48,7 @@ impl<'t, 'a> Checker<'t, 'a> {
         scope: Scope,
         e: &'t Tree<'a>,
         wanted: Option<Primitive>,
-    ) -> Result<Value, Stop> {
+    ) -> Result<Value, Interrupt> {
         match e {
             Tree::Number { spelled, span } => self.number(spelled, wanted, *span),
             Tree::Character { spelled, span } => self.character(spelled, *span),
@@ -60,8 +61,8 @@ impl<'t, 'a> Checker<'t, 'a> {
             Tree::Text { span, .. } => Err(self.fault(*span, FaultKind::TableHere)),
             Tree::Table { span, .. } => Err(self.fault(*span, FaultKind::TableHere)),
             Tree::Name(name) => self.value_of(scope, *name),
-            Tree::Channel { name, .. } => Err(self.no_channel(scope, *name, Role::Value)),
-            _ => Err(Stop::Reported),
+            Tree::Channel { name, .. } => Err(self.no_channel(scope, *name, Use::Value)),
+            _ => Err(Interrupt::Reported),
         }
     }
 
@@ -73,7 +74,7 @@ impl<'t, 'a> Checker<'t, 'a> {
         e: &'t Tree<'a>,
         wanted: Option<Primitive>,
         depth: u32,
-    ) -> Result<Value, Stop> {
+    ) -> Result<Value, Interrupt> {
         let e = bare(e);
         self.count(span_of(e))?;
         if depth == 0 {
@@ -86,7 +87,7 @@ impl<'t, 'a> Checker<'t, 'a> {
         Ok(value)
     }
 
-    /// What is made of an expression, whichever type is wanted: a number alone takes it.
+    /// The value of an expression, whichever type is wanted: a number alone takes it.
     #[cycle(expressions)]
     fn made(
         &mut self,
@@ -94,7 +95,7 @@ impl<'t, 'a> Checker<'t, 'a> {
         e: &'t Tree<'a>,
         wanted: Option<Primitive>,
         depth: u32,
-    ) -> Result<Value, Stop> {
+    ) -> Result<Value, Interrupt> {
         match e {
             Tree::Element {
                 array,
@@ -128,20 +129,20 @@ impl<'t, 'a> Checker<'t, 'a> {
         }
     }
 
-    /// What an operator makes of its one operand.
-    fn applied(&mut self, operator: Monadic, e: Value, span: Span) -> Result<Value, Stop> {
+    /// The value of an operator on its one operand.
+    fn applied(&mut self, operator: Monadic, e: Value, span: Span) -> Result<Value, Interrupt> {
         match operator {
             Monadic::Convert(to) => self.converted(to, e, span),
-            other => Ok(of_one(other, e, span)),
+            other => self.noted_one(of_one(other, e, span), span),
         }
     }
 
     /// A value of one type made of one of another.
-    fn converted(&mut self, to: Primitive, e: Value, span: Span) -> Result<Value, Stop> {
+    fn converted(&mut self, to: Primitive, e: Value, span: Span) -> Result<Value, Interrupt> {
         match (e.of, to) {
             (Primitive::Bool, Primitive::Int | Primitive::Byte) => Ok(Value { of: to, ..e }),
             (Primitive::Byte, Primitive::Int) => Ok(Value { of: to, ..e }),
-            (Primitive::Int, Primitive::Byte) => Ok(low_byte(e, span)),
+            (Primitive::Int, Primitive::Byte) => self.noted_byte(e, low_byte(e, span), span),
             (from, to) => Err(self.fault(span, FaultKind::Conversion { from, to })),
         }
     }
@@ -155,7 +156,7 @@ impl<'t, 'a> Checker<'t, 'a> {
         operands: (&'t Tree<'a>, &'t Tree<'a>),
         span: Span,
         depth: u32,
-    ) -> Result<Value, Stop> {
+    ) -> Result<Value, Interrupt> {
         let (left, right) = operands;
         if is_number(left) {
             let turned = self.operands(frame, operator, right, left, depth)?;
@@ -175,44 +176,49 @@ impl<'t, 'a> Checker<'t, 'a> {
         one: &'t Tree<'a>,
         other: &'t Tree<'a>,
         depth: u32,
-    ) -> Result<(Value, Value), Stop> {
+    ) -> Result<(Value, Value), Interrupt> {
         let wanted = operands_of(operator);
         match self.expression(frame, one, wanted, depth) {
             Ok(first) => {
+                let noted = self.findings.notes.len();
                 let second = self.expression(frame, other, wanted.or(Some(first.of)), depth)?;
+                if decides(operator, first.constness) {
+                    self.findings.forget(noted);
+                }
                 Ok((first, second))
             }
-            Err(Stop::Reported) => {
+            Err(Interrupt::Reported) => {
                 self.expression(frame, other, wanted, depth)?;
-                Err(Stop::Reported)
+                Err(Interrupt::Reported)
             }
             Err(stop) => Err(stop),
         }
     }
 
-    /// What an operator makes of its two operands. BOOLs have no order.
+    /// The value of an operator on its two operands. BOOLs have no order.
     fn combined(
         &mut self,
         operator: Dyadic,
         left: Value,
         right: Value,
         span: Span,
-    ) -> Result<Value, Stop> {
+    ) -> Result<Value, Interrupt> {
         if is_order(operator) && left.of == Primitive::Bool {
             return Err(self.fault(span, FaultKind::NoOrder));
         }
-        Ok(of_two(operator, left, right, span))
+        let made = of_two(operator, left, right, span);
+        self.noted_two(operator, right.constness, made, span)
     }
 
-    /// What is known of an element: of a table, with a constant subscript, it is a constant.
-    fn element_worth(&self, view: View, subscript: Worth, span: Span) -> Worth {
+    /// The constness of an element: of a table, with a constant subscript, it is a constant.
+    fn element_constness(&self, view: View, subscript: Constness, span: Span) -> Constness {
         match (view.storage, subscript) {
-            (Storage::Table(table), Worth::Constant(at)) => match self.tables.get(table) {
+            (Storage::Table(table), Constness::Constant(at)) => match self.tables.get(table) {
                 Some(bytes) => answered(element_at(view.kind, bytes, at), span),
-                None => Worth::Computed,
+                None => Constness::Computed,
             },
-            (Storage::Table(_), worth) => worth,
-            (Storage::Array(_), _) => Worth::Computed,
+            (Storage::Table(_), constness) => constness,
+            (Storage::Array(_), _) => Constness::Computed,
         }
     }
 
@@ -221,14 +227,14 @@ impl<'t, 'a> Checker<'t, 'a> {
         &mut self,
         name: Name<'a>,
         view: View,
-        subscript: Worth,
+        subscript: Constness,
         place: Subscript,
-    ) -> Result<Value, Stop> {
+    ) -> Result<Value, Interrupt> {
         self.check_subscript(name, view, subscript, place)?;
         self.cells.read_array(view.storage);
         Ok(Value {
             of: element_type(view.kind),
-            worth: self.element_worth(view, subscript, name.span),
+            constness: self.element_constness(view, subscript, name.span),
             root: Root::Made,
         })
     }
@@ -241,12 +247,12 @@ impl<'t, 'a> Checker<'t, 'a> {
         name: Name<'a>,
         subscript: &'t Tree<'a>,
         depth: u32,
-    ) -> Result<Value, Stop> {
+    ) -> Result<Value, Interrupt> {
         let place = self.subscript_at(subscript);
         let view = self.view_of(frame.scope, name);
         let subscript = self.expression(frame, subscript, Some(Primitive::Int), depth);
         let (view, subscript) = (view?, subscript?);
-        self.element_of(name, view, subscript.worth, place)
+        self.element_of(name, view, subscript.constness, place)
     }
 
     /// `f (e, ..)`: the FUNCTION's expression, with its parameters bound.
@@ -257,7 +263,7 @@ impl<'t, 'a> Checker<'t, 'a> {
         name: Name<'a>,
         arguments: &'t Expressions<'a>,
         depth: u32,
-    ) -> Result<Value, Stop> {
+    ) -> Result<Value, Interrupt> {
         let entry = self.find(frame.scope, name)?;
         let Meaning::Function {
             of,
@@ -266,7 +272,7 @@ impl<'t, 'a> Checker<'t, 'a> {
             scope,
         } = entry.meaning
         else {
-            return Err(self.not_a(name, entry, Role::Function));
+            return Err(self.not_a(name, entry, Use::Function));
         };
         if frame.calls == 0 {
             return Err(self.fault(name.span, FaultKind::Limit(Limit::Calls)));
@@ -280,7 +286,7 @@ impl<'t, 'a> Checker<'t, 'a> {
         let depth = levels_within(depth, bound.names);
         let value = self.expression(within, value, Some(of), depth)?;
         if !bound.is_whole {
-            return Err(Stop::Reported);
+            return Err(Interrupt::Reported);
         }
         if bound.names > 0 {
             return Ok(computed(value.of, Root::Made));

@@ -2,12 +2,12 @@
 
 ghost use Rattle.std.specs.Prelude.{◌≤◌};
 
-/// How deep expressions and processes lie within one another at the most, those put in line among them: so deep do the
+/// How deep expressions and processes lie within one another at the most, inlined ones among them: so deep do the
 /// calls go that make a worker, run it and compile it. A guard lies within those before it, a process within the names
 /// that are declared in front of it, and a step within the halves of its SEQ.
 pub const MAX_DEPTH: u32 = 500;
 
-/// The levels that are left within so many others.
+/// The levels that are left within this many others.
 pub fn levels_within(levels: u32, others: usize) -> u32
     ensures { result ≤ levels }
 {
@@ -20,7 +20,7 @@ pub fn levels_within(levels: u32, others: usize) -> u32
 /// The most calls within one another.
 pub(crate) const MAX_CALLS: u32 = 40;
 
-/// The most expressions and processes of a worker, with its calls in line.
+/// The most expressions and processes of a worker, with its calls inlined.
 pub(crate) const MAX_IN_LINE: u32 = 300_000;
 
 /// The most bytes of an array: all words of a workspace.

@@ -4,22 +4,23 @@ use crate::checker::Checker;
 use crate::environment::{Access, Channel, Entry, Meaning, Protocol, Scope, View};
 use crate::trees::{name_alone, span_of};
 use crate::value::{Root, Value, computed, constant};
-use tpw_occam_faults::{FaultKind, Role, Stop};
+use tpw_occam_faults::{FaultKind, Interrupt, Use};
 use tpw_occam_lexing::Keyword;
 use tpw_occam_meaning::Expression;
 use tpw_occam_terms::{Name, Primitive};
 
 impl<'t, 'a> Checker<'t, 'a> {
-    /// What a name in scope stands for.
-    pub fn find(&mut self, scope: Scope, name: Name<'a>) -> Result<Entry<'t, 'a>, Stop> {
+    /// The binding of a name in scope.
+    pub fn find(&mut self, scope: Scope, name: Name<'a>) -> Result<Entry<'t, 'a>, Interrupt> {
         if let Some(entry) = self.environment.find(scope, name.text) {
             self.per_call.look_up(entry.name.span);
             return Ok(entry);
         }
-        if let Some(declared) = self.environment.anywhere(name.text) {
+        if let Some(entry) = self.environment.anywhere(name.text) {
             let kind = FaultKind::OutOfScope {
                 name: name.text,
-                declared,
+                declared: entry.name.span,
+                is_called: entry.meaning.is_called(),
             };
             return Err(self.fault(name.span, kind));
         }
@@ -35,9 +36,9 @@ impl<'t, 'a> Checker<'t, 'a> {
     }
 
     /// Reports that a name is used as what it is not, unless its declaration is wrong.
-    pub fn not_a(&mut self, name: Name<'a>, entry: Entry<'t, 'a>, wanted: Role) -> Stop {
-        let Some(found) = entry.meaning.sort() else {
-            return Stop::Reported;
+    pub fn not_a(&mut self, name: Name<'a>, entry: Entry<'t, 'a>, wanted: Use) -> Interrupt {
+        let Some(found) = entry.meaning.entity_kind() else {
+            return Interrupt::Reported;
         };
         let kind = FaultKind::NotA {
             name: name.text,
@@ -49,7 +50,7 @@ impl<'t, 'a> Checker<'t, 'a> {
     }
 
     /// The value of a name.
-    pub(crate) fn value_of(&mut self, scope: Scope, name: Name<'a>) -> Result<Value, Stop> {
+    pub(crate) fn value_of(&mut self, scope: Scope, name: Name<'a>) -> Result<Value, Interrupt> {
         let entry = self.find(scope, name)?;
         match entry.meaning {
             Meaning::Constant { of, word } => Ok(constant(of, word)),
@@ -62,25 +63,25 @@ impl<'t, 'a> Checker<'t, 'a> {
                 self.cells.read_array(storage);
                 Ok(computed(of, Root::Made))
             }
-            _ => Err(self.not_a(name, entry, Role::Value)),
+            _ => Err(self.not_a(name, entry, Use::Value)),
         }
     }
 
     /// The array that a name stands for.
-    pub fn view_of(&mut self, scope: Scope, name: Name<'a>) -> Result<View, Stop> {
+    pub fn view_of(&mut self, scope: Scope, name: Name<'a>) -> Result<View, Interrupt> {
         let entry = self.find(scope, name)?;
         match entry.meaning {
             Meaning::Array(view) => Ok(view),
-            _ => Err(self.not_a(name, entry, Role::Array)),
+            _ => Err(self.not_a(name, entry, Use::Array)),
         }
     }
 
     /// The array that a name stands for, which is to be written to.
-    pub fn written_view(&mut self, scope: Scope, name: Name<'a>) -> Result<View, Stop> {
+    pub fn written_view(&mut self, scope: Scope, name: Name<'a>) -> Result<View, Interrupt> {
         let entry = self.find(scope, name)?;
         match entry.meaning {
             Meaning::Array(view) if view.access == Access::ReadAndWrite => Ok(view),
-            _ => Err(self.not_a(name, entry, Role::WrittenArray)),
+            _ => Err(self.not_a(name, entry, Use::WrittenArray)),
         }
     }
 
@@ -89,20 +90,20 @@ impl<'t, 'a> Checker<'t, 'a> {
         &mut self,
         scope: Scope,
         name: Name<'a>,
-    ) -> Result<(Channel, Protocol), Stop> {
+    ) -> Result<(Channel, Protocol), Interrupt> {
         let entry = self.find(scope, name)?;
         match entry.meaning {
             Meaning::Channel { channel, protocol } => Ok((channel, protocol)),
-            _ => Err(self.not_a(name, entry, Role::Channel)),
+            _ => Err(self.not_a(name, entry, Use::Channel)),
         }
     }
 
     /// Reports a channel, with its direction, where something else is wanted.
-    pub(crate) fn no_channel(&mut self, scope: Scope, name: Name<'a>, wanted: Role) -> Stop {
+    pub(crate) fn no_channel(&mut self, scope: Scope, name: Name<'a>, wanted: Use) -> Interrupt {
         match self.find(scope, name) {
             Ok(entry) => match entry.meaning {
                 Meaning::Channel { .. } => self.not_a(name, entry, wanted),
-                _ => self.not_a(name, entry, Role::Channel),
+                _ => self.not_a(name, entry, Use::Channel),
             },
             Err(stop) => stop,
         }
@@ -122,7 +123,7 @@ impl<'t, 'a> Checker<'t, 'a> {
         &mut self,
         scope: Scope,
         operand: &Expression<'a>,
-    ) -> Result<Value, Stop> {
+    ) -> Result<Value, Interrupt> {
         match name_alone(operand) {
             Some(name) => {
                 let view = self.view_of(scope, name)?;

@@ -1,6 +1,6 @@
 //! Operators: the types that they take and make, and the constants.
 
-use crate::value::{Root, Value, Worth, answered};
+use crate::value::{Constness, Root, Value, answered};
 use tpw_occam_core::{Answer, low_byte as low_byte_of};
 use tpw_occam_meaning::{Dyadic, Monadic};
 use tpw_occam_names as names;
@@ -39,52 +39,52 @@ fn plain(word: u32) -> Answer {
     Answer { word, flag: false }
 }
 
-/// What an operator that converts nothing makes of its operand.
+/// The value of an operator that converts nothing on its operand.
 pub(crate) fn of_one(operator: Monadic, e: Value, span: Span) -> Value {
-    let worth = match e.worth {
-        Worth::Constant(word) => answered(names::monadic(operator, word), span),
-        worth => worth,
+    let constness = match e.constness {
+        Constness::Constant(word) => answered(names::monadic(operator, word), span),
+        constness => constness,
     };
     Value {
         of: names::type_of_one(operator),
-        worth,
+        constness,
         root: Root::Made,
     }
 }
 
 /// `BYTE` of an INT.
 pub(crate) fn low_byte(e: Value, span: Span) -> Value {
-    let worth = match e.worth {
-        Worth::Constant(word) => answered(low_byte_of(word), span),
-        worth => worth,
+    let constness = match e.constness {
+        Constness::Constant(word) => answered(low_byte_of(word), span),
+        constness => constness,
     };
     Value {
         of: Primitive::Byte,
-        worth,
+        constness,
         root: Root::Made,
     }
 }
 
-/// What is known of a subscript, or of how far is shifted, that is to be below a size.
-pub(crate) fn checked(below: u32, worth: Worth, span: Span) -> Worth {
-    match worth {
-        Worth::Constant(word) if word >= below => Worth::Flagged(span),
-        worth => worth,
+/// The constness of a subscript, or of a count of shifts, that is to be below a size.
+pub(crate) fn checked(below: u32, constness: Constness, span: Span) -> Constness {
+    match constness {
+        Constness::Constant(word) if word >= below => Constness::Flagged(span),
+        constness => constness,
     }
 }
 
 /// The left operand, which decides: a constant only where the right one is made of constants too.
-fn decided(left: Worth, right: Worth) -> Worth {
+fn decided(left: Constness, right: Constness) -> Constness {
     match right {
-        Worth::Computed => Worth::Computed,
+        Constness::Computed => Constness::Computed,
         _ => left,
     }
 }
 
-/// What is known of both of two.
-fn both(left: Worth, right: Worth) -> Worth {
+/// The constness of two values that are both needed.
+fn both(left: Constness, right: Constness) -> Constness {
     match left {
-        Worth::Constant(word) => {
+        Constness::Constant(word) => {
             if word == 0 {
                 decided(left, right)
             } else {
@@ -95,10 +95,10 @@ fn both(left: Worth, right: Worth) -> Worth {
     }
 }
 
-/// What is known of one of two.
-fn either(left: Worth, right: Worth) -> Worth {
+/// The constness of one of two values.
+fn either(left: Constness, right: Constness) -> Constness {
     match left {
-        Worth::Constant(word) => {
+        Constness::Constant(word) => {
             if word == 0 {
                 right
             } else {
@@ -109,11 +109,11 @@ fn either(left: Worth, right: Worth) -> Worth {
     }
 }
 
-/// What is known of what an operator makes of two that both count. Where both set the flag, `<` and `>=` tell of the right
+/// The constness of an operator's value on two that both count. Where both set the flag, `<` and `>=` tell of the right
 /// one, which the worker works out first.
-fn of_words(operator: Dyadic, left: Worth, right: Worth, span: Span) -> Worth {
+fn of_words(operator: Dyadic, left: Constness, right: Constness, span: Span) -> Constness {
     match (left, right) {
-        (Worth::Constant(b), Worth::Constant(a)) => {
+        (Constness::Constant(b), Constness::Constant(a)) => {
             answered(names::combined(operator, plain(b), plain(a)), span)
         }
         (left, right) => match operator {
@@ -123,8 +123,8 @@ fn of_words(operator: Dyadic, left: Worth, right: Worth, span: Span) -> Worth {
     }
 }
 
-/// What is known of what an operator makes of two.
-fn worth_of(operator: Dyadic, left: Worth, right: Worth, span: Span) -> Worth {
+/// The constness of an operator's value on two.
+fn constness_of(operator: Dyadic, left: Constness, right: Constness, span: Span) -> Constness {
     match operator {
         Dyadic::And => both(left, right),
         Dyadic::Or => either(left, right),
@@ -134,19 +134,19 @@ fn worth_of(operator: Dyadic, left: Worth, right: Worth, span: Span) -> Worth {
 
 /// Where the value of an operator comes from: that of AND and OR is the right one where a constant on the left lets it
 /// decide.
-fn root_of(operator: Dyadic, left: Worth, right: Root) -> Root {
+fn root_of(operator: Dyadic, left: Constness, right: Root) -> Root {
     match (operator, left) {
-        (Dyadic::And, Worth::Constant(word)) if word != 0 => right,
-        (Dyadic::Or, Worth::Constant(word)) if word == 0 => right,
+        (Dyadic::And, Constness::Constant(word)) if word != 0 => right,
+        (Dyadic::Or, Constness::Constant(word)) if word == 0 => right,
         (_, _) => Root::Made,
     }
 }
 
-/// What an operator makes of two, whose types are right.
+/// The value of an operator on two, whose types are right.
 pub(crate) fn of_two(operator: Dyadic, left: Value, right: Value, span: Span) -> Value {
     Value {
         of: names::type_of_two(operator),
-        worth: worth_of(operator, left.worth, right.worth, span),
-        root: root_of(operator, left.worth, right.root),
+        constness: constness_of(operator, left.constness, right.constness, span),
+        root: root_of(operator, left.constness, right.root),
     }
 }

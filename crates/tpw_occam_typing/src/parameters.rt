@@ -4,18 +4,18 @@ use crate::checker::{Checker, Frame, or_else};
 use crate::environment::{Access, Protocol};
 use crate::signatures::{Callee, Form, Parameter, Signature};
 use crate::trees::{Size, size_of};
-use tpw_occam_faults::{FaultKind, Stop};
+use tpw_occam_faults::{FaultKind, Interrupt};
 use tpw_occam_meaning::{Parameters, Type};
 use tpw_occam_terms::{Name, Passing, Primitive, Span};
 
 impl<'t, 'a> Checker<'t, 'a> {
-    /// What a channel of a type carries.
+    /// The protocol of a channel of a type.
     fn protocol_of(
         &mut self,
         frame: Frame,
         of: &'t Type<'a>,
         span: Span,
-    ) -> Result<Protocol, Stop> {
+    ) -> Result<Protocol, Interrupt> {
         if matches!(size_of(of), Size::One) {
             return match of.of {
                 Primitive::Int => Ok(Protocol::Value),
@@ -32,26 +32,26 @@ impl<'t, 'a> Checker<'t, 'a> {
         }
     }
 
-    /// What an argument that is an array has to be.
+    /// The form that an argument that is an array has to have.
     fn array_form(
         &mut self,
         frame: Frame,
         of: &'t Type<'a>,
         access: Access,
         span: Span,
-    ) -> Result<Form, Stop> {
+    ) -> Result<Form, Interrupt> {
         let shape = self.shape(frame, of, span)?;
         Ok(Form::Array { shape, access })
     }
 
-    /// What an argument of such parameters has to be.
+    /// The form that an argument of such parameters has to have.
     fn form(
         &mut self,
         frame: Frame,
         passing: Passing,
         of: &'t Type<'a>,
         span: Span,
-    ) -> Result<Form, Stop> {
+    ) -> Result<Form, Interrupt> {
         match (passing, size_of(of)) {
             (Passing::Channel, _) => Ok(Form::Channel(self.protocol_of(frame, of, span)?)),
             (Passing::Value, Size::One) => Ok(Form::Value(of.of)),
@@ -62,7 +62,12 @@ impl<'t, 'a> Checker<'t, 'a> {
     }
 
     /// Adds a parameter, which may stand for something else in each call.
-    fn add_parameter(&mut self, name: Name<'a>, form: Form, is_per_call: bool) -> Result<(), Stop> {
+    fn add_parameter(
+        &mut self,
+        name: Name<'a>,
+        form: Form,
+        is_per_call: bool,
+    ) -> Result<(), Interrupt> {
         self.count(name.span)?;
         if is_per_call {
             self.per_call.add(name.span)?;
@@ -77,7 +82,7 @@ impl<'t, 'a> Checker<'t, 'a> {
         frame: Frame,
         list: &'t Parameters<'a>,
         callee: Callee,
-    ) -> Result<Signature, Stop> {
+    ) -> Result<Signature, Interrupt> {
         let first = self.parameters.len();
         let mut form = Form::Wrong;
         let mut is_per_call = false;
@@ -114,7 +119,7 @@ impl<'t, 'a> Checker<'t, 'a> {
     }
 
     /// Reports each parameter of a FUNCTION that is not VAL.
-    pub fn check_values(&mut self, list: &'t Parameters<'a>) -> Result<(), Stop> {
+    pub fn check_values(&mut self, list: &'t Parameters<'a>) -> Result<(), Interrupt> {
         let mut rest = list;
         loop {
             match rest {

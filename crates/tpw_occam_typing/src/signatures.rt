@@ -1,4 +1,4 @@
-//! What arguments have to be.
+//! The forms of arguments.
 
 use crate::environment::{Access, Protocol};
 use crate::limits::MAX_MESSAGE_WORDS;
@@ -14,14 +14,14 @@ pub struct Shape {
 }
 
 impl Shape {
-    /// Whether so many elements make a message: 1 to 64 words.
+    /// Whether this many elements make a message: 1 to 64 words.
     pub(crate) fn is_message(self, elements: u32) -> bool {
         let bytes = bytes_of(self.kind, elements);
         bytes > 0 && bytes % 4 == 0 && bytes / 4 <= MAX_MESSAGE_WORDS
     }
 }
 
-/// What an argument has to be.
+/// The form that an argument has to have.
 #[derive(Clone, Copy)]
 pub enum Form {
     /// `VAL INT v`
@@ -32,7 +32,7 @@ pub enum Form {
     Array { shape: Shape, access: Access },
     /// `CHAN OF INT trace`
     Channel(Protocol),
-    /// What it has to be is wrong, and reported.
+    /// The form is wrong, and reported.
     Wrong,
 }
 

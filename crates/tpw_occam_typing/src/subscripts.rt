@@ -4,8 +4,8 @@ use crate::checker::Checker;
 use crate::environment::View;
 use crate::per_call::Point;
 use crate::trees::{name_alone, span_of};
-use crate::value::Worth;
-use tpw_occam_faults::{FaultKind, NoteKind, Stop};
+use crate::value::Constness;
+use tpw_occam_faults::{FaultKind, Interrupt, NoteKind};
 use tpw_occam_meaning::Expression as Tree;
 use tpw_occam_terms::{Name, Span};
 
@@ -27,7 +27,7 @@ impl<'t, 'a> Checker<'t, 'a> {
     }
 
     /// The name of an array of which an element is taken.
-    pub fn array_name(&mut self, array: &Tree<'a>) -> Result<Name<'a>, Stop> {
+    pub fn array_name(&mut self, array: &Tree<'a>) -> Result<Name<'a>, Interrupt> {
         match name_alone(array) {
             Some(name) => Ok(name),
             None => Err(self.fault(span_of(array), FaultKind::ArrayWanted)),
@@ -40,10 +40,10 @@ impl<'t, 'a> Checker<'t, 'a> {
         &mut self,
         name: Name<'a>,
         view: View,
-        subscript: Worth,
+        subscript: Constness,
         place: Subscript,
-    ) -> Result<(), Stop> {
-        let Worth::Constant(word) = subscript else {
+    ) -> Result<(), Interrupt> {
+        let Constness::Constant(word) = subscript else {
             return Ok(());
         };
         if word < view.elements {

@@ -7,7 +7,7 @@ use crate::trees::{bare, span_of};
 use crate::value::Value;
 use std::alloc::AllocError;
 use tpw_occam_core::Kind;
-use tpw_occam_faults::{FaultKind, Role, Stop};
+use tpw_occam_faults::{FaultKind, Interrupt, Use};
 use tpw_occam_meaning::{Expression as Tree, Expressions};
 use tpw_occam_names::element_type;
 use tpw_occam_terms::{Span, text_bytes};
@@ -26,7 +26,7 @@ fn put_element(bytes: &mut Vec<u8>, kind: Kind, word: u32) -> Result<(), AllocEr
 
 impl<'t, 'a> Checker<'t, 'a> {
     /// The table of these bytes.
-    fn table(&mut self, kind: Kind, bytes: Vec<u8>, span: Span) -> Result<View, Stop> {
+    fn table(&mut self, kind: Kind, bytes: Vec<u8>, span: Span) -> Result<View, Interrupt> {
         let count = match kind {
             Kind::Word => bytes.len() / 4,
             Kind::Byte => bytes.len(),
@@ -42,7 +42,7 @@ impl<'t, 'a> Checker<'t, 'a> {
     }
 
     /// A text, as a table of a shape.
-    fn text(&mut self, spelled: &str, shape: Shape, span: Span) -> Result<View, Stop> {
+    fn text(&mut self, spelled: &str, shape: Shape, span: Span) -> Result<View, Interrupt> {
         let bytes = text_bytes(self.alloc, spelled)?;
         let view = self.table(Kind::Byte, bytes, span)?;
         self.of_shape(view, shape, span)
@@ -53,9 +53,9 @@ impl<'t, 'a> Checker<'t, 'a> {
         &mut self,
         bytes: &mut Vec<u8>,
         kind: Kind,
-        made: Result<Value, Stop>,
+        made: Result<Value, Interrupt>,
         span: Span,
-    ) -> Result<bool, Stop> {
+    ) -> Result<bool, Interrupt> {
         let word = match made {
             Ok(value) => self.constant_of(value, span),
             Err(stop) => Err(stop),
@@ -65,7 +65,7 @@ impl<'t, 'a> Checker<'t, 'a> {
                 put_element(bytes, kind, word)?;
                 Ok(true)
             }
-            Err(Stop::Reported) => Ok(false),
+            Err(Interrupt::Reported) => Ok(false),
             Err(stop) => Err(stop),
         }
     }
@@ -78,7 +78,7 @@ impl<'t, 'a> Checker<'t, 'a> {
         items: &'t Expressions<'a>,
         kind: Kind,
         depth: u32,
-    ) -> Result<Vec<u8>, Stop> {
+    ) -> Result<Vec<u8>, Interrupt> {
         let mut bytes = Vec::new(self.alloc);
         let mut is_whole = true;
         let mut rest = items;
@@ -90,7 +90,7 @@ impl<'t, 'a> Checker<'t, 'a> {
         if is_whole {
             Ok(bytes)
         } else {
-            Err(Stop::Reported)
+            Err(Interrupt::Reported)
         }
     }
 
@@ -102,7 +102,7 @@ impl<'t, 'a> Checker<'t, 'a> {
         e: &'t Tree<'a>,
         shape: Shape,
         depth: u32,
-    ) -> Result<View, Stop> {
+    ) -> Result<View, Interrupt> {
         let e = bare(e);
         self.count(span_of(e))?;
         match e {
@@ -116,7 +116,7 @@ impl<'t, 'a> Checker<'t, 'a> {
                 let view = self.table(shape.kind, bytes, *span)?;
                 self.of_shape(view, shape, *span)
             }
-            Tree::Channel { name, .. } => Err(self.no_channel(frame.scope, *name, Role::Array)),
+            Tree::Channel { name, .. } => Err(self.no_channel(frame.scope, *name, Use::Array)),
             other => Err(self.fault(span_of(other), FaultKind::ArrayWanted)),
         }
     }

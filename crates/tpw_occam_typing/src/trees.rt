@@ -1,4 +1,4 @@
-//! What is read off trees.
+//! Parts of trees.
 
 use tpw_occam_core::Kind;
 use tpw_occam_meaning::{Expression, Expressions, Sizes, Type};
@@ -104,7 +104,7 @@ pub fn size_of<'t, 'a>(of: &'t Type<'a>) -> Size<'t, 'a> {
     }
 }
 
-/// What elements of a type are in the core; a BOOL has none.
+/// The kind in the core of elements of a type; a BOOL has none.
 pub(crate) fn element_kind(of: Primitive) -> Option<Kind> {
     match of {
         Primitive::Int => Some(Kind::Word),
@@ -113,7 +113,7 @@ pub(crate) fn element_kind(of: Primitive) -> Option<Kind> {
     }
 }
 
-/// The bytes of so many elements.
+/// The bytes of this many elements.
 pub fn bytes_of(kind: Kind, elements: u32) -> u64 {
     match kind {
         Kind::Word => u64::from(elements) * 4,

@@ -1,11 +1,11 @@
-//! What is known of a value: its type, whether it is a constant, and whether it is worked out.
+//! Values in a text: their types, their constness, and where they are worked out.
 
 use tpw_occam_core::Answer;
 use tpw_occam_terms::{Primitive, Span};
 
-/// What is known of a value in the text.
+/// The constness of a value in the text.
 #[derive(Clone, Copy)]
-pub enum Worth {
+pub enum Constness {
     /// It is this constant.
     Constant(u32),
     /// It is made of constants, and sets the error flag here.
@@ -29,7 +29,7 @@ pub enum Root {
 #[derive(Clone, Copy)]
 pub struct Value {
     pub of: Primitive,
-    pub worth: Worth,
+    pub constness: Constness,
     pub root: Root,
 }
 
@@ -37,7 +37,7 @@ pub struct Value {
 pub(crate) fn constant(of: Primitive, word: u32) -> Value {
     Value {
         of,
-        worth: Worth::Constant(word),
+        constness: Constness::Constant(word),
         root: Root::Made,
     }
 }
@@ -46,28 +46,28 @@ pub(crate) fn constant(of: Primitive, word: u32) -> Value {
 pub(crate) fn computed(of: Primitive, root: Root) -> Value {
     Value {
         of,
-        worth: Worth::Computed,
+        constness: Constness::Computed,
         root,
     }
 }
 
-/// What is known of an answer that is worked out at a place.
-pub(crate) fn answered(answer: Answer, span: Span) -> Worth {
+/// The constness of an answer that is worked out at a place.
+pub(crate) fn answered(answer: Answer, span: Span) -> Constness {
     if answer.flag {
-        Worth::Flagged(span)
+        Constness::Flagged(span)
     } else {
-        Worth::Constant(answer.word)
+        Constness::Constant(answer.word)
     }
 }
 
-impl Worth {
-    /// What is known of a value that is made of two.
-    pub(crate) fn with(self, other: Worth) -> Worth {
+impl Constness {
+    /// The constness of a value that is made of two.
+    pub(crate) fn with(self, other: Constness) -> Constness {
         match (self, other) {
-            (Worth::Computed, _) => Worth::Computed,
-            (_, Worth::Computed) => Worth::Computed,
-            (Worth::Flagged(span), _) => Worth::Flagged(span),
-            (Worth::Constant(_), other) => other,
+            (Constness::Computed, _) => Constness::Computed,
+            (_, Constness::Computed) => Constness::Computed,
+            (Constness::Flagged(span), _) => Constness::Flagged(span),
+            (Constness::Constant(_), other) => other,
         }
     }
 }

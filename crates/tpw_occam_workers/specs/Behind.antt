@@ -1,7 +1,7 @@
 -- What stands behind declarations, what channels a worker has, and what is done with the packet.
 use Rattle.std.specs.Prelude.{ℕ, Option, Some, None, List, [], ◌∷◌}
 use Rattle.tpw_occam_core.specs.declared.kind.Kind.TheVariants.{Word}
-use Rattle.tpw_occam_core.specs.Arithmetic.{plain}
+use Rattle.tpw_occam_core.specs.Arithmetic.{pure}
 use Rattle.tpw_occam_core.specs.Arrays.{element}
 use Rattle.tpw_occam_meaning.specs.Assignments.{Target, assigned}
 use Rattle.tpw_occam_meaning.specs.Effects.{Effect}
@@ -35,7 +35,7 @@ places_of c =
 
 -- a target takes the packet's first word
 abbrev pub word_received : Target → Effect
-word_received target = Some (λ s. assigned target (target.subscript s) (plain (element Word s.packet 0)) s)
+word_received target = Some (λ s. assigned target (target.subscript s) (pure (element Word s.packet 0)) s)
 
 -- an array takes the packet
 abbrev pub array_received : ℕ → Effect

@@ -10,7 +10,7 @@ ghost use Rattle.tpw_occam_workers.specs.Behind.{places_of};
 use tpw_occam_names::{Channel, Fault, Form, Meaning, Protocol, Scope, look_up};
 use tpw_occam_terms::Name;
 
-/// What the channels of a worker carry.
+/// The protocols of a worker's channels.
 #[derive(Clone, Copy)]
 pub(crate) struct Channels {
     pub(crate) packet: Protocol,
@@ -43,7 +43,7 @@ pub(crate) fn channels_of(forms: &[Form]) -> Result<Channels, Fault>
     }
 }
 
-/// What the packet's channel carries, where a name is that.
+/// The protocol of the packet's channel, where a name is that.
 pub(crate) fn packet(scope: &Scope<'_, '_, '_>, name: Name<'_>) -> Result<Protocol, Fault>
     ensures { IfOk result (λ p.
         messages.carried Packet (found name.entry (names_of scope.now)) ≡ Some (protocol_of p)) }
@@ -54,7 +54,7 @@ pub(crate) fn packet(scope: &Scope<'_, '_, '_>, name: Name<'_>) -> Result<Protoc
     }
 }
 
-/// What the result's channel carries, where a name is that.
+/// The protocol of the result's channel, where a name is that.
 pub(crate) fn output(scope: &Scope<'_, '_, '_>, name: Name<'_>) -> Result<Protocol, Fault>
     ensures { IfOk result (λ p.
         messages.carried Output (found name.entry (names_of scope.now)) ≡ Some (protocol_of p)) }

@@ -1,8 +1,8 @@
-//! What stands behind declarations.
+//! The rest behind declarations.
 
 use tpw_occam_meaning::{Declarations, Process};
 
-/// What stands behind a declaration: in a worker its process, and in a text further declarations.
+/// The rest behind a declaration: in a worker its process, and in a text further declarations.
 #[derive(Clone, Copy)]
 pub(crate) enum Rest<'t, 'a> {
     Body(&'t Process<'a>),

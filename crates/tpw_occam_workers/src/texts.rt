@@ -38,7 +38,7 @@ pub fn resolve<'t, 'a>(alloc: Global, source: &'t Source<'a>, room: u32) -> Resu
     declarations(alloc, &Scope::Empty, 0, &source.declarations, room)
 }
 
-/// What stands behind declarations.
+/// The rest behind declarations.
 #[cycle(rest)]
 fn behind<'t, 'a>(
     alloc: Global,
@@ -196,7 +196,7 @@ fn body<'t, 'a>(
     }
 }
 
-/// What stands behind a declaration, with the names and the numbers that it takes.
+/// The rest behind a declaration, with the names and the numbers that it takes.
 #[cycle(rest)]
 fn declared<'t, 'a>(
     alloc: Global,
@@ -287,7 +287,7 @@ fn declared<'t, 'a>(
     }
 }
 
-/// What stands behind another name for an array, or one for a table.
+/// The rest behind another name for an array, or one for a table.
 #[cycle(rest)]
 fn array_declared<'t, 'a>(
     alloc: Global,
@@ -308,7 +308,7 @@ fn array_declared<'t, 'a>(
     behind(alloc, &within, d, rest, room - 1)
 }
 
-/// What stands behind the declaration of a PROC.
+/// The rest behind the declaration of a PROC.
 #[cycle(rest)]
 fn procedure_declared<'t, 'a>(
     alloc: Global,
@@ -332,7 +332,7 @@ fn procedure_declared<'t, 'a>(
     behind(alloc, &within, d, rest, room - 1)
 }
 
-/// What stands behind the declaration of a FUNCTION.
+/// The rest behind the declaration of a FUNCTION.
 #[cycle(rest)]
 fn function_declared<'t, 'a>(
     alloc: Global,

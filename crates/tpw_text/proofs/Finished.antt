@@ -1,9 +1,6 @@
 -- What a draft comes to does not depend on where its text lies in memory.
-use Rattle.std.proofs.Common.{◌≡◌, ℕ, ◌-◌, Bool, true, false, if◌then◌else◌, List, [], ◌∷◌, ◌++◌, length, map, Option, Some, None, option_map, Result, Ok, slice_get, refl, sym, ap, ◌∙◌}
-use Rattle.std.specs.List.{find}
+use Rattle.std.proofs.Common.{◌≡◌, ℕ, List, [], ◌∷◌, ◌++◌, map, Result, Ok, refl, sym, ap, ◌∙◌}
 use Rattle.std.specs.Option.{ok_or}
-use Rattle.std.proofs.lemmas.Option.{slice_get-map}
-use Rattle.std.proofs.lemmas.List.{length-map}
 use Rattle.tpw_asm.specs.declared.program.Operation.TheVariants as operation
 use Rattle.tpw_asm.specs.declared.program.Line.TheVariants.{Spelled}
 use Rattle.tpw_asm.specs.declared.program.Spot.TheVariants as spot
@@ -13,17 +10,14 @@ use Rattle.tpw_text.specs.declared.fault.TextFault.TheVariants.{NoLabel}
 use Rattle.tpw_text.specs.declared.draft.DraftLine.{DraftLine}
 use Rattle.tpw_text.specs.declared.draft.DraftLine.TheVariants.{Known, Jump, Cj, Distance}
 use Rattle.tpw_text.specs.declared.draft.Target.{Target}
-use Rattle.tpw_text.specs.declared.draft.Target.TheVariants.{Place, Label as Named, Address}
+use Rattle.tpw_text.specs.declared.draft.Target.TheVariants.{Label as Named, Address}
 use Rattle.tpw_text.specs.declared.draft.LabelName.{LabelName}
-use Rattle.tpw_text.specs.declared.draft.LocalName.{LocalName}
 use Rattle.tpw_text.specs.declared.draft.Row.{Row}
-use Rattle.tpw_text.specs.declared.draft.Begun.{Begun}
 use Rattle.tpw_text.specs.Faults.{fault_at, then_read, each_read}
 use Rattle.tpw_text.specs.Drafts.{Said}
-use Rattle.tpw_text.specs.Programs.{place_of_label, line_placed, spot_placed, loop_placed, no_loop, ended, is_beyond}
-use Rattle.tpw_text.specs.Programs.{no_local, locals_fit, program_of, label_listed, labels_listed, local_listed}
-use Rattle.tpw_text.specs.Programs.{locals_listed, workspace_said, finished}
-use Rattle.tpw_text.specs.Apart.{word_apart, line_apart, target_apart, label_apart, local_apart, row_apart, begun_apart, draft_apart}
+use Rattle.tpw_text.specs.Programs.{place_of_label, line_placed, spot_placed, loop_placed, program_of, label_listed}
+use Rattle.tpw_text.specs.Programs.{labels_listed, finished}
+use Rattle.tpw_text.specs.Apart.{word_apart, line_apart, target_apart, label_apart, row_apart, draft_apart}
 use Rattle.tpw_text.specs.Texts.{text_said, source_of}
 use Rattle.tpw_text.proofs.Apart.{then_same}
 use Rattle.tpw_text.proofs.Additions.{place}
@@ -43,68 +37,34 @@ line_is labels (Distance to from bytes) =
 
 spot_is : (labels : List LabelName) (t : Target) → spot_placed (map label_apart labels) (target_apart t) ≡ spot_placed labels t
 unfolding spot_placed
-spot_is labels (Place at) = refl
 spot_is labels (Named label) = ap (λ r. then_read r (λ at. Ok (spot.Place at))) (place_is labels label)
 spot_is labels (Address at) = refl
 
-loop_is : (labels : List LabelName) (start : ℕ) (row : Row) → loop_placed (map label_apart labels) start (row_apart row) ≡ loop_placed labels start row
+loop_is : (labels : List LabelName) (row : Row) → loop_placed (map label_apart labels) (row_apart row) ≡ loop_placed labels row
 unfolding loop_placed
-loop_is labels start row = then_same (spot_placed labels row.head) _ _ (spot_is labels row.head) (λ head. then_same (spot_placed labels row.lend) _ _ (spot_is labels row.lend) (λ lend. refl))
+loop_is labels row = then_same (spot_placed labels row.head) _ _ (spot_is labels row.head) (λ head. then_same (spot_placed labels row.lend) _ _ (spot_is labels row.lend) (λ lend. refl))
 
 each_is : {A B : Type 0} (view : A → A) (read read' : A → Result B SourceFault) → ((x : A) → read' (view x) ≡ read x) → (xs : List A) → each_read read' (map view xs) ≡ each_read read xs
 each_is view read read' same [] = refl
 each_is view read read' same (x ∷ xs) = then_same (read x) _ _ (same x) (λ y. then_same (each_read read xs) _ _ (each_is view read read' same xs) (λ ys. refl))
-
-ends_are : (begun : List Begun) → ended (map begun_apart begun) ≡ ended begun
-unfolding ended
-ends_are begun =
-    ap (λ n. no_loop (slice_get (map begun_apart begun) (n - 1))) (length-map begun begun_apart)
-    ∙ ap no_loop (slice_get-map begun_apart begun (length begun - 1))
-    ∙ by (slice_get begun (length begun - 1))
-  where
-    by : (o : Option Begun) → no_loop (option_map begun_apart o) ≡ no_loop o
-    by None = refl
-    by (Some loop) = refl
 
 labels_are : (labels : List LabelName) → labels_listed (map label_apart labels) ≡ labels_listed labels
 unfolding label_listed
 labels_are [] = refl
 labels_are (n ∷ labels) = ap (λ more. label_listed n ++ more) (labels_are labels)
 
-locals_are : (locals : List LocalName) → locals_listed (map local_apart locals) ≡ locals_listed locals
-unfolding local_listed
-locals_are [] = refl
-locals_are (n ∷ locals) = ap (λ more. local_listed n ++ more) (locals_are locals)
-
-beyond : (workspace start : ℕ) (locals : List LocalName) → no_local (find (is_beyond workspace start) (map local_apart locals)) ≡ no_local (find (is_beyond workspace start) locals)
-beyond workspace start [] = refl
-beyond workspace start (n ∷ locals) = by (is_beyond workspace start n) (beyond workspace start locals)
-  where
-    by : (t : Bool) → no_local (find (is_beyond workspace start) (map local_apart locals)) ≡ no_local (find (is_beyond workspace start) locals)
-        → no_local (if t then Some (local_apart n) else find (is_beyond workspace start) (map local_apart locals)) ≡ no_local (if t then Some n else find (is_beyond workspace start) locals)
-    by true rest = refl
-    by false rest = rest
-
-room_is : (d : Said) → locals_fit (draft_apart d) ≡ locals_fit d
-unfolding locals_fit workspace_said
-room_is d = beyond (workspace_said d) d.start d.locals
-
 program_is : (d : Said) → program_of (draft_apart d) ≡ program_of d
-unfolding program_of workspace_said
+unfolding program_of
 program_is d =
     then_same (each_read (line_placed d.labels) d.lines) _ _ (each_is line_apart (line_placed d.labels) (line_placed (map label_apart d.labels)) (line_is d.labels) d.lines) (λ lines.
-    then_same (each_read (loop_placed d.labels d.start) d.rows) _ _
-    (each_is row_apart (loop_placed d.labels d.start) (loop_placed (map label_apart d.labels) d.start)
-    (loop_is d.labels d.start) d.rows) (λ loops. refl))
+    then_same (each_read (loop_placed d.labels) d.rows) _ _
+    (each_is row_apart (loop_placed d.labels) (loop_placed (map label_apart d.labels)) (loop_is d.labels) d.rows) (λ loops. refl))
 
 pub finished_apart : (d : Said) → finished (draft_apart d) ≡ finished d
 unfolding finished
 finished_apart d =
-    then_same (ended d.begun) _ _ (ends_are d.begun) (λ end.
-    then_same (locals_fit d) _ _ (room_is d) (λ room.
     then_same (program_of d) _ _ (program_is d) (λ program.
-    ap (λ listed. Ok (record { program = program; positions = d.positions; labels = listed; locals = locals_listed (map local_apart d.locals) })) (labels_are d.labels)
-    ∙ ap (λ listed. Ok (record { program = program; positions = d.positions; labels = labels_listed d.labels; locals = listed })) (locals_are d.locals))))
+    ap (λ listed. Ok (record { program = program; positions = d.positions; labels = listed })) (labels_are d.labels))
 
 -- where a text says a draft, its source is what that comes to
 pub source_is : (text : List ℕ) (d : Said) → text_said text ≡ Ok (draft_apart d) → finished d ≡ source_of text

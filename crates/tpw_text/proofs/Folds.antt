@@ -1,8 +1,10 @@
 -- What lines say, line by line.
 use Rattle.std.proofs.Common.{◌≡◌, ℕ, zero, suc, ◌+◌, ◌<◌, List, [], ◌∷◌, ◌++◌, length, map, take, drop, get_or, Result, Ok, Err, refl, ap, sym, ◌∙◌, arith, drop-cons, add-one, zero-add, inl, inr}
+use Rattle.std.specs.Result.{IfErr, IsErrAnd}
 use Rattle.std.specs.List.{enumerate_from}
 use Rattle.std.specs.Str.Lines.{lines}
 use Rattle.std.proofs.lemmas.List.{take_more, length-take-le, take-append-drop, take_all}
+use Rattle.std.proofs.lemmas.Result.{err_from_is_err_and}
 use Rattle.std.proofs.lemmas.Simd.{map-map}
 use Rattle.tpw_text.specs.declared.words.Word.{Word}
 use Rattle.tpw_text.specs.declared.fault.SourceFault.{SourceFault}
@@ -14,6 +16,11 @@ use Rattle.tpw_text.specs.Apart.{word_for, draft_apart}
 use Rattle.tpw_text.specs.Texts.{words_of_lines, words_say, text_said}
 use Rattle.tpw_text.proofs.Apart.{kept}
 use Rattle.tpw_text.proofs.Additions.{a_line}
+
+-- a refusal that is passed on
+pub passed_on : {A B : Type 0} {read : Result B SourceFault} (r : Result A SourceFault) (e : SourceFault) → IsErrAnd r (λ f. f ≡ e) → IsRefusal read e
+    → IfErr r (IsRefusal read)
+passed_on r e is h = let p = err_from_is_err_and r is in rw (p.1, p.2) h
 
 -- the words of lines, of a line and of those behind it
 pub both : (number : ℕ) (lines more : List (List ℕ)) → words_of_lines number (lines ++ more) ≡ words_of_lines number lines ++ words_of_lines (number + length lines) more

@@ -10,10 +10,8 @@ use Rattle.std.proofs.lemmas.Str.{IsUtf8-from_is_utf8, is_utf8-from_IsUtf8}
 use Rattle.tpw_text.specs.declared.fault.SourceFault.{SourceFault}
 use Rattle.tpw_text.specs.Faults.{then_read, IsRefusal}
 use Rattle.tpw_text.specs.declared.draft.LabelName.{LabelName}
-use Rattle.tpw_text.specs.declared.draft.LocalName.{LocalName}
 use Rattle.tpw_text.specs.declared.finish.Label.{Label}
-use Rattle.tpw_text.specs.declared.finish.Local.{Local}
-use Rattle.tpw_text.specs.Programs.{under, label_of, label_listed, local_of, local_listed}
+use Rattle.tpw_text.specs.Programs.{under, label_of, label_listed}
 use Rattle.tpw_text.specs.Faults.{each_read}
 
 -- a first one in front of the others
@@ -96,17 +94,3 @@ label_more labels labels' label name more named placed text =
 pub label_none : (labels : List Label) (name : LabelName) → ¬ (IsUtf8 name.word.text.now) → map label_of labels ≡ map label_of labels ++ label_listed name
 unfolding label_listed
 label_none labels name other = sym (append-nil (map label_of labels)) ∙ ap (λ ls. map label_of labels ++ ls) (sym (under_other name.word.text.now _ other))
-
--- a name of local words that is handed out, and one that is not
-pub local_more : (locals locals' : List Local) (local : Local) (name : LocalName) → locals' ≡ locals ++ local ∷ [] →
-    local.name.now ≡ name.word.text.now → local.first ≡ name.first → local.words ≡ name.words →
-    IsUtf8 name.word.text.now → map local_of locals' ≡ map local_of locals ++ local_listed name
-unfolding local_listed
-local_more locals locals' local name more named first words text =
-    let same : local_of local ≡ record { name = name.word.text.now; first = name.first; words = name.words } = cc in
-    ap (map local_of) more ∙ mapped local_of locals (local ∷ []) ∙ ap (λ l. map local_of locals ++ l ∷ []) same
-    ∙ ap (λ ls. map local_of locals ++ ls) (sym (under_text name.word.text.now _ text))
-
-pub local_none : (locals : List Local) (name : LocalName) → ¬ (IsUtf8 name.word.text.now) → map local_of locals ≡ map local_of locals ++ local_listed name
-unfolding local_listed
-local_none locals name other = sym (append-nil (map local_of locals)) ∙ ap (λ ls. map local_of locals ++ ls) (sym (under_other name.word.text.now _ other))

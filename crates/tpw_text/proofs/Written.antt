@@ -71,7 +71,7 @@ marked_nothing marks = λ k within. or_false (get_or marks k false)
 pub marked_as : (t u : ℕ → Bool) (a b : List Bool) → ((k : ℕ) → t k ≡ u k) → IsMarked t a b → IsMarked u a b
 marked_as t u a b same marked = λ k within. marked k within ∙ ap (λ x. get_or a k false || x) (same k)
 
--- the marks of so many places and no more, where nothing is marked before
+-- the marks of this many places and no more, where nothing is marked before
 pub marks_are : (test : ℕ → Bool) (before after all : List Bool) (lines : ℕ) → before ≡ replicate (lines + 1) false →
     length after ≡ length before → all ≡ after → IsMarked test before after → AreMarks test all lines
 marks_are test before after all lines none same is marked = λ k within.
@@ -251,7 +251,7 @@ pub row_written : (old head lend control count start : List ℕ) →
     count ++ codes " start " ++ start)
 row_written old head lend control count start = simp append_assoc
 
--- so many marks that are not set
+-- this many marks that are not set
 pub fresh_marks : (n lines len : ℕ) (none : List Bool) → none ≡ [] → len ≡ 0 → n ≡ lines → take (n + 1) none ++ replicate ((n + 1) - len) false ≡ replicate (lines + 1) false
 fresh_marks n lines len none nothing empty same =
     let count : (n + 1) - len ≡ lines + 1 = omega arith in

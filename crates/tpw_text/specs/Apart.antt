@@ -4,12 +4,9 @@ use Rattle.tpw_text.specs.declared.words.Word.{Word}
 use Rattle.tpw_text.specs.declared.draft.DraftLine.{DraftLine}
 use Rattle.tpw_text.specs.declared.draft.DraftLine.TheVariants.{Known, Jump, Cj, Distance}
 use Rattle.tpw_text.specs.declared.draft.Target.{Target}
-use Rattle.tpw_text.specs.declared.draft.Target.TheVariants.{Place, Label, Address}
+use Rattle.tpw_text.specs.declared.draft.Target.TheVariants.{Label, Address}
 use Rattle.tpw_text.specs.declared.draft.LabelName.{LabelName}
-use Rattle.tpw_text.specs.declared.draft.LocalName.{LocalName}
-use Rattle.tpw_text.specs.declared.draft.ConstName.{ConstName}
 use Rattle.tpw_text.specs.declared.draft.Row.{Row}
-use Rattle.tpw_text.specs.declared.draft.Begun.{Begun}
 use Rattle.tpw_text.specs.Words.{Token, token}
 use Rattle.tpw_text.specs.Drafts.{Said}
 
@@ -27,7 +24,6 @@ line_apart (Cj label bytes) = Cj (word_apart label) bytes
 line_apart (Distance to from bytes) = Distance (word_apart to) (word_apart from) bytes
 
 abbrev pub target_apart : Target → Target
-target_apart (Place place) = Place place
 target_apart (Label label) = Label (word_apart label)
 target_apart (Address address) = Address address
 
@@ -37,21 +33,9 @@ row_apart r = record r { head = target_apart r.head; lend = target_apart r.lend 
 abbrev pub label_apart : LabelName → LabelName
 label_apart l = record l { word = word_apart l.word }
 
-abbrev pub local_apart : LocalName → LocalName
-local_apart l = record l { word = word_apart l.word }
-
-abbrev pub const_apart : ConstName → ConstName
-const_apart n = record { word = word_apart n.word; value = word_apart n.value }
-
-abbrev pub begun_apart : Begun → Begun
-begun_apart b = record b { name = word_apart b.name }
-
 abbrev pub draft_apart : Said → Said
 draft_apart d = record d {
   lines = map line_apart d.lines;
   labels = map label_apart d.labels;
-  locals = map local_apart d.locals;
-  consts = map const_apart d.consts;
   rows = map row_apart d.rows;
-  begun = map begun_apart d.begun;
 }

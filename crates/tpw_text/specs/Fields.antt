@@ -1,5 +1,5 @@
--- The fields of an image. A text says each once, and above each statement that reads it.
-use Rattle.std.specs.Prelude.{ℕ, true, if◌then◌else◌, Some, Result, Ok, Err}
+-- The fields of an image. A text says each once.
+use Rattle.std.specs.Prelude.{ℕ, true, if◌then◌else◌, Result, Ok, Err}
 use Rattle.tp_image.specs.declared.image.Version.{Version}
 use Rattle.tpw_text.specs.declared.words.Word.{Word}
 use Rattle.tpw_text.specs.declared.fault.SourceFault.{SourceFault}
@@ -7,7 +7,7 @@ use Rattle.tpw_text.specs.declared.fault.TextFault.TheVariants.{Settled}
 use Rattle.tpw_text.specs.Faults.{fault_at}
 use Rattle.tpw_text.specs.Drafts.{Said}
 
--- a field that a word begins is said, where it is not settled, and then it is
+-- a field that a word begins is said, where none has said it
 unfoldable pub version_set : Word → Version → Said → Result Said SourceFault
 version_set word version d =
     if d.settled.version then Err (fault_at word Settled)
@@ -16,7 +16,7 @@ version_set word version d =
 unfoldable pub workspace_set : Word → ℕ → Said → Result Said SourceFault
 workspace_set word workspace d =
     if d.settled.workspace then Err (fault_at word Settled)
-    else Ok (record d { workspace = Some workspace; settled = record d.settled { workspace = true } })
+    else Ok (record d { workspace = workspace; settled = record d.settled { workspace = true } })
 
 unfoldable pub start_set : Word → ℕ → Said → Result Said SourceFault
 start_set word start d =

@@ -8,8 +8,6 @@ pub mod Drafts
 pub mod Fields
 pub mod Statements
 pub mod Keywords
-pub mod Lists
-pub mod Consts
 pub mod Grammar
 pub mod Meaning
 pub mod Programs

@@ -1,7 +1,7 @@
 -- What a text may have at most.
 use Rattle.std.specs.Prelude.{ℕ}
 
--- lines, labels, names of local words and initial words
+-- lines and labels
 abbrev pub most : ℕ
 most = 16384
 

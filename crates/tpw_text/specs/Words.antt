@@ -26,9 +26,9 @@ pub record Token : Type 0 where
 abbrev pub token : Word → Token
 token word = record { text = word.text.now; line = word.line; column = word.column }
 
--- a byte that is a word by itself: , / : = [ ] or +
+-- a byte that is a word by itself: : or /
 abbrev pub is_mark : ℕ → Bool
-is_mark b = (b == 44) || ((b == 58) || ((b == 91) || ((b == 93) || ((b == 61) || ((b == 43) || (b == 47))))))
+is_mark b = (b == 58) || (b == 47)
 
 -- a byte of a word of any length
 unfoldable pub is_plain : ℕ → Bool

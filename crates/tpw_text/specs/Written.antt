@@ -90,7 +90,7 @@ abbrev pub IsMarked : (ℕ → Bool) → List Bool → List Bool → Type 0
 IsMarked test before after =
     (k : ℕ) → k < length before → slice_index_or after k false ≡ (slice_index_or before k false || test k)
 
--- of so many lines, the places up to the last are marked where a test is true
+-- of this many lines, the places up to the last are marked where a test is true
 abbrev pub AreMarks : (ℕ → Bool) → List Bool → ℕ → Type 0
 AreMarks test marks lines = (k : ℕ) → k ≤ lines → slice_index_or marks k false ≡ test k
 

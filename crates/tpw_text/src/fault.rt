@@ -1,4 +1,4 @@
-//! What is wrong with a text.
+//! The faults of a text.
 
 ghost use Rattle.std.specs.Prelude.{◌≡◌};
 ghost use Rattle.tpw_text.specs.Faults.{out_of_memory};
@@ -6,13 +6,11 @@ ghost use Rattle.tpw_text.specs.Faults.{out_of_memory};
 use std::alloc::{AllocError, AllocFailed};
 use thiserror::Error;
 
-/// What is wrong at a place of a text.
+/// A fault at a place of a text.
 #[derive(Clone, Copy, Debug, PartialEq, Eq, Error)]
 pub enum TextFault {
     #[error("unknown instruction")]
     Unknown,
-    #[error("left out of this profile (docs/INSTRUCTIONS.md, \"Left out\")")]
-    LeftOut,
     #[error("an operand is missing behind it")]
     Missing,
     #[error("something stands behind the end of the statement")]
@@ -23,39 +21,27 @@ pub enum TextFault {
     OutOfRange,
     #[error("this word is not expected here")]
     Unexpected,
-    #[error("a label, a local or a constant of this name stands above")]
+    #[error("a label of this name stands above")]
     Twice,
-    #[error("no local has this name")]
-    NoLocal,
-    #[error("the local of this name has fewer words")]
-    OutsideLocal,
-    #[error("it is said once, and above what reads it")]
+    #[error("it is said once")]
     Settled,
     #[error("a name is wanted here: no mark, and not as a number begins")]
     NoName,
-    #[error("a local has at least one word")]
-    NoWords,
     #[error("initial words rise: those above reach beyond this word")]
     InitialBelow,
-    #[error("the workspace that is stated has no room for this local")]
-    NoRoom,
     #[error("no label has this name")]
     NoLabel,
-    #[error("no loop of this name is open innermost")]
-    NoLoop,
-    #[error("this loop has no end")]
-    NoEnd,
     #[error("a worker has at most 16 loops")]
     TooManyLoops,
     #[error("a spelling has 1 to 8 bytes")]
     NoLength,
-    #[error("the text has more lines, names or words than a worker can have")]
+    #[error("the text has more lines, labels or words than a worker can have")]
     TooMany,
     #[error("memory")]
     Memory,
 }
 
-/// What is wrong with a text, and where: lines and columns count from 1, columns in bytes.
+/// A fault of a text, and where: lines and columns count from 1, columns in bytes.
 #[derive(Clone, Copy, Debug, PartialEq, Eq, Error)]
 #[error("{line}:{column}: {fault}")]
 pub struct SourceFault {

@@ -11,7 +11,7 @@ use crate::words::Word;
 use tp_image::Version;
 
 impl Draft<'_> {
-    /// Sets the version of the image, where no statement has said or read it.
+    /// Sets the version of the image, where no statement has said it.
     #[tactic(auto, unfolding(crate::specs::Fields::version_set))]
     pub fn set_version(&mut self, word: &Word<'_>, version: Version) -> Result<(), SourceFault>
         ensures said { OnOk result (version_set word.now version (said self.old) ≡ Ok (said self.new)) }
@@ -26,7 +26,7 @@ impl Draft<'_> {
         Ok(())
     }
 
-    /// Sets how many workspace words there are, where no statement has said or read it.
+    /// Sets how many workspace words there are, where no statement has said it.
     #[tactic(auto, unfolding(crate::specs::Fields::workspace_set))]
     pub fn set_workspace(&mut self, word: &Word<'_>, workspace: u16) -> Result<(), SourceFault>
         ensures said { OnOk result (workspace_set word.now workspace (said self.old) ≡ Ok (said self.new)) }
@@ -36,12 +36,12 @@ impl Draft<'_> {
         if self.settled.workspace {
             return Err(word.fault(TextFault::Settled));
         }
-        self.workspace = Some(workspace);
+        self.workspace = workspace;
         self.settled.workspace = true;
         Ok(())
     }
 
-    /// Sets the first Wptr, where no statement has said or read it.
+    /// Sets the first Wptr, where no statement has said it.
     #[tactic(auto, unfolding(crate::specs::Fields::start_set))]
     pub fn set_start(&mut self, word: &Word<'_>, start: u16) -> Result<(), SourceFault>
         ensures said { OnOk result (start_set word.now start (said self.old) ≡ Ok (said self.new)) }
@@ -56,7 +56,7 @@ impl Draft<'_> {
         Ok(())
     }
 
-    /// Sets the words of the packet, where no statement has said or read it.
+    /// Sets the words of the packet, where no statement has said it.
     #[tactic(auto, unfolding(crate::specs::Fields::packet_set))]
     pub fn set_packet(&mut self, word: &Word<'_>, packet: u16) -> Result<(), SourceFault>
         ensures said { OnOk result (packet_set word.now packet (said self.old) ≡ Ok (said self.new)) }
@@ -71,7 +71,7 @@ impl Draft<'_> {
         Ok(())
     }
 
-    /// Sets the words of the result, where no statement has said or read it.
+    /// Sets the words of the result, where no statement has said it.
     #[tactic(auto, unfolding(crate::specs::Fields::results_set))]
     pub fn set_results(&mut self, word: &Word<'_>, results: u16) -> Result<(), SourceFault>
         ensures said { OnOk result (results_set word.now results (said self.old) ≡ Ok (said self.new)) }

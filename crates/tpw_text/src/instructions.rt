@@ -1,15 +1,15 @@
 //! The grammar of instructions.
 
 ghost use Rattle.std.specs.Prelude.{◌≡◌, ◌≤◌, IfOk, slice_get};
-ghost use Rattle.tpw_text.specs.Grammar.{length_said, plain_line, number_line, is_word_here, offset_said, label_line};
-ghost use Rattle.tpw_text.specs.Grammar.{distance_said, number_said, local_instr_said, operand_said, with_operand_said};
+ghost use Rattle.tpw_text.specs.Grammar.{length_said, plain_line, number_line, is_word_here, label_line};
+ghost use Rattle.tpw_text.specs.Grammar.{distance_said, number_said, operand_said, with_operand_said};
 ghost use Rattle.tpw_text.specs.Grammar.{operation_said, instruction_said};
 
 use crate::draft::DraftLine;
 use crate::fault::{SourceFault, TextFault};
-use crate::mnemonics::{function_of, is_left_out, operation_of};
+use crate::mnemonics::{function_of, operation_of};
 use crate::number::{count_of, is_number, number_of};
-use crate::statement::{Instruction, LocalInstr, NewLine, Offset};
+use crate::statement::NewLine;
 use crate::wanted::{expect_end, word_at};
 use crate::words::Word;
 use tp_decode::Instr;
@@ -49,7 +49,7 @@ fn plain_line<'a>(word: &Word<'a>, bytes: Option<u8>, instr: Instr) -> NewLine<'
 }
 
 /// A line with the instruction of a function and its operand.
-pub fn number_line<'a>(
+fn number_line<'a>(
     word: &Word<'a>,
     bytes: Option<u8>,
     function: u8,
@@ -63,36 +63,18 @@ pub fn number_line<'a>(
     }
 }
 
-/// `+ N` behind a local's name, or nothing.
-#[tactic(auto, unfolding(crate::specs::Grammar::offset_said))]
-fn offset_of<'a>(words: &[Word<'a>], i: usize) -> Result<Option<Offset<'a>>, SourceFault>
-    requires { i ≤ 4 }
-    ensures { result ≡ offset_said words.now i }
-{
-    let Some(mark) = words.get(i) else {
-        return Ok(None);
-    };
-    if !mark.is("+") {
-        return Err(mark.fault(TextFault::Unexpected));
-    }
-    let number = number_of(&word_at(words, i + 1, mark)?)?;
-    expect_end(words, i + 2)?;
-    let mark = *mark;
-    Ok(Some(Offset { mark, number }))
-}
-
 /// A line with a label, and nothing behind it.
 fn label_line<'a>(
     words: &[Word<'a>],
     first: &Word<'a>,
     i: usize,
     line: DraftLine<'a>,
-) -> Result<Instruction<'a>, SourceFault>
+) -> Result<NewLine<'a>, SourceFault>
     ensures { result ≡ label_line words.now first.now i line.entry }
 {
     expect_end(words, i)?;
     let word = *first;
-    Ok(Instruction::Line(NewLine { word, line }))
+    Ok(NewLine { word, line })
 }
 
 /// `ldc LABEL - LABEL`, behind the mark.
@@ -103,7 +85,7 @@ fn distance<'a>(
     bytes: Option<u8>,
     i: usize,
     to: &Word<'a>,
-) -> Result<Instruction<'a>, SourceFault>
+) -> Result<NewLine<'a>, SourceFault>
     requires { i ≤ 4 }
     ensures { result ≡ distance_said words.now first.now bytes i to.now }
 {
@@ -120,35 +102,12 @@ fn with_number<'a>(
     bytes: Option<u8>,
     i: usize,
     word: &Word<'a>,
-) -> Result<Instruction<'a>, SourceFault>
+) -> Result<NewLine<'a>, SourceFault>
     ensures { result ≡ number_said words.now first.now function bytes i word.now }
 {
     expect_end(words, i)?;
     let operand = number_of(word)?;
-    Ok(Instruction::Line(number_line(first, bytes, function, operand)?))
-}
-
-/// An instruction of a function with a local word as its operand.
-#[tactic(auto, unfolding(crate::specs::Grammar::local_instr_said))]
-fn with_local<'a>(
-    words: &[Word<'a>],
-    first: &Word<'a>,
-    function: u8,
-    bytes: Option<u8>,
-    i: usize,
-    name: &Word<'a>,
-) -> Result<Instruction<'a>, SourceFault>
-    requires { i ≤ 4 }
-    ensures { result ≡ local_instr_said words.now first.now function bytes i name.now }
-{
-    let offset = offset_of(words, i)?;
-    Ok(Instruction::OfLocal(LocalInstr {
-        word: *first,
-        function,
-        bytes,
-        name: *name,
-        offset,
-    }))
+    number_line(first, bytes, function, operand)
 }
 
 /// Whether a word is here, and is this one.
@@ -167,7 +126,7 @@ fn with_word<'a>(
     bytes: Option<u8>,
     i: usize,
     word: &Word<'a>,
-) -> Result<Instruction<'a>, SourceFault>
+) -> Result<NewLine<'a>, SourceFault>
     requires { i ≤ 4 }
     ensures { result ≡ operand_said words.now first.now function bytes i word.now }
 {
@@ -178,10 +137,8 @@ fn with_word<'a>(
         label_line(words, first, i, DraftLine::Cj(*word, bytes))
     } else if first.is("ldc") && is_here(words, i, "-") {
         distance(words, first, bytes, i, word)
-    } else if number {
-        with_number(words, first, function, bytes, i, word)
     } else {
-        with_local(words, first, function, bytes, i, word)
+        with_number(words, first, function, bytes, i, word)
     }
 }
 
@@ -191,7 +148,7 @@ fn with_operand<'a>(
     words: &[Word<'a>],
     first: &Word<'a>,
     function: u8,
-) -> Result<Instruction<'a>, SourceFault>
+) -> Result<NewLine<'a>, SourceFault>
     ensures { result ≡ with_operand_said words.now first.now function }
 {
     let (bytes, i) = length_of(words)?;
@@ -205,20 +162,17 @@ fn operation<'a>(
     words: &[Word<'a>],
     first: &Word<'a>,
     instr: Instr,
-) -> Result<Instruction<'a>, SourceFault>
+) -> Result<NewLine<'a>, SourceFault>
     ensures { result ≡ operation_said words.now first.now instr }
 {
     let (bytes, i) = length_of(words)?;
     expect_end(words, i)?;
-    Ok(Instruction::Line(plain_line(first, bytes, instr)))
+    Ok(plain_line(first, bytes, instr))
 }
 
 /// An instruction.
 #[tactic(auto, unfolding(crate::specs::Grammar::instruction_said))]
-pub fn instruction_of<'a>(
-    words: &[Word<'a>],
-    first: &Word<'a>,
-) -> Result<Instruction<'a>, SourceFault>
+pub fn instruction_of<'a>(words: &[Word<'a>], first: &Word<'a>) -> Result<NewLine<'a>, SourceFault>
     ensures { result ≡ instruction_said words.now first.now }
 {
     if let Some(function) = function_of(first) {
@@ -227,10 +181,5 @@ pub fn instruction_of<'a>(
     if let Some(instr) = operation_of(first) {
         return operation(words, first, instr);
     }
-    let fault = if is_left_out(first) {
-        TextFault::LeftOut
-    } else {
-        TextFault::Unknown
-    };
-    Err(first.fault(fault))
+    Err(first.fault(TextFault::Unknown))
 }

@@ -5,47 +5,27 @@ ghost use Rattle.tpw_text.specs.Keywords.{keyword_name, keyword_named};
 
 use crate::words::Word;
 
-/// What kind of statement a first word begins. A statement with another first word is an instruction.
+/// The kind of statement that a first word begins. A statement with another first word is an instruction.
 #[derive(Clone, Copy)]
 pub enum Keyword {
-    Worker,
     Packet,
     Results,
     Start,
     Workspace,
     Version,
-    Const,
-    Local,
     Init,
     Byte,
-    Receive,
-    Send,
-    Trace,
-    Load,
-    Store,
-    For,
-    End,
     Loop,
 }
 
-const KEYWORDS: [Keyword; 18] = [
-    Keyword::Worker,
+const KEYWORDS: [Keyword; 8] = [
     Keyword::Packet,
     Keyword::Results,
     Keyword::Start,
     Keyword::Workspace,
     Keyword::Version,
-    Keyword::Const,
-    Keyword::Local,
     Keyword::Init,
     Keyword::Byte,
-    Keyword::Receive,
-    Keyword::Send,
-    Keyword::Trace,
-    Keyword::Load,
-    Keyword::Store,
-    Keyword::For,
-    Keyword::End,
     Keyword::Loop,
 ];
 
@@ -54,23 +34,13 @@ fn name_of(keyword: Keyword) -> &'static str
     ensures { result.now ≡ keyword_name keyword }
 {
     match keyword {
-        Keyword::Worker => "worker",
         Keyword::Packet => "packet",
         Keyword::Results => "result",
         Keyword::Start => "start",
         Keyword::Workspace => "workspace",
         Keyword::Version => "version",
-        Keyword::Const => "const",
-        Keyword::Local => "local",
         Keyword::Init => "init",
         Keyword::Byte => "byte",
-        Keyword::Receive => "receive",
-        Keyword::Send => "send",
-        Keyword::Trace => "trace",
-        Keyword::Load => "load",
-        Keyword::Store => "store",
-        Keyword::For => "for",
-        Keyword::End => "end",
         Keyword::Loop => "loop",
     }
 }

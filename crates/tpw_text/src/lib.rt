@@ -2,14 +2,12 @@
 #![tactic(auto)]
 
 mod adding;
-mod consts;
 mod draft;
 mod fault;
 mod fields;
 mod finish;
 mod instructions;
 mod keyword;
-mod lists;
 mod mnemonics;
 mod number;
 mod reading;
@@ -21,7 +19,7 @@ mod words;
 mod writing;
 
 pub use fault::{SourceFault, TextFault};
-pub use finish::{Label, Local, Source};
+pub use finish::{Label, Source};
 pub use number::signed_of;
 pub use reading::read_source;
 pub use remarks::{LineRemark, LoopRemark, Remarks};

@@ -1,72 +1,10 @@
 //! The names of instructions.
 
 ghost use Rattle.std.specs.Prelude.{◌≡◌};
-ghost use Rattle.tpw_text.specs.Names.{function_by_name, function_named, operation_named, is_left_out};
+ghost use Rattle.tpw_text.specs.Names.{function_by_name, function_named, operation_named};
 
 use crate::words::Word;
 use tp_decode::{FUNCTIONS, Instr, OPERATIONS};
-
-/// Instructions of the T414 that have no row in this profile, and two of later ones.
-const LEFT_OUT: [&str; 58] = [
-    "call",
-    "ret",
-    "gcall",
-    "gajw",
-    "ldpi",
-    "startp",
-    "endp",
-    "runp",
-    "ldpri",
-    "saveh",
-    "savel",
-    "sthf",
-    "sthb",
-    "stlf",
-    "stlb",
-    "resetch",
-    "alt",
-    "altwt",
-    "altend",
-    "enbc",
-    "disc",
-    "enbs",
-    "diss",
-    "enbt",
-    "dist",
-    "talt",
-    "taltwt",
-    "tin",
-    "ldtimer",
-    "sttimer",
-    "outbyte",
-    "outword",
-    "ladd",
-    "lsub",
-    "lsum",
-    "ldiff",
-    "lmul",
-    "ldiv",
-    "lshl",
-    "lshr",
-    "norm",
-    "fmul",
-    "xword",
-    "cword",
-    "xdble",
-    "csngl",
-    "ccnt1",
-    "bcnt",
-    "wcnt",
-    "unpacksn",
-    "roundsn",
-    "postnormsn",
-    "ldinf",
-    "cflerr",
-    "testerr",
-    "testpranal",
-    "dup",
-    "pop",
-];
 
 /// The instruction with an operand of its own that has this name, at the operand 0.
 #[tactic(auto, unfolding(crate::specs::Names::function_by_name))]
@@ -93,12 +31,4 @@ pub fn operation_of(word: &Word<'_>) -> Option<Instr>
     ensures { result ≡ operation_named word.now.text.now }
 {
     OPERATIONS.iter().copied().find(|i| word.is(i.name()))
-}
-
-/// Whether the profile leaves out the instruction of this name.
-#[tactic(auto, unfolding(crate::specs::Names::is_left_out))]
-pub fn is_left_out(word: &Word<'_>) -> bool
-    ensures { result ≡ is_left_out word.now.text.now }
-{
-    LEFT_OUT.iter().any(|name| word.is(name))
 }

@@ -6,58 +6,34 @@ ghost use Rattle.tpw_text.specs.Drafts.{said};
 ghost use Rattle.tpw_text.specs.Apart.{draft_apart};
 ghost use Rattle.tpw_text.specs.Programs.{source_said};
 ghost use Rattle.tpw_text.specs.Texts.{text_said, source_of};
-ghost use Rattle.tpw_text.specs.Grammar.{statement_kept};
-ghost use Rattle.tpw_text.specs.Meaning.{statement_with, line_said};
+ghost use Rattle.tpw_text.specs.Meaning.{line_said};
 
-use crate::consts::with_values;
-use crate::draft::{ConstName, Draft};
+use crate::draft::Draft;
 use crate::fault::SourceFault;
 use crate::finish::{Source, finish};
-use crate::statement::Statement;
 use crate::statements::read_statement;
 use crate::wanted::name_of;
 use crate::words::{Word, words_of};
 use std::alloc::Global;
 
-/// What a statement says, where these are the constants above it.
-#[tactic(auto, unfolding(crate::specs::Meaning::statement_with))]
-fn read_with<'a>(
-    alloc: Global,
-    consts: &[ConstName<'a>],
-    words: &[Word<'a>],
-) -> Result<Statement<'a>, SourceFault>
-    ensures said { IfOk result (λ s. statement_with consts.now words.now ≡ Ok (statement_kept s)) }
-    ensures refused { IfErr result (IsRefusal (statement_with consts.now words.now)) }
-{
-    let read = with_values(alloc, consts, words)?;
-    read_statement(alloc, &read)
-}
-
 /// A line: a label with a colon or none, and a statement or none. What the statement says is read before it is added.
 #[tactic(auto, unfolding(crate::specs::Meaning::line_said))]
-fn read_line<'a>(
-    alloc: Global,
-    draft: &mut Draft<'a>,
-    words: &[Word<'a>],
-) -> Result<(), SourceFault>
+fn read_line<'a>(draft: &mut Draft<'a>, words: &[Word<'a>]) -> Result<(), SourceFault>
     ensures said { OnOk result (line_said words.now (said draft.old) ≡ Ok (said draft.new)) }
     ensures refused { IfErr result (IsRefusal (line_said words.now (said draft.old))) }
 {
     match words {
         [word, mark, rest @ ..] if mark.is(":") => {
             let label = name_of(word)?;
-            let statement = read_with(alloc, &draft.consts, rest)?;
+            let statement = read_statement(rest)?;
             draft.set_label(&label)?;
-            draft.add(&statement)
+            draft.add(statement)
         }
-        _ => {
-            let statement = read_with(alloc, &draft.consts, words)?;
-            draft.add(&statement)
-        }
+        _ => draft.add(read_statement(words)?),
     }
 }
 
-/// What a text says, line by line, or its first fault.
+/// The draft of a text, line by line, or its first fault.
 fn draft_of<'a>(alloc: Global, text: &'a str) -> Result<Draft<'a>, SourceFault>
     ensures said { IfOk result (λ d. text_said text.now ≡ Ok (draft_apart (said d))) }
     ensures refused { IfErr result (IsRefusal (text_said text.now)) }
@@ -65,7 +41,7 @@ fn draft_of<'a>(alloc: Global, text: &'a str) -> Result<Draft<'a>, SourceFault>
     let mut draft = Draft::new(alloc);
     for (i, line) in text.lines().enumerate() {
         let words = words_of(alloc, line.as_bytes(), i + 1)?;
-        read_line(alloc, &mut draft, &words)?;
+        read_line(&mut draft, &words)?;
     }
     Ok(draft)
 }

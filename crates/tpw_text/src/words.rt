@@ -72,7 +72,7 @@ impl<'a> Word<'a> {
 pub fn is_mark(byte: u8) -> bool
     ensures { result ≡ is_mark byte }
 {
-    matches!(byte, b',' | b':' | b'[' | b']' | b'=' | b'+' | b'/')
+    matches!(byte, b':' | b'/')
 }
 
 /// Whether a byte is one of a word of any length.
@@ -165,7 +165,7 @@ pub fn words_of<'a>(alloc: Global, text: &'a [u8], line: usize) -> Result<Vec<Wo
     Ok(words)
 }
 
-/// What is behind the label of bytes that have these words, or all of them where they have no label.
+/// The words behind the label of bytes that have these words, or all of them where they have no label.
 fn behind_label<'a>(words: &[Word<'_>], text: &'a [u8]) -> &'a [u8]
     ensures { result.now ≡ behind_label (map token words.now) text.now }
 {

@@ -18,7 +18,6 @@ use Rattle.tpw_text.specs.declared.draft.DraftLine.{DraftLine}
 use Rattle.tpw_text.specs.declared.draft.DraftLine.TheVariants as draft
 use Rattle.tpw_text.specs.declared.draft.LabelName.{LabelName}
 use Rattle.tpw_text.specs.declared.statement.NewLine.{NewLine}
-use Rattle.tpw_text.specs.declared.statement.Instruction.TheVariants as instruction
 use Rattle.tpw_text.specs.Limits.{most_bytes}
 use Rattle.tpw_text.specs.Faults.{then_read, ◌>>=◌}
 use Rattle.tpw_text.specs.Words.{position_of, is_plain, begins}
@@ -27,9 +26,8 @@ use Rattle.tpw_text.specs.Names.{function_named, function_by_name, operation_nam
 use Rattle.tpw_text.specs.Drafts.{Said, pushed}
 use Rattle.tpw_text.specs.Keywords.{keyword_named}
 use Rattle.tpw_text.specs.Statements.{word_said, end_said, number_read, count_read}
-use Rattle.tpw_text.specs.Lists.{parts, list_said, one_word_said, no_more_said, byte_line_said}
-use Rattle.tpw_text.specs.Grammar.{keyword_said, statement_said, is_word, plain_line, length_said, operand_said, number_said, distance_said, with_operand_said, operation_said, instruction_said}
-use Rattle.tpw_text.specs.Meaning.{in_turn, line_added, added, unlabelled, line_said}
+use Rattle.tpw_text.specs.Grammar.{byte_said, keyword_said, statement_said, is_word, plain_line, length_said, operand_said, number_said, distance_said, with_operand_said, operation_said, instruction_said}
+use Rattle.tpw_text.specs.Meaning.{added, unlabelled, line_said}
 use Rattle.tpw_text.specs.Apart.{word_for}
 use Rattle.tpw_text.specs.Programs.{place_of_label, line_placed}
 use Rattle.tpw_text.specs.Written.{label_text, stated_text, operation_text, byte_text, line_text, names_from_line}
@@ -39,7 +37,6 @@ use Rattle.tpw_text_laws.proofs.Tests.{and_false, or_left, or_right, same_place}
 use Rattle.tpw_text_laws.proofs.Bytes.{IsWord, literal_word, decimal_word, signed_word, label_word, minus_word, name_word, hexadecimal_word}
 use Rattle.tpw_text_laws.proofs.Numbers.{count_is, signed_is, begins_signed, byte_is, byte_inner}
 use Rattle.tpw_text_laws.proofs.Pieces.{Piece, Gap, Of, Mark, write, placed, AreApart}
-use Rattle.tpw_text_laws.proofs.NoConstants.{statement_alone}
 use Rattle.tpw_text_laws.proofs.Fields.{not_labelled, other_word}
 use Rattle.tpw_text_laws.proofs.Rows.{at, AreLabels, label_placed}
 use Rattle.tpw_text_laws.proofs.InstructionNames.{IsOperation, IsFunction, no_keyword, how_named}
@@ -53,7 +50,7 @@ pub record Reads (named : ℕ → Bool) (count : ℕ) (line : Line) : Type 0 whe
   pub pieces : List Piece
   pub is : line_text line ≡ write pieces
   pub apart : AreApart pieces
-  pub says : (n : ℕ) (d : Said) → d.consts ≡ [] → (w : Word) × (l : DraftLine) ×
+  pub says : (n : ℕ) (d : Said) → (w : Word) × (l : DraftLine) ×
       (line_said (map word_for (placed n 1 pieces)) d ≡ pushed w l d) × IsDrafted named count l line ×
       (position_of w ≡ record { line = n; column = column_of line })
 
@@ -100,13 +97,11 @@ spelled_written name bytes ps = ap (λ t. codes "        " ++ t) (append_assoc n
 spelled_apart : (name : List ℕ) (bytes : Option ℕ) (ps : List Piece) → IsWord name → begins is_plain (write ps) ≡ false → AreApart ps → AreApart (spelled name bytes ps)
 spelled_apart name bytes ps word ends apart = (word, stated_apart bytes ps ends apart)
 
-instruction_says : (first : Word) (ws : List Word) (l : NewLine) (d : Said) → d.consts ≡ [] →
-    keyword_named first.text.now ≡ None → instruction_said (first ∷ ws) first ≡ Ok (instruction.Line l) →
+instruction_says : (first : Word) (ws : List Word) (l : NewLine) (d : Said) →
+    keyword_named first.text.now ≡ None → instruction_said (first ∷ ws) first ≡ Ok l →
     unlabelled (first ∷ ws) d ≡ pushed l.word l.line d
 unfolding statement_said added
-instruction_says first ws l d bare none said =
-    let plain : (statement_said (first ∷ ws) >>= λ s. added s d) ≡ pushed l.word l.line d = rw (none, said) refl in
-    ap (λ r. r >>= λ s. added s d) (statement_alone d.consts (first ∷ ws) bare) ∙ plain
+instruction_says first ws l d none said = rw (none, said) refl
 
 not_zero : (n : ℕ) → 0 < n → (n == 0) ≡ false
 not_zero n h = grind (arith, nat_tests)
@@ -123,19 +118,19 @@ operand_here n column None first w ws = refl
 operand_here n column (Some bytes) first w ws = refl
 
 with_operand : (words : List Word) (first w : Word) (function i : ℕ) (bytes : Option ℕ) (l : NewLine) → length_said words ≡ Ok (bytes, i) → slice_get words i ≡ Some w
-    → operand_said words first function bytes (i + 1) w ≡ Ok (instruction.Line l) → with_operand_said words first function ≡ Ok (instruction.Line l)
+    → operand_said words first function bytes (i + 1) w ≡ Ok l → with_operand_said words first function ≡ Ok l
 unfolding with_operand_said word_said
 with_operand words first w function i bytes l long here said = rw (long, here) said
 
 of_a_function : (words : List Word) (first : Word) (function : ℕ) (l : NewLine) →
-    function_named first.text.now ≡ Some function → with_operand_said words first function ≡ Ok (instruction.Line l) →
-    instruction_said words first ≡ Ok (instruction.Line l)
+    function_named first.text.now ≡ Some function → with_operand_said words first function ≡ Ok l →
+    instruction_said words first ≡ Ok l
 unfolding instruction_said
 of_a_function words first function l named said = rw named said
 
 of_an_operation : (words : List Word) (first : Word) (i : Instr) (l : NewLine) → function_named first.text.now ≡ None →
-    operation_named first.text.now ≡ Some i → operation_said words first i ≡ Ok (instruction.Line l) →
-    instruction_said words first ≡ Ok (instruction.Line l)
+    operation_named first.text.now ≡ Some i → operation_said words first i ≡ Ok l →
+    instruction_said words first ≡ Ok l
 unfolding instruction_said
 of_an_operation words first i l no_function named said = rw (no_function, named) said
 
@@ -145,11 +140,11 @@ one_word first d = refl
 
 -- a function with its operand
 function_says : (n column : ℕ) (bytes : Option ℕ) (first w : Word) (ws : List Word) (function : ℕ) (l : NewLine)
-    (d : Said) → d.consts ≡ [] → MayBeStated bytes → IsWord w.text.now → keyword_named first.text.now ≡ None
-    → function_named first.text.now ≡ Some function → operand_said (first ∷ stated_words n column bytes (w ∷ ws)) first function bytes (operand_at bytes + 1) w ≡ Ok (instruction.Line l)
+    (d : Said) → MayBeStated bytes → IsWord w.text.now → keyword_named first.text.now ≡ None
+    → function_named first.text.now ≡ Some function → operand_said (first ∷ stated_words n column bytes (w ∷ ws)) first function bytes (operand_at bytes + 1) w ≡ Ok l
     → line_said (first ∷ stated_words n column bytes (w ∷ ws)) d ≡ pushed l.word l.line d
-function_says n column bytes first w ws function l d bare may word none named said =
-    is_unlabelled bytes ∙ instruction_says first (stated_words n column bytes (w ∷ ws)) l d bare none
+function_says n column bytes first w ws function l d may word none named said =
+    is_unlabelled bytes ∙ instruction_says first (stated_words n column bytes (w ∷ ws)) l d none
     (of_a_function _ first function l named (with_operand _ first w function (operand_at bytes) bytes l
     (length_is n column bytes first w ws may word) (operand_here n column bytes first w ws) said))
   where
@@ -159,7 +154,7 @@ function_says n column bytes first w ws function l d bare may word none named sa
 
 -- a number
 number_operand : (words : List Word) (first w : Word) (function i : ℕ) (bytes : Option ℕ) (z : ℤ) (instr : Instr) → slice_get words i ≡ None → begins_number w.text.now ≡ true → number_read w ≡ Ok z
-    → instruction function z ≡ Some instr → operand_said words first function bytes i w ≡ Ok (instruction.Line (plain_line first bytes instr))
+    → instruction function z ≡ Some instr → operand_said words first function bytes i w ≡ Ok (plain_line first bytes instr)
 unfolding operand_said number_said end_said
 number_operand words first w function i bytes z instr none begins read made = rw (begins, none, and_false (is_word first (codes "ldc")), read, made) refl
 
@@ -181,7 +176,7 @@ function_read named count i bytes is fits may =
           (is.text ∙ ap (λ t. 32 ∷ t) (sym (append-nil (signed_decimal (entry i).operand)))) ∙
           spelled_written (entry i).name bytes ps;
       apart = spelled_apart (entry i).name bytes ps (name_word i) refl (signed_word (entry i).operand, (refl, tt));
-      says = λ n d bare.
+      says = λ n d.
           let first : Word = at n 9 (entry i).name in
           let c : ℕ = 9 + length (entry i).name in
           let w : Word = at n (column_behind c bytes + 1) (signed_decimal (entry i).operand) in
@@ -189,7 +184,7 @@ function_read named count i bytes is fits may =
             l.word,
             l.line,
             ap (λ ws. line_said (first ∷ ws) d) (stated_placed n c bytes ps)
-                ∙ function_says n c bytes first w [] (entry i).function l d bare may (signed_word (entry i).operand) (no_keyword i) is.named
+                ∙ function_says n c bytes first w [] (entry i).function l d may (signed_word (entry i).operand) (no_keyword i) is.named
                 (number_operand _ first w (entry i).function (operand_at bytes + 1) bytes (entry i).operand i
                 (nothing_behind n c bytes first w) (begins_signed (entry i).operand fits)
                 (signed_is w (entry i).operand refl fits) is.made),
@@ -200,17 +195,17 @@ function_read named count i bytes is fits may =
 
 -- an operation
 operation_length : (n column : ℕ) (bytes : Option ℕ) (first : Word) (i : Instr) → MayBeStated bytes →
-    operation_said (first ∷ stated_words n column bytes []) first i ≡ Ok (instruction.Line (plain_line first bytes i))
+    operation_said (first ∷ stated_words n column bytes []) first i ≡ Ok (plain_line first bytes i)
 unfolding operation_said length_said word_said end_said
 operation_length n column None first i may = refl
 operation_length n column (Some bytes) first i may = rw (count_is (at n (column + 1) (decimal bytes)) most_bytes bytes refl may.1 (omega (arith, may.1)), not_zero bytes may.0) refl
 
-operation_says : (n column : ℕ) (bytes : Option ℕ) (first : Word) (i : Instr) (d : Said) → d.consts ≡ [] →
+operation_says : (n column : ℕ) (bytes : Option ℕ) (first : Word) (i : Instr) (d : Said) →
     MayBeStated bytes → keyword_named first.text.now ≡ None → function_named first.text.now ≡ None →
     operation_named first.text.now ≡ Some i
     → line_said (first ∷ stated_words n column bytes []) d ≡ pushed first (draft.Known (Spelled (Plain i) bytes)) d
-operation_says n column bytes first i d bare may none no_function named =
-    is_unlabelled bytes ∙ instruction_says first (stated_words n column bytes []) (plain_line first bytes i) d bare none
+operation_says n column bytes first i d may none no_function named =
+    is_unlabelled bytes ∙ instruction_says first (stated_words n column bytes []) (plain_line first bytes i) d none
     (of_an_operation _ first i (plain_line first bytes i) no_function named
     (operation_length n column bytes first i may))
   where
@@ -224,12 +219,12 @@ operation_read named count i bytes is may = record {
   pieces = spelled (entry i).name bytes [];
   is = ap (λ t. codes "        " ++ ((entry i).name ++ stated_text bytes ++ t)) is.text ∙ spelled_written (entry i).name bytes [];
   apart = spelled_apart (entry i).name bytes [] (name_word i) refl tt;
-  says = λ n d bare.
+  says = λ n d.
       let first : Word = at n 9 (entry i).name in
       let c : ℕ = 9 + length (entry i).name in (
         first,
         draft.Known (Spelled (Plain i) bytes),
-        ap (λ ws. line_said (first ∷ ws) d) (stated_placed n c bytes []) ∙ operation_says n c bytes first i d bare may (no_keyword i) is.named is.found,
+        ap (λ ws. line_said (first ∷ ws) d) (stated_placed n c bytes []) ∙ operation_says n c bytes first i d may (no_keyword i) is.named is.found,
         plain_drafted named count (Spelled (Plain i) bytes),
         refl,
       );
@@ -238,13 +233,13 @@ operation_read named count i bytes is may = record {
 -- jumps to labels
 jump_operand : (words : List Word) (n column i to : ℕ) (bytes : Option ℕ) → slice_get words i ≡ None
     → operand_said words (at n 9 (codes "j")) 0 bytes i (at n column (label_text to)) ≡ Ok
-    (instruction.Line (record { word = at n 9 (codes "j"); line = draft.Jump (at n column (label_text to)) bytes }))
+    (record { word = at n 9 (codes "j"); line = draft.Jump (at n column (label_text to)) bytes })
 unfolding operand_said end_said
 jump_operand words n column i to bytes none = rw none refl
 
 cj_operand : (words : List Word) (n column i to : ℕ) (bytes : Option ℕ) → slice_get words i ≡ None
     → operand_said words (at n 9 (codes "cj")) 10 bytes i (at n column (label_text to)) ≡ Ok
-    (instruction.Line (record { word = at n 9 (codes "cj"); line = draft.Cj (at n column (label_text to)) bytes }))
+    (record { word = at n 9 (codes "cj"); line = draft.Cj (at n column (label_text to)) bytes })
 unfolding operand_said end_said
 cj_operand words n column i to bytes none = rw none refl
 
@@ -278,14 +273,14 @@ jump_read named count to bytes within there may =
       pieces = spelled (codes "j") bytes ps;
       is = ap (λ t. codes "        " ++ t) (behind_name (codes "j" ++ stated_text bytes) (label_text to)) ∙ spelled_written (codes "j") bytes ps;
       apart = spelled_apart (codes "j") bytes ps (literal_word _ refl) refl (label_word to, (refl, tt));
-      says = λ n d bare.
+      says = λ n d.
           let first : Word = at n 9 (codes "j") in
           let c : ℕ = column_behind 10 bytes + 1 in
           let w : Word = at n c (label_text to) in (
             first,
             draft.Jump w bytes,
             ap (λ ws. line_said (first ∷ ws) d) (stated_placed n 10 bytes ps)
-                ∙ function_says n 10 bytes first w [] 0 (record { word = first; line = draft.Jump w bytes }) d bare may (label_word to) refl refl
+                ∙ function_says n 10 bytes first w [] 0 (record { word = first; line = draft.Jump w bytes }) d may (label_word to) refl refl
                 (jump_operand _ n c (operand_at bytes + 1) to bytes (nothing_behind n 10 bytes first w)),
             jump_drafted named count to bytes w refl within there,
             refl,
@@ -300,14 +295,14 @@ cj_read named count to bytes within there may =
       pieces = spelled (codes "cj") bytes ps;
       is = ap (λ t. codes "        " ++ t) (behind_name (codes "cj" ++ stated_text bytes) (label_text to)) ∙ spelled_written (codes "cj") bytes ps;
       apart = spelled_apart (codes "cj") bytes ps (literal_word _ refl) refl (label_word to, (refl, tt));
-      says = λ n d bare.
+      says = λ n d.
           let first : Word = at n 9 (codes "cj") in
           let c : ℕ = column_behind 11 bytes + 1 in
           let w : Word = at n c (label_text to) in (
             first,
             draft.Cj w bytes,
             ap (λ ws. line_said (first ∷ ws) d) (stated_placed n 11 bytes ps)
-                ∙ function_says n 11 bytes first w [] 10 (record { word = first; line = draft.Cj w bytes }) d bare may (label_word to) refl refl
+                ∙ function_says n 11 bytes first w [] 10 (record { word = first; line = draft.Cj w bytes }) d may (label_word to) refl refl
                 (cj_operand _ n c (operand_at bytes + 1) to bytes (nothing_behind n 11 bytes first w)),
             cj_drafted named count to bytes w refl within there,
             refl,
@@ -318,10 +313,10 @@ cj_read named count to bytes within there may =
 distance_operand : (words : List Word) (n column minus i to : ℕ) (v : Word) (bytes : Option ℕ) →
     slice_get words i ≡ Some (at n minus (codes "-")) → slice_get words (i + 1) ≡ Some v → slice_get words (i + 2) ≡ None
     → operand_said words (at n 9 (codes "ldc")) 4 bytes i (at n column (label_text to)) ≡ Ok
-    (instruction.Line (record {
+    (record {
       word = at n 9 (codes "ldc");
       line = draft.Distance (at n column (label_text to)) v bytes;
-    }))
+    })
 unfolding operand_said distance_said word_said end_said
 distance_operand words n column minus i to v bytes here next none = rw (here, next, none) refl
 
@@ -349,7 +344,7 @@ distance_read named count from to bytes within' within there' there may =
       pieces = spelled (codes "ldc") bytes ps;
       is = ap (λ t. codes "        " ++ t) (distance_text (codes "ldc" ++ stated_text bytes) (label_text to) (label_text from)) ∙ spelled_written (codes "ldc") bytes ps;
       apart = spelled_apart (codes "ldc") bytes ps (literal_word _ refl) refl (label_word to, (refl, (minus_word [] refl, (refl, (label_word from, (refl, tt))))));
-      says = λ n d bare.
+      says = λ n d.
           let first : Word = at n 9 (codes "ldc") in
           let c : ℕ = column_behind 12 bytes + 1 in
           let w : Word = at n c (label_text to) in
@@ -358,7 +353,7 @@ distance_read named count from to bytes within' within there' there may =
             first,
             draft.Distance w v bytes,
             ap (λ ws. line_said (first ∷ ws) d) (stated_placed n 12 bytes ps)
-                ∙ function_says n 12 bytes first w (m ∷ v ∷ []) 4 (record { word = first; line = draft.Distance w v bytes }) d bare may (label_word to) refl refl
+                ∙ function_says n 12 bytes first w (m ∷ v ∷ []) 4 (record { word = first; line = draft.Distance w v bytes }) d may (label_word to) refl refl
                 (distance_operand _ n c (c + length (label_text to) + 1) (operand_at bytes + 1) to v bytes
                 (minus_here n 12 bytes first w m v) (from_here n 12 bytes first w m v)
                 (end_here n 12 bytes first w m v)),
@@ -368,24 +363,16 @@ distance_read named count from to bytes within' within there' there may =
     }
 
 -- a byte
-byte_said : (behind : Word) (n column : ℕ) (ds : List ℕ) (byte : ℕ) → count_read 255 (at n column (35 ∷ ds)) ≡ Ok byte
-    → list_said byte_line_said behind (at n column (35 ∷ ds) ∷ []) ≡ Ok (record { word = at n column (35 ∷ ds); line = draft.Known (Byte byte) } ∷ [])
-unfolding parts byte_line_said one_word_said word_said no_more_said
-byte_said behind n column ds byte is = rw is refl
+byte_line : (first : Word) (n column : ℕ) (ds : List ℕ) (byte : ℕ) → count_read 255 (at n column (35 ∷ ds)) ≡ Ok byte
+    → byte_said (first ∷ at n column (35 ∷ ds) ∷ []) first ≡ Ok (record { word = at n column (35 ∷ ds); line = draft.Known (Byte byte) })
+unfolding byte_said word_said end_said
+byte_line first n column ds byte is = rw is refl
 
-then_done : (r : Result Said SourceFault) → then_read r (in_turn line_added []) ≡ r
-unfolding in_turn
-then_done (Ok d) = refl
-then_done (Err e) = refl
-
-byte_says : (n column : ℕ) (w : Word) (l : NewLine) (d : Said) → d.consts ≡ [] →
-    list_said byte_line_said (at n column (codes "byte")) (w ∷ []) ≡ Ok (l ∷ []) →
+byte_says : (n column : ℕ) (w : Word) (l : NewLine) (d : Said) →
+    byte_said (at n column (codes "byte") ∷ w ∷ []) (at n column (codes "byte")) ≡ Ok l →
     unlabelled (at n column (codes "byte") ∷ w ∷ []) d ≡ pushed l.word l.line d
-unfolding statement_said keyword_named keyword_said added in_turn
-byte_says n column w l d bare said =
-    let first : Word = at n column (codes "byte") in
-    let plain : (statement_said (first ∷ w ∷ []) >>= λ s. added s d) ≡ pushed l.word l.line d = rw said (then_done (line_added l d)) in
-    ap (λ r. r >>= λ s. added s d) (statement_alone d.consts (first ∷ w ∷ []) bare) ∙ plain
+unfolding statement_said keyword_named keyword_said added
+byte_says n column w l d said = rw said refl
 
 byte_read : (named : ℕ → Bool) (count byte : ℕ) → byte < 2 ^ 8 → Reads named count (Byte byte)
 unfolding line_text is_plain
@@ -393,12 +380,12 @@ byte_read named count byte small = record {
   pieces = Gap ∷ Gap ∷ Gap ∷ Gap ∷ Gap ∷ Gap ∷ Gap ∷ Gap ∷ Of (codes "byte") ∷ Gap ∷ Of (35 ∷ byte_text byte) ∷ [];
   is = ap (λ t. codes "        byte #" ++ t) (sym (append-nil (byte_text byte)));
   apart = (literal_word _ refl, (refl, (hexadecimal_word (byte_text byte) (byte_inner byte (omega arith)), (refl, tt))));
-  says = λ n d bare.
+  says = λ n d.
       let first : Word = at n 9 (codes "byte") in
       let w : Word = at n 14 (35 ∷ byte_text byte) in (
         w,
         draft.Known (Byte byte),
-        not_labelled first w [] d refl ∙ byte_says n 9 w _ d bare (byte_said first n 14 (byte_text byte) byte (byte_is w byte refl (omega arith))),
+        not_labelled first w [] d refl ∙ byte_says n 9 w _ d (byte_line first n 14 (byte_text byte) byte (byte_is w byte refl (omega arith))),
         plain_drafted named count (Byte byte),
         refl,
       );

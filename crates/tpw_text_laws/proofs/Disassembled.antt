@@ -4,7 +4,7 @@ use Rattle.std.specs.Int.{w32, cast_signed}
 use Rattle.std.specs.Int.RustNames.{FitsSigned}
 use Rattle.std.specs.List.{flat_map, AllByRecursion}
 use Rattle.std.proofs.lemmas.Int.{ints}
-use Rattle.tp_prefix.specs.Words.{signed, complement}
+use Rattle.tp_words.specs.Words.{signed, complement}
 use Rattle.tp_prefix.specs.Spelling.{function_of, digit_of, is_pfix, is_nfix, is_prefix, shifted, shifted_complement, spelled}
 use Rattle.tp_decode.specs.declared.instr.Instr.TheVariants.{Jump, Cj}
 use Rattle.tp_decode.specs.Table.{entry}

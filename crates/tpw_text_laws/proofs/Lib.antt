@@ -5,7 +5,6 @@ pub mod TextLines
 pub mod Pieces
 pub mod Leading
 pub mod Numbers
-pub mod NoConstants
 pub mod Fields
 pub mod Rows
 pub mod InstructionNames

@@ -1,10 +1,9 @@
 -- A program's text is read back as that program.
-use Rattle.std.proofs.Common.{inl, inr, Err, add-one, ◌≡◌, ℕ, ◌+◌, ◌-◌, ◌*◌, ◌^◌, min, max, ◌&&◌, nat_lt, Bool, true}
+use Rattle.std.proofs.Common.{inl, inr, Err, add-one, ◌≡◌, ℕ, ◌+◌, ◌-◌, ◌*◌, ◌^◌, min, ◌&&◌, nat_lt, Bool, true}
 use Rattle.std.proofs.Common.{false, if◌then◌else◌, List, [], ◌∷◌, ◌++◌, codes, length, take, Option, Some, None}
 use Rattle.std.proofs.Common.{Result, Ok, refl, ap, sym, ◌∙◌, subst, arith}
-use Rattle.std.specs.List.{list_any, flat_map, find}
+use Rattle.std.specs.List.{list_any, flat_map}
 use Rattle.std.specs.Str.Lines.{lines}
-use Rattle.std.specs.Option.{unwrap_or}
 use Rattle.std.specs.Fmt.{decimal}
 use Rattle.std.proofs.lemmas.List.Folds.{list_all-append}
 use Rattle.std.proofs.lemmas.Bool.Decides.{nat_tests}
@@ -18,9 +17,8 @@ use Rattle.tpw_text.specs.Faults.{then_read, each_read, IsRefusal, out_of_memory
 use Rattle.tpw_text.specs.Words.{before_comment, tokens}
 use Rattle.tpw_text.specs.Drafts.{Said, empty, place_named}
 use Rattle.tpw_text.specs.Grammar.{statement_said}
-use Rattle.tpw_text.specs.Consts.{with_values}
-use Rattle.tpw_text.specs.Meaning.{added, statement_with, line_said}
-use Rattle.tpw_text.specs.Programs.{ProgramSaid, SourceSaid, line_placed, loop_placed, workspace_said, ended, program_of, labels_listed, is_beyond, no_local, locals_listed, locals_fit, finished}
+use Rattle.tpw_text.specs.Meaning.{added, line_said}
+use Rattle.tpw_text.specs.Programs.{ProgramSaid, SourceSaid, line_placed, loop_placed, program_of, labels_listed, finished}
 use Rattle.tpw_text.specs.Texts.{words_of_lines, words_say, text_said, source_of}
 use Rattle.tpw_text.specs.Written.{as_line, is_named, names_from_row, names_from_line, fields_text, loop_remark, legend, remarks_above, above, text_of}
 use Rattle.tpw_text_laws.specs.Sources.{labels_below, labels_of, written_lines, ArePositions, IsSource}
@@ -39,7 +37,7 @@ unfolding before_comment tokens
 comment_alone text shown = record { minus = refl; plain = refl; none = λ line column. refl; shown = shown }
 
 says_nothing : (d : Said) → line_said [] d ≡ Ok d
-unfolding line_said statement_with with_values statement_said added
+unfolding line_said statement_said added
 says_nothing d = refl
 
 comment : {s : Said} (text rest : List ℕ) → text ≡ 59 ∷ rest → IsLine text → Leads (as_line text) (Is s) (Is s)
@@ -72,7 +70,7 @@ abbrev fields_of : ProgramSaid → Said
 fields_of p = record empty {
   version = p.version;
   settled = record { version = is_two p.version; workspace = true; start = true; packet = true; results = true };
-  workspace = Some p.workspace;
+  workspace = p.workspace;
   start = p.start;
   packet = p.packet;
   results = p.result;
@@ -119,11 +117,10 @@ text_leads p remarks may =
     behind (behind (above_leads remarks)
     (leads_to (λ front d r. no_code (fields_of p) d (is_named p) (length p.lines) p.loops remarks front refl refl refl r)
     (behind (leads_to (λ front d is. no_rows (fields_of p) d (is_named p) (length p.lines) refl is)
-    (behind (behind (version_leads p.version empty refl refl refl) (sizes_lead p _ refl refl refl refl refl may.workspace may.start may.packet may.result))
-    (initials_lead _ 0 p.initial refl refl (omega (arith, may.words)) may.initial)))
-    (rows_lead (fields_of p) (is_named p) (length p.lines) [] p.loops refl refl (omega (arith, may.rows)) may.loops (row_named p)))))
-    (code_leads (fields_of p) (is_named p) (length p.lines) p.loops remarks [] p.lines 0
-    (record { locals = refl; consts = refl }) refl (omega arith) (record { lines = may.count; labels = may.labels })
+    (behind (behind (version_leads p.version empty refl refl) (sizes_lead p _ refl refl refl refl may.workspace may.start may.packet may.result))
+    (initials_lead _ 0 p.initial refl (omega (arith, may.words)) may.initial)))
+    (rows_lead (fields_of p) (is_named p) (length p.lines) [] p.loops (omega (arith, may.rows)) may.loops (row_named p)))))
+    (code_leads (fields_of p) (is_named p) (length p.lines) p.loops remarks [] p.lines 0 refl (omega arith) (record { lines = may.count; labels = may.labels })
     may.lines (line_named p))
 
 said_of : (text : List ℕ) (Q : List (List ℕ) → Said → Type 0) → Leads text (Is empty) Q → (d : Said) × (text_said text ≡ Ok d) × Q (lines text) d
@@ -136,30 +133,28 @@ said_of text Q leads =
 -- what the draft comes to
 record HasProgram (p : ProgramSaid) (remarks : Option Remarks) (d : Said) : Type 0 where
   version : d.version ≡ p.version
-  workspace : d.workspace ≡ Some p.workspace
+  workspace : d.workspace ≡ p.workspace
   start : d.start ≡ p.start
   packet : d.packet ≡ p.packet
   results : d.results ≡ p.result
   initial : d.initial ≡ p.initial
-  begun : d.begun ≡ []
-  locals : d.locals ≡ []
   positions : ArePositions (lines (text_of p remarks)) 0 d.positions (written_lines remarks 0 p.lines)
   labels : labels_listed d.labels ≡ labels_of p
   lines : each_read (line_placed d.labels) d.lines ≡ Ok p.lines
-  loops : each_read (loop_placed d.labels d.start) d.rows ≡ Ok p.loops
+  loops : each_read (loop_placed d.labels) d.rows ≡ Ok p.loops
 
 program_is : (p : ProgramSaid) (remarks : Option Remarks) (d : Said) → HasProgram p remarks d → program_of d ≡ Ok p
-unfolding program_of workspace_said
+unfolding program_of
 program_is p remarks d has =
     let version = has.version in
     let start = has.start in
     let packet = has.packet in
     let results = has.results in
     let initial = has.initial in
-    let workspace : workspace_said d ≡ p.workspace = ap (λ o. unwrap_or o (max (d.start + d.words) 8)) has.workspace in
+    let workspace = has.workspace in
     let made : ProgramSaid = record {
       version = d.version;
-      workspace = workspace_said d;
+      workspace = d.workspace;
       start = d.start;
       packet = d.packet;
       result = d.results;
@@ -180,20 +175,13 @@ program_is p remarks d has =
     rw (has.lines, has.loops) (ap Ok same)
 
 source_is : (p : ProgramSaid) (remarks : Option Remarks) (d : Said) → HasProgram p remarks d → (source : SourceSaid) × (finished d ≡ Ok source) × IsSource p remarks source
-unfolding finished ended locals_fit
+unfolding finished
 source_is p remarks d has =
     let make : ProgramSaid → Result SourceSaid SourceFault =
-    λ program. Ok (record {
-      program = program;
-      positions = d.positions;
-      labels = labels_listed d.labels;
-      locals = locals_listed d.locals;
-    }) in (
-      record { program = p; positions = d.positions; labels = labels_listed d.labels; locals = locals_listed d.locals },
-      ap (λ b. then_read (ended b) (λ _. then_read (locals_fit d) (λ _. then_read (program_of d) make))) has.begun
-          ∙ ap (λ ls. then_read (no_local (find (is_beyond (workspace_said d) d.start) ls)) (λ _. then_read (program_of d) make)) has.locals
-          ∙ ap (λ r. then_read r make) (program_is p remarks d has),
-      record { program = refl; positions = has.positions; labels = has.labels; locals = ap locals_listed has.locals },
+    λ program. Ok (record { program = program; positions = d.positions; labels = labels_listed d.labels }) in (
+      record { program = p; positions = d.positions; labels = labels_listed d.labels },
+      ap (λ r. then_read r make) (program_is p remarks d has),
+      record { program = refl; positions = has.positions; labels = has.labels },
     )
 
 are_labels : (named : ℕ → Bool) (count : ℕ) (labels : List LabelName) → AreBelow named count (count + 1) labels → AreLabels named count labels
@@ -215,14 +203,11 @@ has_program p remarks d coded =
       packet = ap (λ (e : Said). e.packet) is;
       results = ap (λ (e : Said). e.results) is;
       initial = ap (λ (e : Said). e.initial) is;
-      begun = ap (λ (e : Said). e.begun) is;
-      locals = ap (λ (e : Said). e.locals) is;
       positions = coded.positions;
       labels = coded.listed ∙ ap (labels_below (is_named p)) (add-one (length p.lines));
       lines = coded.placed d.labels labels;
       loops =
-          ap (λ n. each_read (loop_placed d.labels n) d.rows) (ap (λ (e : Said). e.start) is) ∙ ap (each_read (loop_placed d.labels p.start)) (ap (λ (e : Said). e.rows) is)
-          ∙ coded.rowed.placed d.labels labels;
+          ap (each_read (loop_placed d.labels)) (ap (λ (e : Said). e.rows) is) ∙ coded.rowed.placed d.labels labels;
     }
 
 pub read_back : (p : ProgramSaid) (remarks : Option Remarks) → MayBeWritten p → (source : SourceSaid) × (source_of (text_of p remarks) ≡ Ok source) × IsSource p remarks source

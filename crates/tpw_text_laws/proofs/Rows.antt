@@ -14,21 +14,21 @@ use Rattle.tpw_text.specs.declared.fault.TextFault.TheVariants.{NoLabel}
 use Rattle.tpw_text.specs.declared.keyword.Keyword.TheVariants as keyword
 use Rattle.tpw_text.specs.declared.draft.Target.{Target}
 use Rattle.tpw_text.specs.declared.draft.Target.TheVariants as target
-use Rattle.tpw_text.specs.declared.draft.Control.TheVariants as control
 use Rattle.tpw_text.specs.declared.draft.LabelName.{LabelName}
 use Rattle.tpw_text.specs.declared.draft.Row.{Row}
+use Rattle.tpw_text.specs.declared.statement.Statement.TheVariants as statement
 use Rattle.tp_image.specs.Limits.{most_loops}
 use Rattle.tpw_text.specs.Limits.{most_count}
 use Rattle.tpw_text.specs.Faults.{fault_at, then_read, each_read, ◌>>=◌}
 use Rattle.tpw_text.specs.Words.{is_plain}
-use Rattle.tpw_text.specs.Drafts.{Said, place_named}
+use Rattle.tpw_text.specs.Drafts.{Said, place_named, row_added}
 use Rattle.tpw_text.specs.Numbers.{begins_number}
 use Rattle.tpw_text.specs.Keywords.{keyword_named}
 use Rattle.tpw_text.specs.Statements.{word_said, end_said, expect_said, target_said, count_read, number_read}
-use Rattle.tpw_text.specs.Grammar.{AddsRow, row_said, keyword_said}
-use Rattle.tpw_text.specs.Meaning.{added, row_added, line_said}
+use Rattle.tpw_text.specs.Grammar.{row_said, keyword_said}
+use Rattle.tpw_text.specs.Meaning.{added, line_said}
 use Rattle.tpw_text.specs.Apart.{word_for}
-use Rattle.tpw_text.specs.Programs.{place_of_label, spot_placed, control_said, loop_placed}
+use Rattle.tpw_text.specs.Programs.{place_of_label, spot_placed, loop_placed}
 use Rattle.tpw_text.specs.Written.{label_text, spot_text, loop_text, is_at, names_from_row}
 use Rattle.tpw_text_laws.specs.Conditions.{MayBeSpot, MayBeRow}
 use Rattle.tpw_text_laws.proofs.Tests.{or_left, or_right, same_place}
@@ -102,7 +102,7 @@ spot_back named count labels w (spot.Address address) are is may all = refl
 row_is : (n c1 c3 c5 c7 c9 : ℕ) (first w2 w4 w6 w8 w10 : Word) (head lend : Target) (word count : ℕ) (start : ℤ) → target_said w2 ≡ Ok head → target_said w4 ≡ Ok lend
     → count_read most_count w6 ≡ Ok word → count_read most_count w8 ≡ Ok count → number_read w10 ≡ Ok start
     → row_said (first ∷ at n c1 (codes "head") ∷ w2 ∷ at n c3 (codes "lend") ∷ w4 ∷ at n c5 (codes "control") ∷ w6 ∷ at n c7 (codes "turns") ∷ w8 ∷ at n c9 (codes "start") ∷ w10 ∷ []) first
-    ≡ Ok (record { head = head; lend = lend; control = control.Word word; count = count; start = start })
+    ≡ Ok (record { head = head; lend = lend; control = word; count = count; start = start })
 unfolding row_said expect_said word_said end_said
 row_is n c1 c3 c5 c7 c9 first w2 w4 w6 w8 w10 head lend word count start h2 h4 h6 h8 h10 = rw (h2, h4, h6, h8, h10) refl
 
@@ -114,13 +114,13 @@ Any P front d = P d
 pub record Rowed (s : Said) (named : ℕ → Bool) (count : ℕ) (loops : List Loop) (d : Said) : Type 0 where
   pub is : d ≡ record s { rows = d.rows }
   pub long : length d.rows ≡ length loops
-  pub placed : (labels : List LabelName) → AreLabels named count labels → each_read (loop_placed labels s.start) d.rows ≡ Ok loops
+  pub placed : (labels : List LabelName) → AreLabels named count labels → each_read (loop_placed labels) d.rows ≡ Ok loops
 
-a_row : (w : Word) (row : Row) (s d : Said) (loops : List Loop) → s.begun ≡ [] → d ≡ record s { rows = d.rows } → length d.rows ≡ length loops → length loops < most_loops
+a_row : (w : Word) (row : Row) (s d : Said) (loops : List Loop) → d ≡ record s { rows = d.rows } → length d.rows ≡ length loops → length loops < most_loops
     → row_added w row d ≡ Ok (record s { rows = d.rows ++ row ∷ [] })
-a_row w row s d loops none is long few =
-    let begun : length d.begun ≡ 0 = ap length (ap (λ (e : Said). e.begun) is ∙ none) in
-    let space : nat_le most_loops (length d.rows + length d.begun) ≡ false = grind (arith, nat_tests) in
+unfolding row_added
+a_row w row s d loops is long few =
+    let space : nat_le most_loops (length d.rows) ≡ false = grind (arith, nat_tests) in
     rw space (ap (λ (e : Said). Ok (record e { rows = d.rows ++ row ∷ [] })) is)
 
 row_line : (l : Loop) → List Piece
@@ -129,11 +129,11 @@ row_line l =
     ∷ Gap ∷ Of (codes "control") ∷ Gap ∷ Of (decimal l.control) ∷ Gap ∷ Of (codes "turns") ∷ Gap ∷ Of (decimal l.count)
     ∷ Gap ∷ Of (codes "start") ∷ Gap ∷ Of (signed_decimal l.start) ∷ []
 
-row_leads : (s : Said) (named : ℕ → Bool) (count : ℕ) (done : List Loop) (l : Loop) → s.consts ≡ [] → s.begun ≡ [] →
+row_leads : (s : Said) (named : ℕ → Bool) (count : ℕ) (done : List Loop) (l : Loop) →
     length done < most_loops → MayBeRow count l → ((p : ℕ) → names_from_row p l ≡ true → named p ≡ true)
     → Leads (loop_text l) (Any (Rowed s named count done)) (Any (Rowed s named count (done ++ l ∷ [])))
-unfolding is_plain keyword_named keyword_said added loop_text row_line line_said loop_placed control_said
-row_leads s named count done l no_consts none few may all =
+unfolding is_plain keyword_named keyword_said added loop_text row_line line_said loop_placed
+row_leads s named count done l few may all =
     alone (codes "loop head " ++ spot_text l.head ++ codes " lend " ++ spot_text l.lend ++ codes " control " ++
     decimal l.control ++ codes " turns " ++ decimal l.count ++ codes " start " ++ signed_decimal l.start)
     (row_line l) (simp (append_assoc, append-nil)) (
@@ -206,19 +206,19 @@ row_leads s named count done l no_consts none few may all =
     let w6 : Word = at n c6 (decimal l.control) in
     let w8 : Word = at n c8 (decimal l.count) in
     let w10 : Word = at n c10 (signed_decimal l.start) in
-    let row : Row = record { head = target_of w2 l.head; lend = target_of w4 l.lend; control = control.Word l.control; count = l.count; start = l.start } in
+    let row : Row = record { head = target_of w2 l.head; lend = target_of w4 l.lend; control = l.control; count = l.count; start = l.start } in
     let said = row_is n 6 (c2 + length (spot_text l.head) + 1) (c4 + length (spot_text l.lend) + 1) (c6 + length (decimal l.control) + 1) (c8 + length (decimal l.count) + 1) first w2 w4 w6 w8 w10
     (target_of w2 l.head) (target_of w4 l.lend) l.control l.count l.start (target_is w2 l.head count refl may.head) (target_is w4 l.lend count refl may.lend)
     (count_is w6 most_count l.control refl may.control (omega (arith, may.control)))
     (count_is w8 most_count l.count refl may.turns (omega (arith, may.turns))) (signed_is w10 l.start refl may.start)
     in (
       record s { rows = d.rows ++ row ∷ [] },
-      keyword_says first _ keyword.Loop (AddsRow first row) d _ (ap (λ (e : Said). e.consts) p.is ∙ no_consts) refl
-          (ap (λ r. r >>= λ row. Ok (AddsRow first row)) said) (a_row first row s d done none p.is p.long few),
+      keyword_says first _ keyword.Loop (statement.Row first row) d _ refl
+          (ap (λ r. r >>= λ row. Ok (statement.Row first row)) said) (a_row first row s d done p.is p.long few),
       record {
         is = refl;
         long = omega (arith, length-append d.rows (row ∷ []), length-append done (l ∷ []), p.long);
-        placed = λ labels are. one_more_read (loop_placed labels s.start) d.rows row done l (p.placed labels are)
+        placed = λ labels are. one_more_read (loop_placed labels) d.rows row done l (p.placed labels are)
             (rw (
               spot_back named count labels w2 l.head are refl may.head
                   (λ k e. all k (or_left (is_at k l.head) (is_at k l.lend) e)),
@@ -228,16 +228,16 @@ row_leads s named count done l no_consts none few may all =
       },
     ))
 
-pub rows_lead : (s : Said) (named : ℕ → Bool) (count : ℕ) (done loops : List Loop) → s.consts ≡ [] → s.begun ≡ [] →
+pub rows_lead : (s : Said) (named : ℕ → Bool) (count : ℕ) (done loops : List Loop) →
     length done + length loops ≤ most_loops → AllByRecursion (MayBeRow count) loops →
     ((p : ℕ) → list_any (names_from_row p) loops ≡ true → named p ≡ true)
     → Leads (flat_map loop_text loops) (Any (Rowed s named count done)) (Any (Rowed s named count (done ++ loops)))
-rows_lead s named count done [] no_consts none few may all =
+rows_lead s named count done [] few may all =
     leads_to (λ front d r. subst (λ (ls : List Loop). Rowed s named count ls d) (sym (append-nil done)) r) (nothing {P = Any (Rowed s named count done)})
-rows_lead s named count done (l ∷ loops) no_consts none few may all =
+rows_lead s named count done (l ∷ loops) few may all =
     leads_to (λ front d r. subst (λ (ls : List Loop). Rowed s named count ls d) (append_assoc done (l ∷ []) loops) r)
-    (behind (row_leads s named count done l no_consts none (omega arith) may.0 (λ p e. all p (or_left (names_from_row p l) (list_any (names_from_row p) loops) e)))
-    (rows_lead s named count (done ++ l ∷ []) loops no_consts none (omega (arith, length-append done (l ∷ []))) may.1
+    (behind (row_leads s named count done l (omega arith) may.0 (λ p e. all p (or_left (names_from_row p l) (list_any (names_from_row p) loops) e)))
+    (rows_lead s named count (done ++ l ∷ []) loops (omega (arith, length-append done (l ∷ []))) may.1
     (λ p e. all p (or_right (names_from_row p l) (list_any (names_from_row p) loops) e))))
 
 -- no rows yet
@@ -245,5 +245,5 @@ pub no_rows : (s d : Said) (named : ℕ → Bool) (count : ℕ) → s.rows ≡ [
 no_rows s d named count none is = record {
   is = is ∙ ap (λ rs. record s { rows = rs }) (ap (λ (e : Said). e.rows) (sym is));
   long = ap length (ap (λ (e : Said). e.rows) is ∙ none);
-  placed = λ labels are. ap (each_read (loop_placed labels s.start)) (ap (λ (e : Said). e.rows) is ∙ none);
+  placed = λ labels are. ap (each_read (loop_placed labels)) (ap (λ (e : Said). e.rows) is ∙ none);
 }

@@ -25,10 +25,9 @@ use Rattle.tpw_text.specs.Limits.{most}
 use Rattle.tpw_text.specs.Faults.{each_read}
 use Rattle.tpw_text.specs.Words.{position_of, is_plain}
 use Rattle.tpw_text.specs.Statements.{is_no_name}
-use Rattle.tpw_text.specs.Drafts.{Said, is_full, pushed, label_set, place_named, local_named, const_named, is_taken}
-use Rattle.tpw_text.specs.Consts.{with_values}
+use Rattle.tpw_text.specs.Drafts.{Said, is_full, pushed, label_set, place_named}
 use Rattle.tpw_text.specs.Grammar.{statement_said}
-use Rattle.tpw_text.specs.Meaning.{added, statement_with, line_said}
+use Rattle.tpw_text.specs.Meaning.{added, line_said}
 use Rattle.tpw_text.specs.Programs.{line_placed, under, label_listed, labels_listed}
 use Rattle.tpw_text.specs.Written.{as_line, label_text, line_text, label_there, line_remark, behind as remark_behind, lines_text, names_from_line}
 use Rattle.tpw_text_laws.specs.Sources.{label_at, labels_below, WrittenLine, column_of, written_line, written_lines, ArePositions}
@@ -127,33 +126,17 @@ pub record Coded (s : Said) (named : ℕ → Bool) (count : ℕ) (loops : List L
   pub listed : labels_listed d.labels ≡ labels_below named below
   pub positions : ArePositions front 0 d.positions (written_lines remarks 0 done)
 
--- where there are no other names
-pub record HasLabelsAlone (d : Said) : Type 0 where
-  pub locals : d.locals ≡ []
-  pub consts : d.consts ≡ []
-
-not_taken : (w : Word) (d : Said) → HasLabelsAlone d → place_named d.labels w ≡ None → is_taken w d ≡ false
-unfolding is_taken local_named const_named
-not_taken w d alone none = rw (none, alone.locals, alone.consts) refl
-
-labels_alone : (s : Said) (named : ℕ → Bool) (count : ℕ) (loops : List Loop) (remarks : Option Remarks) (done : List Line) (below : ℕ) (front : List (List ℕ)) (d : Said) → HasLabelsAlone s
-    → Coded s named count loops remarks done below front d → HasLabelsAlone d
-labels_alone s named count loops remarks done below front d alone p = record {
-  locals = ap (λ (e : Said). e.locals) p.is ∙ ap (λ (e : Said). e.locals) p.rowed.is ∙ alone.locals;
-  consts = ap (λ (e : Said). e.consts) p.is ∙ ap (λ (e : Said). e.consts) p.rowed.is ∙ alone.consts;
-}
-
-a_label : (named : ℕ → Bool) (count k : ℕ) (w : Word) (d : Said) → HasLabelsAlone d → w.text.now ≡ label_text k → k ≤ count → AreBelow named count k d.labels → length d.labels < most
+a_label : (named : ℕ → Bool) (count k : ℕ) (w : Word) (d : Said) → w.text.now ≡ label_text k → k ≤ count → AreBelow named count k d.labels → length d.labels < most
     → label_set w d ≡ Ok (record d { labels = d.labels ++ (record { word = w; place = length d.lines }) ∷ [] })
 unfolding label_set
-a_label named count k w d alone is within are few =
+a_label named count k w d is within are few =
     let below : nat_lt k k ≡ false = grind (arith, nat_tests) in
     let none : place_named d.labels w ≡ None = are w k is within ∙ ap (λ t. if named k && t then Some k else None) below ∙ ap (λ t. if t then Some k else None) (and_false (named k)) in
     let space : is_full d.labels ≡ false = grind (arith, nat_tests) in
-    rw (not_taken w d alone none, space) refl
+    rw (none, space) refl
 
 label_line : (n : ℕ) (k : ℕ) (d e : Said) → label_set (at n 1 (label_text k)) d ≡ Ok e → line_said (at n 1 (label_text k) ∷ at n (1 + length (label_text k)) (codes ":") ∷ []) d ≡ Ok e
-unfolding line_said is_no_name statement_with with_values statement_said added
+unfolding line_said is_no_name statement_said added
 label_line n k d e set = rw set refl
 
 -- lemmas about labels
@@ -247,10 +230,10 @@ position_more front remarks done line k p ps long is are =
     (one_position_more front (written_line remarks k line) 0 ps (written_lines remarks 0 done) p (ap (λ (q : Position). q.line) is) (ap (λ (q : Position). q.column) is) (omega arith) are)
 
 named_leads : (s : Said) (named : ℕ → Bool) (count : ℕ) (loops : List Loop) (remarks : Option Remarks)
-    (done : List Line) (k : ℕ) → HasLabelsAlone s → length done ≡ k → HasRoom named count → k ≤ count → named k ≡ true
+    (done : List Line) (k : ℕ) → length done ≡ k → HasRoom named count → k ≤ count → named k ≡ true
     → Leads (as_line (label_text k ++ codes ":")) (Coded s named count loops remarks done k) (Coded s named count loops remarks done (k + 1))
 unfolding is_plain
-named_leads s named count loops remarks done k only long small within there =
+named_leads s named count loops remarks done k long small within there =
     alone (label_text k ++ codes ":") (Of (label_text k) ∷ Mark 58 ∷ []) refl (label_word k, (refl, (refl, tt))) (λ front d p.
     let n : ℕ = 1 + length front in
     let more = one_more_label named k there in
@@ -258,8 +241,7 @@ named_leads s named count loops remarks done k only long small within there =
     let l : LabelName = record { word = w; place = length d.lines } in
     let e : Said = record d { labels = d.labels ++ l ∷ [] } in (
       e,
-      label_line n k d e (a_label named count k w d (labels_alone s named count loops remarks done k front d only p)
-          refl within p.labels (omega (arith, p.few, small.labels, more, fewer named (suc k) (suc count) (omega arith)))),
+      label_line n k d e (a_label named count k w d refl within p.labels (omega (arith, p.few, small.labels, more, fewer named (suc k) (suc count) (omega arith)))),
       record {
         fields = p.fields;
         rowed = p.rowed;
@@ -276,13 +258,13 @@ named_leads s named count loops remarks done k only long small within there =
       },
     ))
 
-label_leads : (s : Said) (named : ℕ → Bool) (count : ℕ) (loops : List Loop) (remarks : Option Remarks) (done : List Line) (k : ℕ) → HasLabelsAlone s → length done ≡ k → HasRoom named count → k ≤ count
+label_leads : (s : Said) (named : ℕ → Bool) (count : ℕ) (loops : List Loop) (remarks : Option Remarks) (done : List Line) (k : ℕ) → length done ≡ k → HasRoom named count → k ≤ count
     → Leads (label_there (named k) k) (Coded s named count loops remarks done k) (Coded s named count loops remarks done (k + 1))
 unfolding label_there
-label_leads s named count loops remarks done k only long small within = by (named k) refl
+label_leads s named count loops remarks done k long small within = by (named k) refl
   where
     by : (t : Bool) → named k ≡ t → Leads (if t then as_line (label_text k ++ codes ":") else []) (Coded s named count loops remarks done k) (Coded s named count loops remarks done (k + 1))
-    by true there = named_leads s named count loops remarks done k only long small within there
+    by true there = named_leads s named count loops remarks done k long small within there
     by false none = leads_to (λ front d p. record {
       fields = p.fields;
       rowed = p.rowed;
@@ -319,12 +301,12 @@ a_push w l d few =
     rw space refl
 
 line_leads : (s : Said) (named : ℕ → Bool) (count : ℕ) (loops : List Loop) (done : List Line) (line : Line) (below : ℕ)
-    (remarks : Option Remarks) (k : ℕ) → HasLabelsAlone s → length done ≡ k → k < most → Reads named count line
+    (remarks : Option Remarks) (k : ℕ) → length done ≡ k → k < most → Reads named count line
     → Leads (as_line (line_text line ++ remark_behind remarks k)) (Coded s named count loops remarks done below) (Coded s named count loops remarks (done ++ line ∷ []) below)
-line_leads s named count loops done line below remarks k only here few reads =
+line_leads s named count loops done line below remarks k here few reads =
     a_line reads.pieces (remark_behind remarks k) (ap (λ t. t ++ remark_behind remarks k) reads.is) reads.apart (tail_behind remarks k) (λ front d p.
     let n : ℕ = 1 + length front in
-    let r = reads.says n d (labels_alone s named count loops remarks done below front d only p).consts in
+    let r = reads.says n d in
     let e : Said = record d { lines = d.lines ++ r.1 ∷ []; positions = d.positions ++ position_of r.0 ∷ [] } in (
       e,
       r.2 ∙ a_push r.0 r.1 d (omega (arith, p.long, here)),
@@ -342,20 +324,20 @@ line_leads s named count loops done line below remarks k only here few reads =
     ))
 
 pub code_leads : (s : Said) (named : ℕ → Bool) (count : ℕ) (loops : List Loop) (remarks : Option Remarks)
-    (done lines : List Line) (k : ℕ) → HasLabelsAlone s → length done ≡ k → k + length lines ≡ count → HasRoom named count
+    (done lines : List Line) (k : ℕ) → length done ≡ k → k + length lines ≡ count → HasRoom named count
     → AllByRecursion (MayBeLine count) lines → ((p : ℕ) → list_any (names_from_line p) lines ≡ true → named p ≡ true)
     → Leads (lines_text named remarks k lines) (Coded s named count loops remarks done k) (Coded s named count loops remarks (done ++ lines) (count + 1))
-code_leads s named count loops remarks done [] k only long all small may from =
+code_leads s named count loops remarks done [] k long all small may from =
     let end : k + 1 ≡ count + 1 = omega (arith, all) in
     leads_to (λ front d p. subst (λ (ls : List Line). Coded s named count loops remarks ls (count + 1) front d)
     (sym (append-nil done)) (subst (λ (n : ℕ). Coded s named count loops remarks done n front d) end p))
-    (label_leads s named count loops remarks done k only long small (omega (arith, all)))
-code_leads s named count loops remarks done (line ∷ lines) k only long all small may from =
+    (label_leads s named count loops remarks done k long small (omega (arith, all)))
+code_leads s named count loops remarks done (line ∷ lines) k long all small may from =
     leads_to (λ front d p. subst (λ (ls : List Line). Coded s named count loops remarks ls (count + 1) front d) (append_assoc done (line ∷ []) lines) p)
-    (behind (behind (label_leads s named count loops remarks done k only long small (omega (arith, all)))
-    (line_leads s named count loops done line (k + 1) remarks k only long (omega (arith, all, small.lines))
+    (behind (behind (label_leads s named count loops remarks done k long small (omega (arith, all)))
+    (line_leads s named count loops done line (k + 1) remarks k long (omega (arith, all, small.lines))
     (line_read named count line may.0 (λ p e. from p (or_left (names_from_line p line)
     (list_any (names_from_line p) lines) e)))))
-    (code_leads s named count loops remarks (done ++ line ∷ []) lines (k + 1) only
+    (code_leads s named count loops remarks (done ++ line ∷ []) lines (k + 1)
     (omega (arith, length-append done (line ∷ []), long)) (omega (arith, all)) small may.1
     (λ p e. from p (or_right (names_from_line p line) (list_any (names_from_line p) lines) e))))

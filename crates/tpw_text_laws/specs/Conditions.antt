@@ -15,12 +15,12 @@ use Rattle.tpw_text.specs.Limits.{most, most_words, most_count, most_bytes}
 use Rattle.tpw_text.specs.Programs.{ProgramSaid}
 use Rattle.tpw_text_laws.specs.Sources.{labels_of}
 
--- a place among so many lines, or an address of 16 bits
+-- a place among this many lines, or an address of 16 bits
 abbrev pub MayBeSpot : ℕ → Spot → Type 0
 MayBeSpot count (Place place) = place ≤ count
 MayBeSpot count (Address address) = address ≤ most_count
 
--- a row, among so many lines
+-- a row, among this many lines
 pub record MayBeRow (count : ℕ) (row : Loop) : Type 0 where
   pub head : MayBeSpot count row.head
   pub lend : MayBeSpot count row.lend
@@ -28,7 +28,7 @@ pub record MayBeRow (count : ℕ) (row : Loop) : Type 0 where
   pub turns : row.count ≤ most_count
   pub start : FitsSigned w32 row.start
 
--- operands of 32 bits, and places among so many lines
+-- operands of 32 bits, and places among this many lines
 abbrev pub MayBeOperation : ℕ → Operation → Type 0
 MayBeOperation count (Plain i) = FitsSigned w32 (entry i).operand
 MayBeOperation count (JumpTo to) = to ≤ count

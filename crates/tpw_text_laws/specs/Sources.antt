@@ -49,11 +49,9 @@ ArePositions text above (p ∷ positions) (line ∷ more) =
     (above < p.line) × (slice_get text (p.line - 1) ≡ Some line.text) × (p.column ≡ line.column)
     × ArePositions text p.line positions more
 
--- a source is that of a program's text: the program, for each of its lines the position of the word that asks for it,
--- the
--- labels, and no names of local words
+-- a source is that of a program's text: the program, for each of its lines the position of the word that asks for it, and
+-- the labels
 pub record IsSource (p : ProgramSaid) (remarks : Option Remarks) (source : SourceSaid) : Type 0 where
   pub program : source.program ≡ p
   pub positions : ArePositions (lines (text_of p remarks)) 0 source.positions (written_lines remarks 0 p.lines)
   pub labels : source.labels ≡ labels_of p
-  pub locals : source.locals ≡ []

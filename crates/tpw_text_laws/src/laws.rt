@@ -43,7 +43,7 @@ pub fn function_is_read_by_its_name()
 {}
 
 /// The text of a program that may be written, with any remarks or none, is read back as that program, with the labels
-/// of the places that it names and no names of local words. So reading it is refused for want of memory alone.
+/// of the places that it names. So reading it is refused for want of memory alone.
 pub fn written_program_is_read_back()
     ensures read { (p : ProgramSaid) (remarks : Option Remarks) → MayBeWritten p →
         (source : SourceSaid) × (source_of (text_of p remarks) ≡ Ok source) × IsSource p remarks source }

@@ -126,7 +126,7 @@ refused_along image es table there r is =
     ∙ along_append image is.earlier ((r.instruction, r.edge) ∷ is.later) table there is.arrives
     ∙ ap (λ q. q >>= along_edges image is.later) is.refused
 
--- before a pass: so many have refused nothing, and these are the states of their table
+-- before a pass: this many have refused nothing, and these are the states of their table
 abbrev pub IsBefore : ImageValue → List Cut → ℕ → Table → Type 0
 IsBefore image cuts number states = passes image cuts number ≡ Ok states
 

@@ -20,7 +20,7 @@ pub record IsRefusedAmong (image : ImageValue) (edges : List (Placed × Edge)) (
   pub arrives : along_edges image earlier table ≡ Ok there
   pub refused : go_along image r.instruction r.edge (there r.instruction.at) there ≡ Err (Refused r.code r.place)
 
--- So many passes refuse nothing, and this is the first edge that the next one refuses; the states are those that it has
+-- This many passes refuse nothing, and this is the first edge that the next one refuses; the states are those that it has
 -- met.
 pub record IsFirstRefusal (image : ImageValue) (cuts : List Cut) (r : FirstRefusal) : Type 0 where
   pub table : Table

@@ -9,9 +9,8 @@ syntax match tpsComment /--.*$/
 syntax match tpsNumber /-\?\<\d\+\>/
 syntax match tpsNumber /#\x\+\>/
 syntax match tpsNumber /\<0x\x\+\>/
-syntax match tpsLabel /^\s*\zs[^][,:=+\/[:space:];]\+\ze\s*:/
-syntax keyword tpsStatement packet result start workspace version init worker const local byte
-syntax keyword tpsStatement receive send trace load store for end loop head lend control turns
+syntax match tpsLabel /^\s*\zs[^:\/[:space:];]\+\ze\s*:/
+syntax keyword tpsStatement packet result start workspace version init byte loop head lend control turns
 syntax keyword tpsInstruction j ldlp ldnl ldc ldnlp ldl adc cj ajw eqc stl stnl
 syntax keyword tpsInstruction rev lb bsub diff add in prod gt wsub out sub seterr csub0 stopp rem div not xor sb shr shl mint and or move sum mul
 

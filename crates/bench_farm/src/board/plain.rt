@@ -43,7 +43,7 @@ impl Place for PlainPlace {
     }
 }
 
-/// For each thread its places, one at each of so many boards' words.
+/// For each thread its places, one at each of this many boards' words.
 pub(crate) fn places_for(alloc: Global, threads: u32, boards: u32) -> Result<Vec<Vec<PlainPlace>>> {
     let mut all = Vec::new(alloc);
     for _ in 0..threads {

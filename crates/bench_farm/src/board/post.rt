@@ -45,7 +45,7 @@ impl Place for Post {
     }
 }
 
-/// For each thread its posts, one at each of so many boards.
+/// For each thread its posts, one at each of this many boards.
 pub(crate) fn posts_for(alloc: Global, threads: u32, boards: u32) -> Result<Vec<Vec<Post>>> {
     let mut all = Vec::new(alloc);
     for _ in 0..threads {

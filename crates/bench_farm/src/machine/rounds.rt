@@ -13,7 +13,7 @@ const MESSAGE_BYTES: usize = 64;
 /// More steps than any of the workers makes.
 const LIMIT: u32 = 16_777_216;
 
-/// What was counted over some rounds, and the last result's first word.
+/// The counts of some rounds, and the last result's first word.
 #[derive(Clone, Copy)]
 pub(crate) struct Run {
     pub(crate) counted: u64,
@@ -72,7 +72,7 @@ fn round<M: Runs>(
     Ok((u32::from_le_bytes(word), outcome.steps))
 }
 
-/// So many rounds on one machine, each with a packet of so many bytes, which are 0.
+/// This many rounds on one machine, each with a packet of this many bytes, which are 0.
 pub(crate) fn rounds<M: Runs>(
     alloc: Global,
     machine: &mut M,
@@ -83,7 +83,7 @@ pub(crate) fn rounds<M: Runs>(
     rounds_over(machine, &mut media.wires(), packet, count)
 }
 
-/// So many rounds over these wires.
+/// This many rounds over these wires.
 fn rounds_over<M: Runs>(
     machine: &mut M,
     links: &mut Links<Wire<'_>>,

@@ -1,5 +1,5 @@
-//! What the judgement is compared with: loops over a listing that mix what they read into a number. The number differs
-//! in each round: no compiler can leave a round out.
+//! The work that the judgement is compared with: loops over a listing that mix what they read into a number. The number
+//! differs in each round: no compiler can leave a round out.
 use tp_decode::{Instr, Listing};
 
 /// Each instruction is read once, by its number.

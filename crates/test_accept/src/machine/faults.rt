@@ -14,7 +14,7 @@ fn refused(link: Link, code: DeviceFault) -> Result<Outcome, LinkFault> {
     Err(LinkFault { link, code })
 }
 
-/// What the source and the sink hold after a run.
+/// The contents of the source and the sink after a run.
 fn assert_left(rt: &impl Abort, media: &Media, source: &[u8], sink: &[u8]) {
     assert_same(rt, &media.source.bytes(), &source);
     assert_same(rt, &media.sink.bytes(), &sink);
@@ -37,7 +37,7 @@ fn a_full_trace_refuses(rt: HostRuntime) {
     assert_same(&rt, &media.trace.bytes().len(), &256);
 }
 
-/// What a run answers over media of which the sink has little room, or is closed.
+/// The answer of a run over media of which the sink has little room, or is closed.
 fn run_over(
     rt: &impl Abort,
     alloc: Global,

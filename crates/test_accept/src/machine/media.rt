@@ -29,7 +29,7 @@ pub(crate) fn accepted(rt: &impl Abort, alloc: Global, image: &[u8]) -> Accepted
     unwrap(rt, accept(alloc, text))
 }
 
-/// What a run of a packet answers, and what the media hold after it.
+/// The answer of a packet's run, and the contents of the media after it.
 pub(crate) fn run_packet(
     rt: &impl Abort,
     alloc: Global,

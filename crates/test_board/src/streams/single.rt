@@ -12,7 +12,7 @@ use tp_stream::{
     StreamQueue, Work, WorkSource,
 };
 
-/// So many packets. The first two bytes of each are its number.
+/// This many packets. The first two bytes of each are its number.
 pub fn packets_of(rt: &impl Abort, alloc: Global, count: u16) -> Vec<Packet> {
     let mut packets = Vec::new(alloc);
     for number in 0..count {
@@ -169,7 +169,7 @@ fn stream_of_one<'p>(
     Some((stream, feeder, hand))
 }
 
-/// The accounts of a stream of so many packets with one hand, after these steps.
+/// The accounts of a stream of this many packets with one hand, after these steps.
 fn ledger_after<R: Wait + Abort>(
     rt: &R,
     alloc: Global,

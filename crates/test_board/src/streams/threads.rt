@@ -310,7 +310,7 @@ struct StreamRun {
     ledger: StreamLedger,
 }
 
-// Runs a stream of so many packets and two members.
+// Runs a stream of this many packets and two members.
 fn run<R: Abort + Threads + Wait + Sync>(
     rt: &R,
     alloc: Global,

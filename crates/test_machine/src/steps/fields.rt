@@ -9,13 +9,13 @@ use tpw_machine::{Phase, WORKSPACE_BYTES};
 /// A workspace, and what a machine keeps behind it. None is an undefined byte.
 pub(crate) type Cells = [Option<u8>; WORKSPACE_BYTES];
 
-/// What is spelled for nothing: an empty list, an undefined register.
+/// The spelling of nothing: an empty list, an undefined register.
 const NOTHING: &str = "-";
 
 /// An undefined byte.
 const UNDEFINED: [u8; 2] = *b"--";
 
-/// What every byte behind the workspace holds.
+/// Every byte behind the workspace.
 const BEHIND: u8 = 7;
 
 /// A number in hexadecimal.
@@ -128,7 +128,7 @@ fn put_difference(cells: &mut Cells, difference: &str) -> Result<()> {
     Ok(())
 }
 
-/// A workspace of so many words, with this fill and these differences from it.
+/// A workspace of this many words, with this fill and these differences from it.
 pub(crate) fn cells(words: u32, fill: &str, differences: &str) -> Result<Cells> {
     let mut cells = [Some(BEHIND); WORKSPACE_BYTES];
     for i in 0..words.saturating_mul(4) {

@@ -12,12 +12,12 @@ use tpw_machine::{Machine, Phase, Registers, RunFault, WORKSPACE_BYTES};
 /// The room of each medium.
 const ROOM: usize = 265;
 
-/// What was sent before, on links 0 and 1.
+/// The bytes sent before, on links 0 and 1.
 pub(crate) const SENT: &[u8] = &[0xA5];
 
 pub(crate) const TRACED: &[u8] = &[0x5A, 0xC3];
 
-/// What a machine answers, and what it leaves.
+/// The answer of a machine, and what it leaves.
 #[derive(Drop)]
 pub(crate) struct Ran {
     pub(crate) answer: Result<Outcome, RunFault>,

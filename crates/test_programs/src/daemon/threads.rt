@@ -56,7 +56,7 @@ fn long_batch(rt: &impl Abort, alloc: Global) -> Vec<u8> {
     input
 }
 
-/// Serves the batch by so many members, and the most threads that are seen meanwhile.
+/// Serves the batch by this many members, and the most threads that are seen meanwhile.
 fn most_threads_for<R: Threads + Wait + Files + AllocGlobal + Sync>(
     rt: &R,
     members: &str,

@@ -35,8 +35,8 @@ pub fn every_edge_respects_the_verdict()
         EveryEdgeRespects image cuts table }
 {}
 
-/// What the passes find is sound, and the same words are live in all states of one address: this holds of the states of
-/// their tables after any number of passes.
+/// The states that the passes find are sound, and the same words are live in all states of one address: this holds of
+/// the states of their tables after any number of passes.
 pub fn states_of_the_passes_are_sound()
     ensures { (image : ImageValue) (cuts : List Cut) (n : ℕ) (table : Table) → InRange image →
         AllByRecursion IsSpelled cuts → KeepsNest image.loops image.workspace cuts → passes image cuts n ≡ Ok table →

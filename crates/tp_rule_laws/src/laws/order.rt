@@ -10,7 +10,7 @@ ghost use Rattle.tp_state.specs.Sound.{IsSound};
 ghost use Rattle.tp_state.specs.Order.{IsBelow};
 ghost use Rattle.tp_state.specs.After.{after};
 
-/// What is known after an instruction keeps the order, for each instruction, edge and version of images, entering of
+/// The transfer function is monotone, for each instruction, edge and version of images, entering of
 /// loops included: where a sound state is below another, and nothing is refused after that other, nothing is refused
 /// after the first, and what is known after it is below what is known after the other. Nothing is asked of the other.
 pub fn what_follows_keeps_the_order()

@@ -11,13 +11,13 @@ ghost use Rattle.tp_state.specs.Order.{join};
 ghost use Rattle.tp_state.specs.Entry.{entry};
 ghost use Rattle.tp_state.specs.After.{after};
 
-/// What is known before the first instruction is sound.
+/// The first state of a code is sound.
 pub fn the_first_state_is_sound()
     ensures { (image : ImageValue) → InRange image → IsSound image (entry image) }
 {}
 
-/// What is known after an instruction is sound, on each edge on which nothing is refused, where what was known before
-/// it is, and a number that it loads is a word.
+/// The transfer function keeps soundness: behind a sound state is one on each edge on which nothing is refused, where a
+/// number that the instruction loads is a word.
 pub fn what_follows_is_sound()
     ensures { (image : ImageValue) → InRange image → HasGoodLoops image →
         (at next : ℕ) (instr : Instr) (edge : Edge) (s : State) → LoadsWord instr → IsSound image s →

@@ -11,7 +11,7 @@ ghost use Rattle.tp_state.specs.Order.{IsBelow};
 ghost use Rattle.tp_state.specs.Entry.{entry};
 ghost use Rattle.tp_state.specs.Fits.{Fits};
 
-/// What fits a state fits every state above it.
+/// A machine's state that fits an abstract state fits every one above it.
 pub fn what_fits_fits_above()
     ensures { (image : ImageValue) (at : ℕ) (t u : State) (s : Machine) → IsBelow t u → Fits image at t s →
         Fits image at u s }

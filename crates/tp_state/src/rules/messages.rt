@@ -38,7 +38,7 @@ fn is_one_length(length: (i32, i32)) -> bool
     length.0 == length.1 && 0 <= length.0
 }
 
-/// Whether a trace message may have so many bytes.
+/// Whether a trace message may have this many bytes.
 fn is_trace_length(bytes: u32) -> bool
     ensures { result ≡ is_trace_length bytes }
 {

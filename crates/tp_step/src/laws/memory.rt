@@ -1,4 +1,4 @@
-//! What is read from memory after it is written, and at the start.
+//! Laws of memory: reading behind writing, and at the start.
 
 ghost use Rattle.std.specs.Prelude.{◌≡◌, ◌⊎◌, ℕ, ◌+◌, ◌*◌, ◌^◌, ◌<◌, ◌≤◌, List, Some, None, slice_index_or};
 ghost use Rattle.tp_image.specs.Image.{ImageValue, InRange};

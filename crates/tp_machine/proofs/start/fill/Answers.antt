@@ -29,10 +29,10 @@ loop-i-preserved c =
     let lt : i < image.workspace = omega arith in
     let most = (usual image range).workspace in
     let long = c.loop-i.invariant.long in
-    let bytes : List ℕ = to_le_bytes w32 c.first_word.result in
+    let bytes : List ℕ = to_le_bytes w32 c.initial_word.result in
     let held = held_put _ c.loop-i.workspace bytes (mem_start + 4 * i) c.loop-i.invariant.held (omega arith) (omega (arith, lt, most, long)) in
     record {
-      held = rw c.store.ensures (subst (λ m. Holds m (put c.loop-i.workspace (mem_start + 4 * i - mem_start) bytes)) (word_more image range i c.first_word.result lt c.first_word.ensures) held);
+      held = rw c.store.ensures (subst (λ m. Holds m (put c.loop-i.workspace (mem_start + 4 * i - mem_start) bytes)) (word_more image range i c.initial_word.result lt c.initial_word.ensures) held);
       long = c.store.array_long;
     }
 

@@ -3,7 +3,7 @@ use mir.Val.{SFits}
 use mir.Syntax.{w32}
 use Rattle.std.proofs.lemmas.Bool.Decides.{nat_tests}
 use Rattle.std.proofs.lemmas.Int.{to_z-of_z}
-use Rattle.tp_prefix.specs.Words.{signed}
+use Rattle.tp_words.specs.Words.{signed}
 use Rattle.tp_prefix.specs.Spelling.{is_prefix, is_pfix, is_nfix}
 use Rattle.tp_prefix.proofs.SpellingLemmas.{prefixed}
 use Rattle.tp_prefix.proofs.ReadingLemmas.{found, moved, more_behind, more_prefixes}

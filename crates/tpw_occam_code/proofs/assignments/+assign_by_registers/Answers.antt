@@ -1,6 +1,6 @@
 use Rattle.std.proofs.Common.{◌≡◌, ◌-◌, ◌∷◌, sym, subst, ap, ◌∙◌, arith}
 use Rattle.std.proofs.lemmas.Result.{on_ok_weaker}
-use Rattle.tpw_occam_expressions.specs.declared.emitter.Room.{Room}
+use Rattle.tpw_occam_expressions.specs.declared.emitter.Allocation.{Allocation}
 use Rattle.tpw_occam_code.specs.Registers.{IsWordTarget, FitAll, StoresWord, AssignsBelow}
 use Rattle.tpw_occam_code.proofs.Matching.{none_of, more_of, rest_of}
 use Rattle.tpw_occam_code.proofs.Registers.{registers_none, registers_more}
@@ -20,10 +20,10 @@ returns-clause-assigns t c = on_ok_weaker c.store_in_word.result (λ stores most
     let fits : FitAll k (one ∷ rest) c.args.room.registers = subst (λ all. FitAll k all c.args.room.registers) are fit in
     let first = c.in_ok-expression.ensures.knowledge in
     let both = c.in_ok-assign_by_registers.ensures.knowledge ∙ first in
-    let registers : c.above.result.registers ≡ c.args.room.registers - 1 = ap (λ (r : Room). r.registers) c.above.ensures in
+    let registers : c.above.result.registers ≡ c.args.room.registers - 1 = ap (λ (r : Allocation). r.registers) c.above.ensures in
     subst (λ all. AssignsBelow k c.args.code.now c.store_in_word.new.code all c.args.room.registers) (sym are)
     (registers_more k c.args.code.now c.expression.new.code c.assign_by_registers.new.code c.store_in_word.new.code one rest
-    c.args.room.registers c.args.room.kept most fits
+    c.args.room.registers c.args.room.next_temporary most fits
     c.in_ok-expression.ensures.computes
     (λ storages scope unset s place stands knows. (c.in_ok-expression.ensures.known storages scope unset s place stands knows).small)
     (subst (λ n. AssignsBelow k c.expression.new.code c.assign_by_registers.new.code rest n) registers

@@ -18,7 +18,7 @@ returns-clause-keeps c = on_ok_weaker c.emit.result (λ is three.
     let k = c.args.emitter.now in
     let a = c.index-all-i.result in
     let e = c.index-all-i.is ∙ get_same c.args.all.now c.args.i c.index-all-i.result _ (omega arith) in
-    subst (λ (a : Assignment). KeepsValue k c.args.code.now c.emit.new.self a c.args.i c.args.room.kept) e
-    (value_keeps k c.args.code.now c.value.new.code c.emit.new.self c.args.room.line a c.args.i c.args.room.kept
-    (subst (λ n. ComputesTo k c.args.code.now c.value.new.code a.value (taken_value k.kinds a) n c.args.room.kept) three
+    subst (λ (a : Assignment). KeepsValue k c.args.code.now c.emit.new.self a c.args.i c.args.room.next_temporary) e
+    (value_keeps k c.args.code.now c.value.new.code c.emit.new.self c.args.room.line a c.args.i c.args.room.next_temporary
+    (subst (λ n. ComputesTo k c.args.code.now c.value.new.code a.value (taken_value k.kinds a) n c.args.room.next_temporary) three
     (c.in_ok-value.ensures.computes (omega (arith, three)))) is)) c.emit.ensures

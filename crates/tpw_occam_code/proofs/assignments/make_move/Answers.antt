@@ -10,7 +10,7 @@ pub returns-in-Keep-clause-makes : goal.returns-in-Keep-clause-makes
 returns-in-Keep-clause-makes c =
     on_ok_weaker c.keep.result (λ all three.
     let k = c.args.emitter.now in
-    rw c.in-Keep.is (move_keeps k c.args.code.now c.keep.new.code c.args.all.now c.in-Keep.i c.args.room.kept all.0 all.1.0 (all.1.1 three)))
+    rw c.in-Keep.is (move_keeps k c.args.code.now c.keep.new.code c.args.all.now c.in-Keep.i c.args.room.next_temporary all.0 all.1.0 (all.1.1 three)))
     (on_ok_both _ _ c.keep.result c.keep.ensures.there (on_ok_both _ _ c.keep.result c.keep.ensures.small c.keep.ensures.keeps))
 
 pub returns-else-i-all-clause-makes : goal.returns-else-i-all-clause-makes
@@ -20,7 +20,7 @@ returns-else-i-all-clause-makes c =
     let i = c.in-Make.i in
     let kept = c.in-Make.is_kept in
     let e = c.index-all-i.is ∙ get_same c.args.all.now i c.index-all-i.result _ (omega arith) in
-    rw c.in-Make.is (move_makes k c.args.code.now c.make.new.code c.args.all.now i kept c.args.room.kept
+    rw c.in-Make.is (move_makes k c.args.code.now c.make.new.code c.args.all.now i kept c.args.room.next_temporary
     (subst (λ a. kept ≡ false → HasSmallValue k a.value) e both.1)
-    (subst (λ a. MakesOne k c.args.code.now c.make.new.code a i kept c.args.room.kept) e (both.0 three))))
+    (subst (λ a. MakesOne k c.args.code.now c.make.new.code a i kept c.args.room.next_temporary) e (both.0 three))))
     (on_ok_both _ _ c.make.result c.make.ensures.makes c.make.ensures.small)

@@ -1,6 +1,6 @@
 use Rattle.std.proofs.Common.{ap, sym, subst, IfSome}
 use Rattle.std.proofs.lemmas.Result.{on_ok_weaker}
-use Rattle.tpw_occam_expressions.specs.declared.emitter.Room.{Room}
+use Rattle.tpw_occam_expressions.specs.declared.emitter.Allocation.{Allocation}
 use Rattle.tpw_occam_code.specs.Assigning.{AssignsAbove}
 use Rattle.tpw_occam_code.specs.Ordering.{SettleAll}
 use Rattle.tpw_occam_code.proofs.KeptParts.{words_assign}
@@ -14,5 +14,5 @@ returns-in-Some-clause-assigns c = on_ok_weaker c.by_moves.result (λ assigns.
 pub returns-clause-assigns : goal.returns-clause-assigns
 returns-clause-assigns c = on_ok_weaker c.assign_by_words.result (λ assigns.
     words_assign c.args.emitter.now c.args.code.now c.assign_by_words.new.code c.args.all.now
-    (subst (λ n. AssignsAbove c.args.emitter.now c.args.code.now c.assign_by_words.new.code c.args.all.now n) (ap (λ (r : Room). r.kept) c.from_word.ensures)
-    (assigns (ap (λ (r : Room). r.registers) c.from_word.ensures)))) c.assign_by_words.ensures.assigns
+    (subst (λ n. AssignsAbove c.args.emitter.now c.args.code.now c.assign_by_words.new.code c.args.all.now n) (ap (λ (r : Allocation). r.next_temporary) c.from_word.ensures)
+    (assigns (ap (λ (r : Allocation). r.registers) c.from_word.ensures)))) c.assign_by_words.ensures.assigns

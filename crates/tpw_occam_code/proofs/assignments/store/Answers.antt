@@ -8,13 +8,13 @@ use Rattle.tpw_occam_code.proofs.assignments.store.Goals as goal
 
 pub returns-in-Variable-clause-stores : goal.returns-in-Variable-clause-stores
 returns-in-Variable-clause-stores c = on_ok_weaker c.store_variable.result (λ stores three.
-    rw c.in-Variable.is (variable_stores c.args.emitter.now c.args.code.now c.store_variable.new.code c.in-Variable.x c.args.room.kept stores)) c.store_variable.ensures
+    rw c.in-Variable.is (variable_stores c.args.emitter.now c.args.code.now c.store_variable.new.code c.in-Variable.x c.args.room.next_temporary stores)) c.store_variable.ensures
 
 pub returns-in-Some-clause-stores : goal.returns-in-Some-clause-stores
 returns-in-Some-clause-stores c = on_ok_weaker c.store_word.result (λ stores three.
     rw c.in-Element.is
-    (subst (λ v. StoresIn c.args.emitter.now c.args.code.now c.store_word.new.code (target.Element c.in-Element.array v c.in-Element.subscript) c.args.room.kept) (sym c.in-Some.ensures.words)
-    (fixed_stores c.args.emitter.now c.args.code.now c.store_word.new.code c.in-Element.array c.in-Element.subscript c.in-Some.word c.args.room.kept
+    (subst (λ v. StoresIn c.args.emitter.now c.args.code.now c.store_word.new.code (target.Element c.in-Element.array v c.in-Element.subscript) c.args.room.next_temporary) (sym c.in-Some.ensures.words)
+    (fixed_stores c.args.emitter.now c.args.code.now c.store_word.new.code c.in-Element.array c.in-Element.subscript c.in-Some.word c.args.room.next_temporary
     (subst (λ v. IsFixed c.args.emitter.now c.in-Element.array v c.in-Element.subscript c.in-Some.word) c.in-Some.ensures.words c.in-Some.ensures.fixed) stores)))
     c.store_word.ensures
 
@@ -22,8 +22,8 @@ pub returns-in-Some-offset_subscript-clause-stores : goal.returns-in-Some-offset
 returns-in-Some-offset_subscript-clause-stores c = on_ok_weaker c.store_offset.result (λ stores three.
     let o = c.in-Some-offset_subscript in
     rw c.in-Element.is
-    (subst (λ v. StoresIn c.args.emitter.now c.args.code.now c.store_offset.new.code (target.Element c.in-Element.array v c.in-Element.subscript) c.args.room.kept) (sym o.ensures.offset.words)
-    (offset_stores c.args.emitter.now c.args.code.now c.store_offset.new.code c.in-Element.array c.in-Element.subscript o.offset.variable o.offset.constant c.args.room.kept
+    (subst (λ v. StoresIn c.args.emitter.now c.args.code.now c.store_offset.new.code (target.Element c.in-Element.array v c.in-Element.subscript) c.args.room.next_temporary) (sym o.ensures.offset.words)
+    (offset_stores c.args.emitter.now c.args.code.now c.store_offset.new.code c.in-Element.array c.in-Element.subscript o.offset.variable o.offset.constant c.args.room.next_temporary
     (subst (λ v. IsOffset c.args.emitter.now c.in-Element.array v c.in-Element.subscript o.offset.variable o.offset.constant) o.ensures.offset.words o.ensures) stores)))
     c.store_offset.ensures
 

@@ -2,7 +2,7 @@ use Rattle.std.proofs.Common.{◌≡◌, None, [], ◌∷◌, ap, sym, subst, �
 use Rattle.tpw_occam_symbolic.specs.declared.items.Item.TheVariants.{Variable, Temporary}
 use Rattle.tpw_occam_symbolic.specs.declared.code.Step.TheVariants.{Store as StoreTo}
 use Rattle.tpw_occam_expressions.specs.declared.emitter.Fact.{Fact}
-use Rattle.tpw_occam_expressions.specs.declared.emitter.Room.{Room}
+use Rattle.tpw_occam_expressions.specs.declared.emitter.Allocation.{Allocation}
 use Rattle.tpw_occam_symbolic.specs.Code.{followed_by, line_of}
 use Rattle.tpw_occam_expressions.specs.Agreement.{fact_at}
 use Rattle.tpw_occam_expressions.specs.Computing.{Computes}
@@ -20,10 +20,10 @@ returns-then-is_none-clause-keeps c =
 pub returns : goal.returns
 returns c =
     let room = c.from_word-room.ensures in
-    let kept : c.word-2.result ≡ Temporary 0 = c.word-2.ensures ∙ ap (λ (r : Room). Temporary r.kept) room in
-    let computes = subst (λ (r : Room). Computes c.args.emitter.now c.args.code.now c.expression.new.code c.args.e.now r.registers r.kept) room c.in_ok-expression.ensures.computes in
+    let kept : c.word-2.result ≡ Temporary 0 = c.word-2.ensures ∙ ap (λ (r : Allocation). Temporary r.next_temporary) room in
+    let computes = subst (λ (r : Allocation). Computes c.args.emitter.now c.args.code.now c.expression.new.code c.args.e.now r.registers r.next_temporary) room c.in_ok-expression.ensures.computes in
     let is = c.in_ok-emit.ensures
-    ∙ ap (λ i. followed_by c.expression.new.code (line_of c.args.line (StoreTo i 0) ∷ [])) (c.word.ensures ∙ ap (λ (r : Room). Temporary r.kept) room) in
+    ∙ ap (λ i. followed_by c.expression.new.code (line_of c.args.line (StoreTo i 0) ∷ [])) (c.word.ensures ∙ ap (λ (r : Allocation). Temporary r.next_temporary) room) in
     record {
       knowledge = c.in_ok-expression.ensures.knowledge;
       room = subst HasRoom (sym kept) (λ arrays sizes h. h);

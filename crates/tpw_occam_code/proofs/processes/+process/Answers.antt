@@ -45,7 +45,7 @@ choice-returns-then-is_skip-clause-executes t c =
     on_ok_weaker c.branch-code.result (λ is.
     branch_executes c.args.emitter.now c.args.code.now c.condition.new.code c.process-2.new.code c.branch-code.new.self c.args.line
     c.args.guard.now c.args.guarded.now c.args.rest.now (sym c.is_skip.ensures ∙ c.if-is_skip.true)
-    (subst (λ r. Decides c.args.emitter.now c.args.code.now c.condition.new.code c.args.guard.now r.registers r.kept) c.from_word.ensures c.in_ok-condition.ensures.decides)
+    (subst (λ r. Decides c.args.emitter.now c.args.code.now c.condition.new.code c.args.guard.now r.registers r.next_temporary) c.from_word.ensures c.in_ok-condition.ensures.decides)
     (subst (λ k. Executes k (none_at (place_behind c.condition.new.code + 1)) c.process-2.new.code c.args.guarded.now) c.in_ok-condition.ensures.knowledge
     (subst (λ l. Executes c.condition.new.self l c.process-2.new.code c.args.guarded.now) c.in_ok-yes.ensures c.in_ok-process.ensures.executes))
     is) c.branch-code.ensures
@@ -62,7 +62,7 @@ choice-returns-clause-executes t c =
     on_ok_weaker c.choose.result (λ is.
     choose_executes c.args.emitter.now c.args.code.now c.condition.new.code c.process-2.new.code c.process-3.new.code c.choose.new.self c.args.line
     c.args.guard.now c.args.guarded.now c.args.rest.now
-    (subst (λ r. Decides c.args.emitter.now c.args.code.now c.condition.new.code c.args.guard.now r.registers r.kept) c.from_word.ensures c.in_ok-condition.ensures.decides)
+    (subst (λ r. Decides c.args.emitter.now c.args.code.now c.condition.new.code c.args.guard.now r.registers r.next_temporary) c.from_word.ensures c.in_ok-condition.ensures.decides)
     (subst (λ k. Executes k (none_at (place_behind c.condition.new.code + 1)) c.process-2.new.code c.args.guarded.now) c.in_ok-condition.ensures.knowledge
     (subst (λ l. Executes c.condition.new.self l c.process-2.new.code c.args.guarded.now) c.in_ok-yes.ensures c.in_ok-process.ensures.executes))
     (subst (λ k. Executes k (none_at (place_behind c.process-2.new.code + 1)) c.process-3.new.code c.args.rest.now)
@@ -243,7 +243,7 @@ with_value-returns-clause-executes t c =
     λ p. value_executes k bound.0 c.args.code.now c.bind.new.code c.process.new.code x e p c.args.body.now
     (subst (λ a. Binds k a x e) bound.1 c.in_ok-bind.ensures.knows)
     (subst (λ a. ComputesBinding k a c.args.code.now c.bind.new.code x e 3 0) bound.1
-    (subst (λ r. ComputesBinding k c.bind.new.self c.args.code.now c.bind.new.code x e r.registers r.kept) c.from_word.ensures c.in_ok-bind.ensures.computes))
+    (subst (λ r. ComputesBinding k c.bind.new.self c.args.code.now c.bind.new.code x e r.registers r.next_temporary) c.from_word.ensures c.in_ok-bind.ensures.computes))
     (subst (λ a. Executes a c.bind.new.code c.process.new.code c.args.body.now) bound.1 c.in_ok-process.ensures.executes)
 
 pub with_value-returns-clause-remains : goal.with_value-returns-clause-remains

@@ -1,5 +1,5 @@
 use Rattle.std.proofs.Common.{rules}
-use Rattle.tp_outcome.proofs.Casts.{casts}
+use Rattle.tp_words.proofs.Casts.{casts}
 use Rattle.tpw_occam_expressions.proofs.Ranges.{ends_made, quotients_contained}
 use Rattle.tpw_occam_expressions.proofs.range.quotients.Goals as goal
 

@@ -1,6 +1,6 @@
 use Rattle.std.proofs.Common.{◌≡◌, ◌-◌, ◌/◌, ◌^◌, pos, arith, rules}
 use Rattle.std.proofs.lemmas.Int.{ints}
-use Rattle.tp_outcome.proofs.Casts.{casts}
+use Rattle.tp_words.proofs.Casts.{casts}
 use Rattle.tpw_occam_expressions.specs.Ranges.{between}
 use Rattle.tpw_occam_expressions.proofs.Ranges.{ends_made, between_made, shifted_down, shifted_down_some}
 use Rattle.tpw_occam_expressions.proofs.range.shifted_right.Goals as goal

@@ -1,6 +1,6 @@
 use Rattle.std.proofs.Common.{◌%◌, ◌^◌, sym, arith, subst}
 use Rattle.std.specs.Prelude.{nat_le}
-use Rattle.tpw_occam_core.specs.Arithmetic.{answer, plain}
+use Rattle.tpw_occam_core.specs.Arithmetic.{answer, pure}
 use Rattle.tpw_occam_expressions.specs.Values.{Answers}
 use Rattle.tpw_occam_expressions.proofs.Answering.{answers_then, answers_nothing}
 use Rattle.tpw_occam_expressions.proofs.Indexing.{subscript_below, subscript_checked, subscript_word_below}
@@ -19,7 +19,7 @@ returns-then-is_within-clause-holds c i holds positive small =
 pub returns-clause-makes : goal.returns-clause-makes
 returns-clause-makes c i holds positive small =
     subst (λ made. Answers c.args.code.now c.reduce.new.code 2 i made) (subscript_checked c.args.size i positive small)
-    (answers_then c.args.code.now c.check.new.code c.reduce.new.code 2 i (answer i (nat_le c.args.size i)) (plain (i % 2 ^ 31 % c.args.size))
+    (answers_then c.args.code.now c.check.new.code c.reduce.new.code 2 i (answer i (nat_le c.args.size i)) (pure (i % 2 ^ 31 % c.args.size))
     (c.in_ok-check.ensures i) (c.in_ok-known.ensures.makes i holds.small holds.known positive small))
 
 pub returns-clause-holds : goal.returns-clause-holds

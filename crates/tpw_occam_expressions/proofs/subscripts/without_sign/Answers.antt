@@ -1,7 +1,7 @@
 use Rattle.std.proofs.Common.{◌≡◌, ◌%◌, ◌^◌, ◌<◌, arith, subst}
 use Rattle.std.proofs.lemmas.Result.{on_ok_weaker}
 use Rattle.std.proofs.lemmas.Nat.{and_mask}
-use Rattle.tpw_occam_core.specs.Arithmetic.{plain}
+use Rattle.tpw_occam_core.specs.Arithmetic.{pure}
 use Rattle.tpw_occam_expressions.specs.Values.{Answers}
 use Rattle.tpw_occam_expressions.proofs.Answering.{answers_nothing}
 use Rattle.tpw_occam_expressions.proofs.subscripts.without_sign.Goals as goal
@@ -10,8 +10,8 @@ pub returns-then-is_within : goal.returns-then-is_within
 returns-then-is_within c i h known =
     let low : i < 2 ^ 31 = c.below.ensures.within (omega arith) (omega arith) i h (c.is_within.ensures.contains c.if-is_within.true i known) in
     let same : i ≡ i % 2 ^ 31 = omega arith in
-    subst (λ w. Answers c.args.code.now c.args.code.now 2 i (plain w)) same (answers_nothing c.args.code.now 2 i)
+    subst (λ w. Answers c.args.code.now c.args.code.now 2 i (pure w)) same (answers_nothing c.args.code.now 2 i)
 
 pub returns : goal.returns
 returns c = on_ok_weaker c.mask.result (λ makes i h known.
-    subst (λ w. Answers c.args.code.now c.mask.new.code 2 i (plain w)) (and_mask i 31) (makes i)) c.mask.ensures
+    subst (λ w. Answers c.args.code.now c.mask.new.code 2 i (pure w)) (and_mask i 31) (makes i)) c.mask.ensures

@@ -1,8 +1,8 @@
 use Rattle.std.proofs.Common.{◌==◌, ◌∙◌}
 use Rattle.std.proofs.lemmas.Result.{IfOk-weaker}
-use Rattle.tp_step.specs.Numbers.{truth}
-use Rattle.tpw_occam_core.specs.Arithmetic.{plain}
-use Rattle.tpw_occam_core.specs.Meaning.{followed}
+use Rattle.tp_words.specs.Numbers.{truth}
+use Rattle.tpw_occam_core.specs.Arithmetic.{pure}
+use Rattle.tpw_occam_core.specs.Meaning.{bind}
 use Rattle.tpw_occam_scoped.specs.Meaning.{value_of}
 use Rattle.tpw_occam_resolving.proofs.Operating.{at_least_made}
 use Rattle.tpw_occam_resolving.proofs.operators.at_least.Goals as goal
@@ -10,6 +10,6 @@ use Rattle.tpw_occam_resolving.proofs.operators.at_least.Goals as goal
 pub returns : goal.returns
 returns c =
     IfOk-weaker c.not.result _ _
-    (λ r h. h ∙ (λ i s. followed (c.in_ok-less.ensures i s) (λ a. plain (truth (a == 0))))
+    (λ r h. h ∙ (λ i s. bind (c.in_ok-less.ensures i s) (λ a. pure (truth (a == 0))))
     ∙ (λ i s. at_least_made (value_of c.args.left s) (value_of c.args.right s) i))
     c.not.ensures

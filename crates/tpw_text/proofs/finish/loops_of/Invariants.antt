@@ -5,4 +5,4 @@ use Rattle.tpw_text.proofs.finish.loops_of.Given as goal
 
 -- the rows so far
 abbrev pub invariant-loop-row : goal.invariant-loop-row
-invariant-loop-row l = each_read (loop_placed l.labels l.start) (take l.row-index l.rows) ≡ Ok l.loops.items
+invariant-loop-row l = each_read (loop_placed l.labels) (take l.row-index l.rows) ≡ Ok l.loops.items

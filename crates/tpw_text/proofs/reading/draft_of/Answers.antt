@@ -7,8 +7,7 @@ use Rattle.tpw_text.specs.Words.{token, words_of_line}
 use Rattle.tpw_text.specs.Drafts.{said}
 use Rattle.tpw_text.specs.Apart.{draft_apart}
 use Rattle.tpw_text.specs.Texts.{words_of_lines, words_say}
-use Rattle.tpw_text.proofs.Turns.{passed_on}
-use Rattle.tpw_text.proofs.Folds.{one_more, refused_at, at_first, at_end, at_turn, at_last}
+use Rattle.tpw_text.proofs.Folds.{passed_on, one_more, refused_at, at_first, at_end, at_turn, at_last}
 use Rattle.tpw_text.proofs.reading.draft_of.Goals as goal
 
 pub loop-i-init : goal.loop-i-init

@@ -14,19 +14,19 @@ use Rattle.tp_check.proofs.passes.Passes.take_edge.Goals as goal
 pub arrive-requires-clause-sized : goal.arrive-requires-clause-sized
 arrive-requires-clause-sized c is =
     rw (ap (λ (p : Passes). p.states.items) c.lead_on.ensures.same, ap (λ (p : Passes). p.carried) c.lead_on.ensures.same)
-    (as_many_words c.args.image.now (table_of c.args.self.now.states.items c.in-Some.to) c.go_on.new.self
+    (as_many_words c.args.image.now (table_of c.args.self.now.states.items c.in-Some.to) c.transfer.new.self
     (kept_is_placed c.args.image.now (is_join_at c.args.predecessors.now) c.args.self.now c.requires.way.2.whole
-    c.requires.way.2.way.keeps c.in-Some.to is) c.go_on.ensures.placed)
+    c.requires.way.2.way.keeps c.in-Some.to is) c.transfer.ensures.placed)
 
 pub arrive-requires-clause-again : goal.arrive-requires-clause-again
 arrive-requires-clause-again c =
     came_led c.args.image.now (is_join_at c.args.predecessors.now) c.args.self.now c.args.place c.args.edge
-    c.requires.way.0 c.requires.way.1 c.requires.way.2 c.requires.place c.requires.sound c.go_on.new.self goes
-    c.go_on.ensures.placed c.in-Some.to leads
+    c.requires.way.0 c.requires.way.1 c.requires.way.2 c.requires.place c.requires.sound c.transfer.new.self goes
+    c.transfer.ensures.placed c.in-Some.to leads
     c.lead_on.new.self c.lead_on.new.self c.lead_on.ensures
   where
-    goes : after c.args.image.now c.args.place.at c.args.place.next c.args.place.instr c.args.edge c.args.self.now.carried ≡ Ok c.go_on.new.self
-    goes = left c.go_on.result c.in_default.field-0 c.go_on.new.self _ c.in_default.is c.go_on.ensures.value
+    goes : after c.args.image.now c.args.place.at c.args.place.next c.args.place.instr c.args.edge c.args.self.now.carried ≡ Ok c.transfer.new.self
+    goes = left c.transfer.result c.in_default.field-0 c.transfer.new.self _ c.in_default.is c.transfer.ensures.value
 
     leads : target (ranges c.args.image.now.loops) c.args.place.at c.args.place.next c.args.place.instr c.args.edge ≡ Some c.in-Some.to
     leads = sym (c.target.ensures ∙ ap (λ nest. target nest c.args.place.at c.args.place.next c.args.place.instr c.args.edge) c.requires.nest) ∙ c.in-Some.is
@@ -34,16 +34,16 @@ arrive-requires-clause-again c =
 pub returns-in-Some-clause-gives : goal.returns-in-Some-clause-gives
 returns-in-Some-clause-gives c later apart way =
     arrived c.args.image.now (is_join_at c.args.predecessors.now) c.args.self.now c.args.place c.args.edge later apart
-    way c.requires.place c.requires.sound c.go_on.new.self goes c.go_on.ensures.placed c.in-Some.to leads
+    way c.requires.place c.requires.sound c.transfer.new.self goes c.transfer.ensures.placed c.in-Some.to leads
     c.lead_on.new.self c.arrive.new.self c.lead_on.ensures c.arrive.result c.arrive.ensures.rest
     c.arrive.ensures.is_join c.arrive.ensures.marks c.arrive.ensures.alone
     (moves_led c.args.image.now (is_join_at c.args.predecessors.now) c.args.self.now c.args.place c.args.edge
-    c.requires.way.0 c.requires.way.1 c.requires.way.2 c.requires.place c.requires.sound c.go_on.new.self goes
-    c.go_on.ensures.placed c.in-Some.to leads
+    c.requires.way.0 c.requires.way.1 c.requires.way.2 c.requires.place c.requires.sound c.transfer.new.self goes
+    c.transfer.ensures.placed c.in-Some.to leads
     c.lead_on.new.self c.arrive.new.self c.lead_on.ensures c.arrive.result c.arrive.ensures.is_join c.arrive.ensures.reports c.arrive.ensures.alone c.arrive.ensures.sized)
   where
-    goes : after c.args.image.now c.args.place.at c.args.place.next c.args.place.instr c.args.edge c.args.self.now.carried ≡ Ok c.go_on.new.self
-    goes = left c.go_on.result c.in_default.field-0 c.go_on.new.self _ c.in_default.is c.go_on.ensures.value
+    goes : after c.args.image.now c.args.place.at c.args.place.next c.args.place.instr c.args.edge c.args.self.now.carried ≡ Ok c.transfer.new.self
+    goes = left c.transfer.result c.in_default.field-0 c.transfer.new.self _ c.in_default.is c.transfer.ensures.value
 
     leads : target (ranges c.args.image.now.loops) c.args.place.at c.args.place.next c.args.place.instr c.args.edge ≡ Some c.in-Some.to
     leads = sym (c.target.ensures ∙ ap (λ nest. target nest c.args.place.at c.args.place.next c.args.place.instr c.args.edge) c.requires.nest) ∙ c.in-Some.is
@@ -52,12 +52,12 @@ pub returns-in-Some-clause-moves : goal.returns-in-Some-clause-moves
 returns-in-Some-clause-moves c =
     subst (λ items. IfOk c.arrive.result (λ moved. Moves c.args.image.now moved items c.arrive.new.self.states.items)) (ap (λ (p : Passes). p.states.items) c.lead_on.ensures.same)
     (moves_led c.args.image.now (is_join_at c.args.predecessors.now) c.args.self.now c.args.place c.args.edge
-    c.requires.way.0 c.requires.way.1 c.requires.way.2 c.requires.place c.requires.sound c.go_on.new.self goes
-    c.go_on.ensures.placed c.in-Some.to leads
+    c.requires.way.0 c.requires.way.1 c.requires.way.2 c.requires.place c.requires.sound c.transfer.new.self goes
+    c.transfer.ensures.placed c.in-Some.to leads
     c.lead_on.new.self c.arrive.new.self c.lead_on.ensures c.arrive.result c.arrive.ensures.is_join c.arrive.ensures.reports c.arrive.ensures.alone c.arrive.ensures.sized)
   where
-    goes : after c.args.image.now c.args.place.at c.args.place.next c.args.place.instr c.args.edge c.args.self.now.carried ≡ Ok c.go_on.new.self
-    goes = left c.go_on.result c.in_default.field-0 c.go_on.new.self _ c.in_default.is c.go_on.ensures.value
+    goes : after c.args.image.now c.args.place.at c.args.place.next c.args.place.instr c.args.edge c.args.self.now.carried ≡ Ok c.transfer.new.self
+    goes = left c.transfer.result c.in_default.field-0 c.transfer.new.self _ c.in_default.is c.transfer.ensures.value
 
     leads : target (ranges c.args.image.now.loops) c.args.place.at c.args.place.next c.args.place.instr c.args.edge ≡ Some c.in-Some.to
     leads = sym (c.target.ensures ∙ ap (λ nest. target nest c.args.place.at c.args.place.next c.args.place.instr c.args.edge) c.requires.nest) ∙ c.in-Some.is
@@ -65,11 +65,11 @@ returns-in-Some-clause-moves c =
 pub returns-in-None-clause-gives : goal.returns-in-None-clause-gives
 returns-in-None-clause-gives c later apart way =
     nowhere c.args.image.now (is_join_at c.args.predecessors.now) c.args.self.now c.args.place c.args.edge later apart
-    way c.requires.place c.requires.sound c.go_on.new.self goes c.go_on.ensures.placed
+    way c.requires.place c.requires.sound c.transfer.new.self goes c.transfer.ensures.placed
     _ refl refl (record { carried = refl; is_again = refl; taken = refl }) refl leads
   where
-    goes : after c.args.image.now c.args.place.at c.args.place.next c.args.place.instr c.args.edge c.args.self.now.carried ≡ Ok c.go_on.new.self
-    goes = left c.go_on.result c.in_default.field-0 c.go_on.new.self _ c.in_default.is c.go_on.ensures.value
+    goes : after c.args.image.now c.args.place.at c.args.place.next c.args.place.instr c.args.edge c.args.self.now.carried ≡ Ok c.transfer.new.self
+    goes = left c.transfer.result c.in_default.field-0 c.transfer.new.self _ c.in_default.is c.transfer.ensures.value
 
     leads : target (ranges c.args.image.now.loops) c.args.place.at c.args.place.next c.args.place.instr c.args.edge ≡ None
     leads = sym (c.target.ensures ∙ ap (λ nest. target nest c.args.place.at c.args.place.next c.args.place.instr c.args.edge) c.requires.nest) ∙ c.in-None.is

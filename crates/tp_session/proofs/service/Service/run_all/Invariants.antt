@@ -7,7 +7,7 @@ use Rattle.tp_session.specs.Services.{StaysOn}
 use Rattle.tp_session.proofs.ServiceLemmas.{partly}
 use Rattle.tp_session.proofs.service.Service.run_all.Given as goal
 
--- so many sessions were run, and their packets are forgotten
+-- this many sessions were run, and their packets are forgotten
 abbrev pub invariant-loop-index : goal.invariant-loop-index
 invariant-loop-index g l = record {
   stays : StaysOn g.D.LinkDevice.state l.fn.self l.self;

@@ -1,6 +1,6 @@
 use Rattle.std.proofs.Common.{◌≡◌, ◌%◌, SFits, w32, w64, rules, to_z-of_z, Some, ◌+◌, ◌/◌, nat_eq, false, arith, sym, ap, ◌∙◌, refl}
 use Rattle.std.proofs.lemmas.Bool.Decides.{nat_tests}
-use Rattle.tp_decode.specs.Words.{signed}
+use Rattle.tp_words.specs.Words.{signed}
 use Rattle.tp_decode.specs.Table.{instruction}
 use Rattle.tp_step.specs.Steps.{step, code_byte}
 use Rattle.tp_step.specs.Effects.{effect}

@@ -19,7 +19,7 @@ use Rattle.tpw_occam_expressions.proofs.emitter.Emitter.+expression.Goals as goa
 pub binary-returns-then-is_shift-clause-computes : goal.binary-returns-then-is_shift-clause-computes
 binary-returns-then-is_shift-clause-computes t c =
     on_ok_weaker c.apply.result (λ works enough.
-    shift_computes c.args.self.now c.args.code.now c.shifted.new.code c.apply.new.code c.args.operator c.args.left.now c.args.right.now c.in_ok-b.b c.in_ok-b.a c.args.room.registers c.args.room.kept
+    shift_computes c.args.self.now c.args.code.now c.shifted.new.code c.apply.new.code c.args.operator c.args.left.now c.args.right.now c.in_ok-b.b c.in_ok-b.a c.args.room.registers c.args.room.next_temporary
     (c.is_shift.ensures.yes c.if-is_shift.true) c.in_ok-b.ensures.computes c.in_ok-b.ensures.left c.in_ok-b.ensures.count works enough) c.apply.ensures.makes
 
 -- src/operands.rt:45:13
@@ -34,7 +34,7 @@ pub binary-returns-then-is_swapped-clause-computes : goal.binary-returns-then-is
 binary-returns-then-is_swapped-clause-computes t c =
     on_ok_weaker c.in_order.result (λ computes enough.
     let swapped = sym c.is_swapped.ensures ∙ c.if-is_swapped.true in
-    swapped_computes c.args.self.now c.args.code.now c.in_order.new.code c.args.operator c.args.left.now c.args.right.now c.args.room.registers c.args.room.kept
+    swapped_computes c.args.self.now c.args.code.now c.in_order.new.code c.args.operator c.args.left.now c.args.right.now c.args.room.registers c.args.room.next_temporary
     (swapped_commutes c.args.self.now c.args.operator c.args.left.now c.args.right.now swapped)
     (computes (c.is_shift.ensures.not c.if-is_shift.false)
     (λ one. swapped_immediate c.args.self.now c.args.operator c.args.left.now c.args.right.now swapped (enough one)))) c.in_order.ensures.computes
@@ -63,23 +63,23 @@ bind-returns-in-Some-clause-knows t c =
 -- src/expressions.rt:162:13
 pub bind-returns-in-Some-clause-computes : goal.bind-returns-in-Some-clause-computes
 bind-returns-in-Some-clause-computes t c =
-    subst (λ after. ComputesBinding c.args.self.now after c.args.code.now c.args.code.now c.args.x c.args.e.now c.args.room.registers c.args.room.kept) (sym (c.set_fact.ensures ∙ ap (λ f. with_fact c.args.x f c.args.self.now) c.constant.ensures))
-    (constant_binding c.args.self.now c.args.code.now c.args.x c.in-Some.c c.args.e.now c.args.room.registers c.args.room.kept (sym c.constant_of.ensures.value ∙ c.in-Some.is))
+    subst (λ after. ComputesBinding c.args.self.now after c.args.code.now c.args.code.now c.args.x c.args.e.now c.args.room.registers c.args.room.next_temporary) (sym (c.set_fact.ensures ∙ ap (λ f. with_fact c.args.x f c.args.self.now) c.constant.ensures))
+    (constant_binding c.args.self.now c.args.code.now c.args.x c.in-Some.c c.args.e.now c.args.room.registers c.args.room.next_temporary (sym c.constant_of.ensures.value ∙ c.in-Some.is))
 
 -- src/expressions.rt:146:5
 pub bind-returns-clause-computes : goal.bind-returns-clause-computes
 bind-returns-clause-computes t c =
-    subst (λ after. ComputesBinding c.args.self.now after c.args.code.now c.emit.new.self c.args.x c.args.e.now c.args.room.registers c.args.room.kept) (sym (c.set_fact-2.ensures ∙ ap (λ f. with_fact c.args.x f c.expression.new.self) c.valued.ensures
+    subst (λ after. ComputesBinding c.args.self.now after c.args.code.now c.emit.new.self c.args.x c.args.e.now c.args.room.registers c.args.room.next_temporary) (sym (c.set_fact-2.ensures ∙ ap (λ f. with_fact c.args.x f c.expression.new.self) c.valued.ensures
     ∙ ap (with_fact c.args.x (valued_fact c.in_ok-value.value.source)) c.in_ok-value.ensures.knowledge))
-    (value_binding c.args.self.now c.args.code.now c.expression.new.code c.emit.new.self c.args.room.line c.args.x c.args.e.now c.in_ok-value.value c.args.room.registers c.args.room.kept c.in_ok-value.ensures.computes c.in_ok-emit.ensures)
+    (value_binding c.args.self.now c.args.code.now c.expression.new.code c.emit.new.self c.args.room.line c.args.x c.args.e.now c.in_ok-value.value c.args.room.registers c.args.room.next_temporary c.in_ok-value.ensures.computes c.in_ok-emit.ensures)
 
 -- src/operands.rt:117:13
 pub constant_first-returns-then-need-room-clause-computes : goal.constant_first-returns-then-need-room-clause-computes
 constant_first-returns-then-need-room-clause-computes t c =
     on_ok_weaker c.apply.result (λ works unshifted more.
-    first_above_computes c.args.self.now c.args.code.now c.number.new.code c.expression.new.code c.apply.new.code c.args.operator c.args.right.now c.args.c c.in_ok-b.b c.in_ok-a.a c.args.room.registers c.args.room.kept
+    first_above_computes c.args.self.now c.args.code.now c.number.new.code c.expression.new.code c.apply.new.code c.args.operator c.args.right.now c.args.c c.in_ok-b.b c.in_ok-a.a c.args.room.registers c.args.room.next_temporary
     c.in_ok-b.ensures.holds c.in_ok-b.ensures.makes
-    (subst (λ r. Computes c.args.self.now c.number.new.code c.expression.new.code c.args.right.now r.registers r.kept) c.above.ensures c.in_ok-a.ensures.computes)
+    (subst (λ r. Computes c.args.self.now c.number.new.code c.expression.new.code c.args.right.now r.registers r.next_temporary) c.above.ensures c.in_ok-a.ensures.computes)
     c.in_ok-a.ensures.known
     (suffices_above c.args.self.now c.args.room.registers c.need.result c.args.right.now c.need.ensures.least c.need.ensures.simple c.if-need-room.true)
     works unshifted more) c.apply.ensures.makes
@@ -89,7 +89,7 @@ pub constant_first-returns-clause-computes : goal.constant_first-returns-clause-
 constant_first-returns-clause-computes t c =
     on_ok_weaker c.apply-2.result (λ works unshifted more.
     first_below_computes c.args.self.now c.args.code.now c.expression-2.new.code c.number-2.new.code c.instr.new.self c.apply-2.new.code c.args.room.line c.args.operator
-    c.args.right.now c.args.c c.in_ok-b-2.b c.in_ok-a-2.a c.args.room.registers c.args.room.kept
+    c.args.right.now c.args.c c.in_ok-b-2.b c.in_ok-a-2.a c.args.room.registers c.args.room.next_temporary
     c.in_ok-a-2.ensures.computes c.in_ok-a-2.ensures.known c.in_ok-b-2.ensures.holds c.in_ok-b-2.ensures.makes c.in_ok-instr.ensures
     works unshifted more) c.apply-2.ensures.makes
 
@@ -97,7 +97,7 @@ constant_first-returns-clause-computes t c =
 pub expression-returns-in-Some-clause-computes : goal.expression-returns-in-Some-clause-computes
 expression-returns-in-Some-clause-computes t c =
     on_ok_weaker c.fixed_element.result (λ makes.
-    rw c.in-Element.is (fixed_computes c.args.self.now c.args.code.now c.fixed_element.new.code c.in-Element.array c.in-Element.kind _ c.in-Element.subscript.value c.in-Some.c c.args.room.registers c.args.room.kept
+    rw c.in-Element.is (fixed_computes c.args.self.now c.args.code.now c.fixed_element.new.code c.in-Element.array c.in-Element.kind _ c.in-Element.subscript.value c.in-Some.c c.args.room.registers c.args.room.next_temporary
     (subst (λ e. IsFixed c.args.self.now c.in-Element.array c.in-Element.kind e c.in-Some.c) c.deref.ensures c.in-Some.ensures) makes))
     c.fixed_element.ensures.makes
 
@@ -106,7 +106,7 @@ pub expression-returns-in-Some-offset_subscript-clause-computes : goal.expressio
 expression-returns-in-Some-offset_subscript-clause-computes t c =
     on_ok_weaker c.offset_element.result (λ makes.
     rw c.in-Element.is (offset_computes c.args.self.now c.args.code.now c.offset_element.new.code c.in-Element.array c.in-Element.kind _ c.in-Element.subscript.value
-    c.in-Some-offset_subscript.offset.variable c.in-Some-offset_subscript.offset.constant c.args.room.registers c.args.room.kept
+    c.in-Some-offset_subscript.offset.variable c.in-Some-offset_subscript.offset.constant c.args.room.registers c.args.room.next_temporary
     (subst (λ e. IsOffset c.args.self.now c.in-Element.array c.in-Element.kind e c.in-Some-offset_subscript.offset.variable c.in-Some-offset_subscript.offset.constant) c.deref-in-Element.ensures c.in-Some-offset_subscript.ensures) makes))
     c.offset_element.ensures.makes
 
@@ -123,13 +123,13 @@ pub expression-returns-in-Constant-clause-computes :
     goal.expression-returns-in-Constant-clause-computes
 expression-returns-in-Constant-clause-computes t c =
     on_ok_weaker c.number.result (λ makes.
-    rw c.in-Constant.is (constant_computes c.args.self.now c.args.code.now c.number.new.code c.in-Constant.c c.args.room.registers c.args.room.kept makes)) c.number.ensures.makes
+    rw c.in-Constant.is (constant_computes c.args.self.now c.args.code.now c.number.new.code c.in-Constant.c c.args.room.registers c.args.room.next_temporary makes)) c.number.ensures.makes
 
 -- src/expressions.rt:49:5
 pub expression-returns-in-Variable-clause-computes :
     goal.expression-returns-in-Variable-clause-computes
 expression-returns-in-Variable-clause-computes t c =
-    on_ok_weaker c.name.result (λ computes. rw c.in-Variable.is (computes c.args.room.registers c.args.room.kept)) c.name.ensures.computes
+    on_ok_weaker c.name.result (λ computes. rw c.in-Variable.is (computes c.args.room.registers c.args.room.next_temporary)) c.name.ensures.computes
 
 -- src/expressions.rt:49:5
 pub expression-returns-in_ok-subscript-in-Element-clause-computes :
@@ -137,9 +137,9 @@ pub expression-returns-in_ok-subscript-in-Element-clause-computes :
 expression-returns-in_ok-subscript-in-Element-clause-computes t c =
     on_ok_weaker c.indexed_element.result (λ makes.
     rw c.in-Element.is (element_computes c.args.self.now c.args.code.now c.subscript.new.code c.indexed_element.new.code c.in-Element.array c.in-Element.kind _ c.in-Element.subscript.value
-    c.elements.result c.args.room.registers c.args.room.kept c.elements.ensures
+    c.elements.result c.args.room.registers c.args.room.next_temporary c.elements.ensures
     (subst (λ e. 0 < c.elements.result → c.elements.result ≤ 2 ^ 31 → (c.args.room.registers ≤ 1 → IsConstantBelow c.args.self.now e c.elements.result)
-    → ComputesTo c.args.self.now c.args.code.now c.subscript.new.code e (subscript_value e c.elements.result) c.args.room.registers c.args.room.kept) c.deref-in-Element-2.ensures c.in_ok-subscript-in-Element.ensures.computes)
+    → ComputesTo c.args.self.now c.args.code.now c.subscript.new.code e (subscript_value e c.elements.result) c.args.room.registers c.args.room.next_temporary) c.deref-in-Element-2.ensures c.in_ok-subscript-in-Element.ensures.computes)
     makes)) c.indexed_element.ensures.makes
 
 -- src/expressions.rt:49:5
@@ -148,8 +148,8 @@ pub expression-returns-in_ok-value-in-Checked-clause-computes :
 expression-returns-in_ok-value-in-Checked-clause-computes t c =
     on_ok_weaker c.checked.result (λ makes.
     rw c.in-Checked.is (checked_computes c.args.self.now c.args.code.now c.expression.new.code c.checked.new.code c.in-Checked.below _ c.in-Checked.subscript.value
-    c.in_ok-value-in-Checked.value c.args.room.registers c.args.room.kept
-    (subst (λ e. Computes c.args.self.now c.args.code.now c.expression.new.code e c.args.room.registers c.args.room.kept) c.deref-in-Checked.ensures c.in_ok-value-in-Checked.ensures.computes)
+    c.in_ok-value-in-Checked.value c.args.room.registers c.args.room.next_temporary
+    (subst (λ e. Computes c.args.self.now c.args.code.now c.expression.new.code e c.args.room.registers c.args.room.next_temporary) c.deref-in-Checked.ensures c.in_ok-value-in-Checked.ensures.computes)
     (subst (λ e. IsKnown c.args.self.now e c.in_ok-value-in-Checked.value) c.deref-in-Checked.ensures c.in_ok-value-in-Checked.ensures.known) makes))
     c.checked.ensures.makes
 
@@ -167,19 +167,19 @@ pub expression-returns-in-Binary-clause-computes :
     goal.expression-returns-in-Binary-clause-computes
 expression-returns-in-Binary-clause-computes t c =
     on_ok_weaker c.binary.result (λ both.
-    rw c.in-Binary.is (binary_computes c.args.self.now c.args.code.now c.binary.new.code c.in-Binary.operator _ c.in-Binary.left.value _ c.in-Binary.right.value c.args.room.registers c.args.room.kept
+    rw c.in-Binary.is (binary_computes c.args.self.now c.args.code.now c.binary.new.code c.in-Binary.operator _ c.in-Binary.left.value _ c.in-Binary.right.value c.args.room.registers c.args.room.next_temporary
     (subst (λ f. (c.args.room.registers ≤ 1 → IsSimplePair c.args.self.now c.in-Binary.operator c.in-Binary.left.value f)
-    → ComputesBoth c.args.self.now c.args.code.now c.binary.new.code c.in-Binary.left.value f (applied_value c.in-Binary.operator c.in-Binary.left.value f) c.args.room.registers c.args.room.kept) c.deref-in-Binary-2.ensures
+    → ComputesBoth c.args.self.now c.args.code.now c.binary.new.code c.in-Binary.left.value f (applied_value c.in-Binary.operator c.in-Binary.left.value f) c.args.room.registers c.args.room.next_temporary) c.deref-in-Binary-2.ensures
     (subst (λ e. (c.args.room.registers ≤ 1 → IsSimplePair c.args.self.now c.in-Binary.operator e c.deref-in-Binary-2.result.now)
-    → ComputesBoth c.args.self.now c.args.code.now c.binary.new.code e c.deref-in-Binary-2.result.now (applied_value c.in-Binary.operator e c.deref-in-Binary-2.result.now) c.args.room.registers c.args.room.kept)
+    → ComputesBoth c.args.self.now c.args.code.now c.binary.new.code e c.deref-in-Binary-2.result.now (applied_value c.in-Binary.operator e c.deref-in-Binary-2.result.now) c.args.room.registers c.args.room.next_temporary)
     c.deref-in-Binary.ensures both)))) c.binary.ensures.computes
 
 -- src/expressions.rt:49:5
 pub expression-returns-in_ok-instr-in-Complement-clause-computes :
     goal.expression-returns-in_ok-instr-in-Complement-clause-computes
 expression-returns-in_ok-instr-in-Complement-clause-computes t c =
-    rw c.in-Complement.is (complement_computes c.args.self.now c.args.code.now c.expression-in-Complement.new.code c.instr.new.self c.args.room.line _ c.in-Complement.e.value c.args.room.registers c.args.room.kept
-    (subst (λ e. Computes c.args.self.now c.args.code.now c.expression-in-Complement.new.code e c.args.room.registers c.args.room.kept) c.deref-in-Complement.ensures c.in_ok-value-in-Complement.ensures.computes)
+    rw c.in-Complement.is (complement_computes c.args.self.now c.args.code.now c.expression-in-Complement.new.code c.instr.new.self c.args.room.line _ c.in-Complement.e.value c.args.room.registers c.args.room.next_temporary
+    (subst (λ e. Computes c.args.self.now c.args.code.now c.expression-in-Complement.new.code e c.args.room.registers c.args.room.next_temporary) c.deref-in-Complement.ensures c.in_ok-value-in-Complement.ensures.computes)
     c.in_ok-instr-in-Complement.ensures)
 
 -- src/expressions.rt:49:5
@@ -193,8 +193,8 @@ expression-returns-in_ok-instr-in-Complement-clause-known t c =
 pub expression-returns-in-Not-clause-computes : goal.expression-returns-in-Not-clause-computes
 expression-returns-in-Not-clause-computes t c =
     on_ok_weaker c.inverted.result (λ computes.
-    rw c.in-Not.is (not_computes c.args.self.now c.args.code.now c.inverted.new.code _ c.in-Not.e.value c.args.room.registers c.args.room.kept
-    (subst (λ e. ComputesTo c.args.self.now c.args.code.now c.inverted.new.code e (inverse_of e) c.args.room.registers c.args.room.kept) c.deref-in-Not.ensures computes)))
+    rw c.in-Not.is (not_computes c.args.self.now c.args.code.now c.inverted.new.code _ c.in-Not.e.value c.args.room.registers c.args.room.next_temporary
+    (subst (λ e. ComputesTo c.args.self.now c.args.code.now c.inverted.new.code e (inverse_of e) c.args.room.registers c.args.room.next_temporary) c.deref-in-Not.ensures computes)))
     c.inverted.ensures.computes
 
 -- src/expressions.rt:49:5
@@ -203,8 +203,8 @@ pub expression-returns-in_ok-value-in-LowByte-clause-computes :
 expression-returns-in_ok-value-in-LowByte-clause-computes t c =
     on_ok_weaker c.checked-in-LowByte.result (λ makes.
     rw c.in-LowByte.is (low_byte_computes c.args.self.now c.args.code.now c.expression-in-LowByte.new.code c.checked-in-LowByte.new.code _ c.in-LowByte.e.value
-    c.in_ok-value-in-LowByte.value c.args.room.registers c.args.room.kept
-    (subst (λ e. Computes c.args.self.now c.args.code.now c.expression-in-LowByte.new.code e c.args.room.registers c.args.room.kept) c.deref-in-LowByte.ensures c.in_ok-value-in-LowByte.ensures.computes)
+    c.in_ok-value-in-LowByte.value c.args.room.registers c.args.room.next_temporary
+    (subst (λ e. Computes c.args.self.now c.args.code.now c.expression-in-LowByte.new.code e c.args.room.registers c.args.room.next_temporary) c.deref-in-LowByte.ensures c.in_ok-value-in-LowByte.ensures.computes)
     (subst (λ e. IsKnown c.args.self.now e c.in_ok-value-in-LowByte.value) c.deref-in-LowByte.ensures c.in_ok-value-in-LowByte.ensures.known) makes))
     c.checked-in-LowByte.ensures.makes
 
@@ -221,10 +221,10 @@ expression-returns-in_ok-value-in-LowByte-clause-known t c =
 pub expression-returns-in_ok-branch-in-And-clause-computes : goal.expression-returns-in_ok-branch-in-And-clause-computes
 expression-returns-in_ok-branch-in-And-clause-computes t c =
     rw c.in-And.is (and_computes c.args.self.now c.expression-in-And.new.self c.args.code.now c.expression-in-And.new.code c.expression-in-And-2.new.code c.branch-code.new.self
-    c.args.room.line _ c.in-And.left.value _ c.in-And.right.value c.args.room.registers c.args.room.kept c.in_ok-expression-in-And.ensures.knowledge
-    (subst (λ e. Computes c.args.self.now c.args.code.now c.expression-in-And.new.code e c.args.room.registers c.args.room.kept) c.deref-in-And.ensures c.in_ok-expression-in-And.ensures.computes)
-    (subst (λ l. Computes c.expression-in-And.new.self l c.expression-in-And-2.new.code c.in-And.right.value c.args.room.registers c.args.room.kept) c.in_ok-more-in-And.ensures
-    (subst (λ e. Computes c.expression-in-And.new.self c.in_ok-more-in-And.more c.expression-in-And-2.new.code e c.args.room.registers c.args.room.kept) c.deref-in-And-2.ensures
+    c.args.room.line _ c.in-And.left.value _ c.in-And.right.value c.args.room.registers c.args.room.next_temporary c.in_ok-expression-in-And.ensures.knowledge
+    (subst (λ e. Computes c.args.self.now c.args.code.now c.expression-in-And.new.code e c.args.room.registers c.args.room.next_temporary) c.deref-in-And.ensures c.in_ok-expression-in-And.ensures.computes)
+    (subst (λ l. Computes c.expression-in-And.new.self l c.expression-in-And-2.new.code c.in-And.right.value c.args.room.registers c.args.room.next_temporary) c.in_ok-more-in-And.ensures
+    (subst (λ e. Computes c.expression-in-And.new.self c.in_ok-more-in-And.more c.expression-in-And-2.new.code e c.args.room.registers c.args.room.next_temporary) c.deref-in-And-2.ensures
     c.in_ok-value-in-And.ensures.computes))
     c.in_ok-branch-in-And.ensures)
 
@@ -240,10 +240,10 @@ expression-returns-in_ok-branch-in-And-clause-known t c =
 pub expression-returns-in_ok-instr-in-Or-clause-computes : goal.expression-returns-in_ok-instr-in-Or-clause-computes
 expression-returns-in_ok-instr-in-Or-clause-computes t c =
     rw c.in-Or.is (or_computes c.args.self.now c.inverted-in-Or.new.self c.args.code.now c.inverted-in-Or.new.code c.inverted-in-Or-2.new.code c.branch-code-in-Or.new.self c.instr-in-Or.new.self
-    c.args.room.line _ c.in-Or.left.value _ c.in-Or.right.value c.args.room.registers c.args.room.kept c.in_ok-inverted-in-Or.ensures.knowledge
-    (subst (λ e. ComputesTo c.args.self.now c.args.code.now c.inverted-in-Or.new.code e (inverse_of e) c.args.room.registers c.args.room.kept) c.deref-in-Or.ensures c.in_ok-inverted-in-Or.ensures.computes)
-    (subst (λ l. ComputesTo c.inverted-in-Or.new.self l c.inverted-in-Or-2.new.code c.in-Or.right.value (inverse_of c.in-Or.right.value) c.args.room.registers c.args.room.kept) c.in_ok-more-in-Or.ensures
-    (subst (λ e. ComputesTo c.inverted-in-Or.new.self c.in_ok-more-in-Or.more c.inverted-in-Or-2.new.code e (inverse_of e) c.args.room.registers c.args.room.kept) c.deref-in-Or-2.ensures
+    c.args.room.line _ c.in-Or.left.value _ c.in-Or.right.value c.args.room.registers c.args.room.next_temporary c.in_ok-inverted-in-Or.ensures.knowledge
+    (subst (λ e. ComputesTo c.args.self.now c.args.code.now c.inverted-in-Or.new.code e (inverse_of e) c.args.room.registers c.args.room.next_temporary) c.deref-in-Or.ensures c.in_ok-inverted-in-Or.ensures.computes)
+    (subst (λ l. ComputesTo c.inverted-in-Or.new.self l c.inverted-in-Or-2.new.code c.in-Or.right.value (inverse_of c.in-Or.right.value) c.args.room.registers c.args.room.next_temporary) c.in_ok-more-in-Or.ensures
+    (subst (λ e. ComputesTo c.inverted-in-Or.new.self c.in_ok-more-in-Or.more c.inverted-in-Or-2.new.code e (inverse_of e) c.args.room.registers c.args.room.next_temporary) c.deref-in-Or-2.ensures
     c.in_ok-inverted-in-Or-2.ensures.computes))
     c.in_ok-branch-in-Or.ensures c.in_ok-instr-in-Or.ensures)
 
@@ -263,10 +263,10 @@ expression-returns-in_ok-value-in-Let-clause-knowledge t c =
 pub expression-returns-in_ok-value-in-Let-clause-computes : goal.expression-returns-in_ok-value-in-Let-clause-computes
 expression-returns-in_ok-value-in-Let-clause-computes t c =
     rw c.in-Let.is (let_computes c.args.self.now c.bind.new.self c.args.code.now c.bind.new.code c.expression-in-Let.new.code c.in-Let.name _ c.in-Let.value.value _ c.in-Let.within.value
-    c.in_ok-bind-in-Let.ensures.facts.0 c.args.room.registers c.args.room.kept c.in_ok-bind-in-Let.ensures.facts.1
+    c.in_ok-bind-in-Let.ensures.facts.0 c.args.room.registers c.args.room.next_temporary c.in_ok-bind-in-Let.ensures.facts.1
     (subst (λ e. Binds c.args.self.now c.bind.new.self c.in-Let.name e) c.deref-in-Let.ensures c.in_ok-bind-in-Let.ensures.knows)
-    (subst (λ e. ComputesBinding c.args.self.now c.bind.new.self c.args.code.now c.bind.new.code c.in-Let.name e c.args.room.registers c.args.room.kept) c.deref-in-Let.ensures c.in_ok-bind-in-Let.ensures.computes)
-    (subst (λ e. Computes c.bind.new.self c.bind.new.code c.expression-in-Let.new.code e c.args.room.registers c.args.room.kept) c.deref-in-Let-2.ensures c.in_ok-value-in-Let.ensures.computes))
+    (subst (λ e. ComputesBinding c.args.self.now c.bind.new.self c.args.code.now c.bind.new.code c.in-Let.name e c.args.room.registers c.args.room.next_temporary) c.deref-in-Let.ensures c.in_ok-bind-in-Let.ensures.computes)
+    (subst (λ e. Computes c.bind.new.self c.bind.new.code c.expression-in-Let.new.code e c.args.room.registers c.args.room.next_temporary) c.deref-in-Let-2.ensures c.in_ok-value-in-Let.ensures.computes))
 
 -- src/expressions.rt:49:5
 pub expression-returns-in_ok-value-in-Let-clause-known : goal.expression-returns-in_ok-value-in-Let-clause-known
@@ -280,14 +280,14 @@ expression-returns-in_ok-value-in-Let-clause-known t c =
 pub in_order-returns-in-Some-clause-computes : goal.in_order-returns-in-Some-clause-computes
 in_order-returns-in-Some-clause-computes t c =
     on_ok_weaker c.with_constant.result (λ computes unshifted enough.
-    right_constant_computes c.args.self.now c.args.code.now c.with_constant.new.code c.args.operator c.args.left.now c.args.right.now c.in-Some.c c.args.room.registers c.args.room.kept
+    right_constant_computes c.args.self.now c.args.code.now c.with_constant.new.code c.args.operator c.args.left.now c.args.right.now c.in-Some.c c.args.room.registers c.args.room.next_temporary
     (sym c.constant_of.ensures.value ∙ c.in-Some.is) computes unshifted enough) c.with_constant.ensures.computes
 
 -- src/operands.rt:74:13
 pub in_order-returns-in-Some-constant_of-clause-computes : goal.in_order-returns-in-Some-constant_of-clause-computes
 in_order-returns-in-Some-constant_of-clause-computes t c =
     on_ok_weaker c.constant_first.result (λ computes unshifted enough.
-    left_constant_computes c.args.self.now c.args.code.now c.constant_first.new.code c.args.operator c.args.left.now c.args.right.now c.in-Some-constant_of.c c.args.room.registers c.args.room.kept
+    left_constant_computes c.args.self.now c.args.code.now c.constant_first.new.code c.args.operator c.args.left.now c.args.right.now c.in-Some-constant_of.c c.args.room.registers c.args.room.next_temporary
     (sym c.constant_of-2.ensures.value ∙ c.in-Some-constant_of.is) (sym c.constant_of.ensures.value ∙ none_of c.constant_of.result c.in_default.not-Some)
     computes unshifted enough) c.constant_first.ensures.computes
 
@@ -305,16 +305,16 @@ in_order-returns-clause-computes t c =
     let more = no_immediate c.args.self.now c.args.operator c.args.left.now c.args.right.now c.args.room.registers
     (sym c.constant_of.ensures.value ∙ none_of c.constant_of.result c.in_default.not-Some) enough in
     applied_computes c.args.self.now c.operands.new.self c.args.code.now c.operands.new.code c.apply.new.code c.args.operator c.args.left.now c.args.right.now c.in_ok-b.b c.in_ok-b.a
-    c.commutes.result c.args.room.registers c.args.room.kept c.in_ok-b.ensures.knowledge c.commutes.ensures c.in_ok-b.ensures.computes c.in_ok-b.ensures.left c.in_ok-b.ensures.right
+    c.commutes.result c.args.room.registers c.args.room.next_temporary c.in_ok-b.ensures.knowledge c.commutes.ensures c.in_ok-b.ensures.computes c.in_ok-b.ensures.left c.in_ok-b.ensures.right
     works.0 works.1 unshifted more) (on_ok_both _ _ c.apply.result c.apply.ensures.makes c.apply.ensures.swapped)
 
 -- src/expressions.rt:189:17
 pub inverted-returns-in-Some-clause-computes : goal.inverted-returns-in-Some-clause-computes
 inverted-returns-in-Some-clause-computes t c =
     on_ok_weaker c.constant_first.result (λ computes.
-    rw c.in-Binary.is (computes_greater c.args.self.now c.args.code.now c.constant_first.new.code c.in-Binary.operator _ c.in-Binary.left.value _ c.in-Binary.right.value c.args.room.registers c.args.room.kept c.in-Greater.is (successor_computes c.args.self.now c.args.code.now c.constant_first.new.code _ c.in-Binary.left.value _ c.in-Binary.right.value c.in-Some.next c.args.room.registers c.args.room.kept
+    rw c.in-Binary.is (computes_greater c.args.self.now c.args.code.now c.constant_first.new.code c.in-Binary.operator _ c.in-Binary.left.value _ c.in-Binary.right.value c.args.room.registers c.args.room.next_temporary c.in-Greater.is (successor_computes c.args.self.now c.args.code.now c.constant_first.new.code _ c.in-Binary.left.value _ c.in-Binary.right.value c.in-Some.next c.args.room.registers c.args.room.next_temporary
     (subst (λ e. IsSuccessor c.args.self.now e c.in-Some.next) c.deref.ensures c.in-Some.ensures)
-    (subst (λ e. IsNoShift Greater → 2 ≤ c.args.room.registers → ComputesTo c.args.self.now c.args.code.now c.constant_first.new.code e (applied_first Greater c.in-Some.next e) c.args.room.registers c.args.room.kept)
+    (subst (λ e. IsNoShift Greater → 2 ≤ c.args.room.registers → ComputesTo c.args.self.now c.args.code.now c.constant_first.new.code e (applied_first Greater c.in-Some.next e) c.args.room.registers c.args.room.next_temporary)
     c.deref-in-Some.ensures computes)))) c.constant_first.ensures.computes
 
 -- src/expressions.rt:189:17
@@ -329,10 +329,10 @@ inverted-returns-in-Some-clause-known t c =
 pub inverted-returns-in-Some-predecessor-clause-computes : goal.inverted-returns-in-Some-predecessor-clause-computes
 inverted-returns-in-Some-predecessor-clause-computes t c =
     on_ok_weaker c.with_constant.result (λ computes.
-    rw c.in-Binary.is (computes_greater c.args.self.now c.args.code.now c.with_constant.new.code c.in-Binary.operator _ c.in-Binary.left.value _ c.in-Binary.right.value c.args.room.registers c.args.room.kept c.in-Greater.is (predecessor_computes c.args.self.now c.args.code.now c.with_constant.new.code _ c.in-Binary.left.value _ c.in-Binary.right.value c.in-Some-predecessor.before c.args.room.registers c.args.room.kept
+    rw c.in-Binary.is (computes_greater c.args.self.now c.args.code.now c.with_constant.new.code c.in-Binary.operator _ c.in-Binary.left.value _ c.in-Binary.right.value c.args.room.registers c.args.room.next_temporary c.in-Greater.is (predecessor_computes c.args.self.now c.args.code.now c.with_constant.new.code _ c.in-Binary.left.value _ c.in-Binary.right.value c.in-Some-predecessor.before c.args.room.registers c.args.room.next_temporary
     (subst (λ e. IsPredecessor c.args.self.now e c.in-Some-predecessor.before) c.deref-in-Greater.ensures c.in-Some-predecessor.ensures)
     (subst (λ e. IsNoShift Greater → (c.args.room.registers ≤ 1 → IsTrue (has_immediate Greater c.in-Some-predecessor.before))
-    → ComputesTo c.args.self.now c.args.code.now c.with_constant.new.code e (applied_last Greater e c.in-Some-predecessor.before) c.args.room.registers c.args.room.kept)
+    → ComputesTo c.args.self.now c.args.code.now c.with_constant.new.code e (applied_last Greater e c.in-Some-predecessor.before) c.args.room.registers c.args.room.next_temporary)
     c.deref-in-Some-predecessor.ensures computes)))) c.with_constant.ensures.computes
 
 -- src/expressions.rt:192:17
@@ -346,16 +346,16 @@ inverted-returns-in-Some-predecessor-clause-known t c =
 -- src/expressions.rt:198:17
 pub inverted-returns-then-is_within-clause-computes : goal.inverted-returns-then-is_within-clause-computes
 inverted-returns-then-is_within-clause-computes t c =
-    rw c.in-Not.is (same_computes c.args.self.now c.args.code.now c.expression.new.code _ c.in-Not.e.value c.in_ok-value.value c.args.room.registers c.args.room.kept
-    (subst (λ e. Computes c.args.self.now c.args.code.now c.expression.new.code e c.args.room.registers c.args.room.kept) c.deref-in-Not.ensures c.in_ok-value.ensures.computes)
+    rw c.in-Not.is (same_computes c.args.self.now c.args.code.now c.expression.new.code _ c.in-Not.e.value c.in_ok-value.value c.args.room.registers c.args.room.next_temporary
+    (subst (λ e. Computes c.args.self.now c.args.code.now c.expression.new.code e c.args.room.registers c.args.room.next_temporary) c.deref-in-Not.ensures c.in_ok-value.ensures.computes)
     (subst (λ e. IsKnown c.args.self.now e c.in_ok-value.value) c.deref-in-Not.ensures c.in_ok-value.ensures.known)
     (λ word holds. c.below.ensures.within (omega arith) (omega arith) word holds.small (c.is_within.ensures.contains c.if-is_within.true word holds.source)))
 
 -- src/expressions.rt:202:13
 pub inverted-returns-in-Not-clause-computes : goal.inverted-returns-in-Not-clause-computes
 inverted-returns-in-Not-clause-computes t c =
-    rw c.in-Not.is (twice_computes c.args.self.now c.args.code.now c.expression.new.code c.instr.new.self c.instr-in-Not.new.self c.args.room.line _ c.in-Not.e.value c.in_ok-value.value c.args.room.registers c.args.room.kept
-    (subst (λ e. Computes c.args.self.now c.args.code.now c.expression.new.code e c.args.room.registers c.args.room.kept) c.deref-in-Not.ensures c.in_ok-value.ensures.computes)
+    rw c.in-Not.is (twice_computes c.args.self.now c.args.code.now c.expression.new.code c.instr.new.self c.instr-in-Not.new.self c.args.room.line _ c.in-Not.e.value c.in_ok-value.value c.args.room.registers c.args.room.next_temporary
+    (subst (λ e. Computes c.args.self.now c.args.code.now c.expression.new.code e c.args.room.registers c.args.room.next_temporary) c.deref-in-Not.ensures c.in_ok-value.ensures.computes)
     (subst (λ e. IsKnown c.args.self.now e c.in_ok-value.value) c.deref-in-Not.ensures c.in_ok-value.ensures.known)
     c.in_ok-instr.ensures c.in_ok-instr-2.ensures)
 
@@ -364,7 +364,7 @@ pub inverted-returns : goal.inverted-returns
 inverted-returns t c =
     record {
       knowledge = c.in_ok-expression.ensures.knowledge;
-      computes = inverse_computes c.args.self.now c.args.code.now c.expression-2.new.code c.instr-2.new.self c.args.room.line c.args.e.now c.in_ok-expression.field-0 c.args.room.registers c.args.room.kept
+      computes = inverse_computes c.args.self.now c.args.code.now c.expression-2.new.code c.instr-2.new.self c.args.room.line c.args.e.now c.in_ok-expression.field-0 c.args.room.registers c.args.room.next_temporary
           c.in_ok-expression.ensures.computes c.in_ok-expression.ensures.known c.in_ok-instr-3.ensures;
       known = inverse_known c.args.self.now c.args.e.now c.truth-2.result c.truth-2.ensures;
     }
@@ -374,8 +374,8 @@ pub operands-returns-then-need-room-clause-computes :
     goal.operands-returns-then-need-room-clause-computes
 operands-returns-then-need-room-clause-computes t c =
     in_order_computes c.args.self.now c.expression.new.self c.args.code.now c.expression.new.code c.expression-then-need-room.new.code c.args.left.now c.args.right.now
-    (value_of c.args.left.now) (value_of c.args.right.now) c.args.commute c.args.room.registers c.args.room.kept c.in_ok-b.ensures.knowledge c.in_ok-b.ensures.computes
-    (subst (λ r. Computes c.expression.new.self c.expression.new.code c.expression-then-need-room.new.code c.args.right.now r.registers r.kept)
+    (value_of c.args.left.now) (value_of c.args.right.now) c.args.commute c.args.room.registers c.args.room.next_temporary c.in_ok-b.ensures.knowledge c.in_ok-b.ensures.computes
+    (subst (λ r. Computes c.expression.new.self c.expression.new.code c.expression-then-need-room.new.code c.args.right.now r.registers r.next_temporary)
     c.above.ensures c.in_ok-a.ensures.computes)
     (suffices_above c.args.self.now c.args.room.registers c.need.result c.args.right.now c.need.ensures.least c.need.ensures.simple c.if-need-room.true)
 
@@ -385,8 +385,8 @@ pub operands-returns-in_ok-instr-clause-computes :
 operands-returns-in_ok-instr-clause-computes t c =
     reversed_computes c.args.self.now c.expression-then-need-room-2.new.self c.args.code.now c.expression-then-need-room-2.new.code c.expression-then-need-room-2-2.new.code c.instr.new.self
     c.args.room.line c.args.left.now c.args.right.now
-    (value_of c.args.left.now) (value_of c.args.right.now) c.args.commute c.args.room.registers c.args.room.kept c.in_ok-a-2.ensures.knowledge c.in_ok-a-2.ensures.computes
-    (subst (λ r. Computes c.expression-then-need-room-2.new.self c.expression-then-need-room-2.new.code c.expression-then-need-room-2-2.new.code c.args.left.now r.registers r.kept)
+    (value_of c.args.left.now) (value_of c.args.right.now) c.args.commute c.args.room.registers c.args.room.next_temporary c.in_ok-a-2.ensures.knowledge c.in_ok-a-2.ensures.computes
+    (subst (λ r. Computes c.expression-then-need-room-2.new.self c.expression-then-need-room-2.new.code c.expression-then-need-room-2-2.new.code c.args.left.now r.registers r.next_temporary)
     c.above-then-need-room-2.ensures c.in_ok-b-2.ensures.computes)
     (suffices_above c.args.self.now c.args.room.registers c.need-2.result c.args.left.now c.need-2.ensures.least c.need-2.ensures.simple c.if-need-room-2.true)
     c.in_ok-instr.ensures
@@ -397,9 +397,9 @@ pub operands-returns-else-not-commute-clause-computes :
 operands-returns-else-not-commute-clause-computes t c =
     changed_computes c.args.self.now c.expression-then-need-room-2.new.self c.args.code.now c.expression-then-need-room-2.new.code c.expression-then-need-room-2-2.new.code
     c.args.left.now c.args.right.now
-    (value_of c.args.left.now) (value_of c.args.right.now) c.args.commute c.args.room.registers c.args.room.kept c.in_ok-a-2.ensures.knowledge c.if-not-commute.false
+    (value_of c.args.left.now) (value_of c.args.right.now) c.args.commute c.args.room.registers c.args.room.next_temporary c.in_ok-a-2.ensures.knowledge c.if-not-commute.false
     c.in_ok-a-2.ensures.computes
-    (subst (λ r. Computes c.expression-then-need-room-2.new.self c.expression-then-need-room-2.new.code c.expression-then-need-room-2-2.new.code c.args.left.now r.registers r.kept)
+    (subst (λ r. Computes c.expression-then-need-room-2.new.self c.expression-then-need-room-2.new.code c.expression-then-need-room-2-2.new.code c.args.left.now r.registers r.next_temporary)
     c.above-then-need-room-2.ensures c.in_ok-b-2.ensures.computes)
     (suffices_above c.args.self.now c.args.room.registers c.need-2.result c.args.left.now c.need-2.ensures.least c.need-2.ensures.simple c.if-need-room-2.true)
 
@@ -407,10 +407,10 @@ operands-returns-else-not-commute-clause-computes t c =
 pub operands-returns-clause-computes : goal.operands-returns-clause-computes
 operands-returns-clause-computes t c =
     kept_computes c.args.self.now c.expression-2.new.self c.args.code.now c.expression-2.new.code c.emit.new.self c.expression-3.new.code c.emit-2.new.self c.args.room.line
-    c.args.left.now c.args.right.now (value_of c.args.left.now) (value_of c.args.right.now) c.args.commute c.args.room.registers c.args.room.kept c.in_ok-a-3.ensures.knowledge
+    c.args.left.now c.args.right.now (value_of c.args.left.now) (value_of c.args.right.now) c.args.commute c.args.room.registers c.args.room.next_temporary c.in_ok-a-3.ensures.knowledge
     c.in_ok-a-3.ensures.computes (λ storages scope unset s place stands knows. (c.in_ok-a-3.ensures.known storages scope unset s place stands knows).small)
     (c.in_ok-emit.ensures ∙ ap (λ i. followed_by c.expression-2.new.code (line_of c.args.room.line (StoreTo i 0) ∷ [])) c.word.ensures)
-    (subst (λ r. Computes c.expression-2.new.self c.emit.new.self c.expression-3.new.code c.args.left.now r.registers r.kept) c.in_ok-beside.ensures c.in_ok-b-3.ensures.computes)
+    (subst (λ r. Computes c.expression-2.new.self c.emit.new.self c.expression-3.new.code c.args.left.now r.registers r.next_temporary) c.in_ok-beside.ensures c.in_ok-b-3.ensures.computes)
     (c.in_ok-emit-2.ensures ∙ ap (λ i. followed_by c.expression-3.new.code (line_of c.args.room.line (Load i 0) ∷ [])) c.word-2.ensures)
 
 -- src/operands.rt:126:5
@@ -424,7 +424,7 @@ operands-returns-clause-right t c =
 pub shifted-returns-then-need_of_count-room-clause-computes : goal.shifted-returns-then-need_of_count-room-clause-computes
 shifted-returns-then-need_of_count-room-clause-computes t c =
     in_order_computes c.args.self.now c.expression.new.self c.args.code.now c.expression.new.code c.subscript.new.code c.args.left.now c.args.count.now
-    (value_of c.args.left.now) (subscript_value c.args.count.now 32) false c.args.room.registers c.args.room.kept c.in_ok-b.ensures.knowledge c.in_ok-b.ensures.computes
+    (value_of c.args.left.now) (subscript_value c.args.count.now 32) false c.args.room.registers c.args.room.next_temporary c.in_ok-b.ensures.knowledge c.in_ok-b.ensures.computes
     (count_above c.args.self.now c.expression.new.self c.expression.new.code c.subscript.new.code c.args.count.now c.args.room c.above.result c.need_of_count.result
     c.in_ok-b.ensures.knowledge c.above.ensures c.need_of_count.ensures.least c.need_of_count.ensures.constant c.if-need_of_count-room.true c.in_ok-a.ensures.computes)
     (suffices_count c.args.self.now c.args.room.registers c.need_of_count.result c.args.count.now c.need_of_count.ensures.least c.need_of_count.ensures.constant c.if-need_of_count-room.true)
@@ -435,9 +435,9 @@ shifted-returns-then-need-room-clause-computes t c =
     λ storages scope unset s place one two least most knows.
     reversed_computes c.args.self.now c.subscript-then-need-room.new.self c.args.code.now c.subscript-then-need-room.new.code c.expression-then-need-room.new.code c.instr.new.self
     c.args.room.line c.args.left.now c.args.count.now
-    (value_of c.args.left.now) (subscript_value c.args.count.now 32) false c.args.room.registers c.args.room.kept c.in_ok-a-2.ensures.knowledge
+    (value_of c.args.left.now) (subscript_value c.args.count.now 32) false c.args.room.registers c.args.room.next_temporary c.in_ok-a-2.ensures.knowledge
     (c.in_ok-a-2.ensures.computes (omega arith) (omega arith) (λ few. absurd (omega (arith, least, few))))
-    (subst (λ r. Computes c.subscript-then-need-room.new.self c.subscript-then-need-room.new.code c.expression-then-need-room.new.code c.args.left.now r.registers r.kept)
+    (subst (λ r. Computes c.subscript-then-need-room.new.self c.subscript-then-need-room.new.code c.expression-then-need-room.new.code c.args.left.now r.registers r.next_temporary)
     c.above-then-need-room.ensures c.in_ok-b-2.ensures.computes)
     (suffices_above c.args.self.now c.args.room.registers c.need.result c.args.left.now c.need.ensures.least c.need.ensures.simple c.if-need-room.true)
     c.in_ok-instr.ensures storages scope unset s place one two least most knows
@@ -447,7 +447,7 @@ pub shifted-returns-clause-computes : goal.shifted-returns-clause-computes
 shifted-returns-clause-computes t c =
     λ storages scope unset s place one two least most knows.
     kept_reversed_computes c.args.self.now c.expression-2.new.self c.args.code.now c.expression-2.new.code c.emit.new.self c.subscript-2.new.code c.emit-2.new.self c.instr-2.new.self c.args.room.line
-    c.args.left.now c.args.count.now (value_of c.args.left.now) (subscript_value c.args.count.now 32) false c.args.room.registers c.args.room.kept c.in_ok-b-3.ensures.knowledge
+    c.args.left.now c.args.count.now (value_of c.args.left.now) (subscript_value c.args.count.now 32) false c.args.room.registers c.args.room.next_temporary c.in_ok-b-3.ensures.knowledge
     c.in_ok-b-3.ensures.computes (λ storages scope unset s place stands knows. (c.in_ok-b-3.ensures.known storages scope unset s place stands knows).small)
     (c.in_ok-emit.ensures ∙ ap (λ i. followed_by c.expression-2.new.code (line_of c.args.room.line (StoreTo i 0) ∷ [])) c.word.ensures)
     (count_beside c.expression-2.new.self c.emit.new.self c.subscript-2.new.code c.args.count.now c.args.room c.in_ok-beside.field-0
@@ -466,7 +466,7 @@ shifted-returns-clause-left t c =
 pub subscript-returns-in-Some-clause-computes : goal.subscript-returns-in-Some-clause-computes
 subscript-returns-in-Some-clause-computes t c =
     on_ok_weaker c.number.result (λ makes positive small enough.
-    constant_subscript_computes c.args.self.now c.args.code.now c.number.new.code c.args.e.now c.args.size c.in-Some.c c.args.room.registers c.args.room.kept c.in-Some.ensures.some makes) c.number.ensures.makes
+    constant_subscript_computes c.args.self.now c.args.code.now c.number.new.code c.args.e.now c.args.size c.in-Some.c c.args.room.registers c.args.room.next_temporary c.in-Some.ensures.some makes) c.number.ensures.makes
 
 -- src/subscripts.rt:333:13
 pub subscript-returns-in-Some-clause-known : goal.subscript-returns-in-Some-clause-known
@@ -478,8 +478,8 @@ subscript-returns-in-Some-clause-known t c =
 pub reduced-returns-in-Some-clause-computes : goal.reduced-returns-in-Some-clause-computes
 reduced-returns-in-Some-clause-computes t c =
     on_ok_weaker c.settled.result (λ makes positive small two.
-    settled_computes c.args.self.now c.args.code.now c.push_byte.new.code c.settled.new.code c.args.e.now c.in_ok-value.value c.args.size c.args.room.registers c.args.room.kept
-    (byte_computes c.args.self.now c.args.code.now c.push_byte.new.code c.args.e.now c.in-Some.x c.args.room.registers c.args.room.kept c.in-Some.ensures c.in_ok-value.ensures.makes)
+    settled_computes c.args.self.now c.args.code.now c.push_byte.new.code c.settled.new.code c.args.e.now c.in_ok-value.value c.args.size c.args.room.registers c.args.room.next_temporary
+    (byte_computes c.args.self.now c.args.code.now c.push_byte.new.code c.args.e.now c.in-Some.x c.args.room.registers c.args.room.next_temporary c.in-Some.ensures c.in_ok-value.ensures.makes)
     (byte_known c.args.self.now c.args.e.now c.in-Some.x c.in_ok-value.value c.in-Some.ensures c.in_ok-value.ensures.holds)
     makes positive small two) c.settled.ensures.makes
 
@@ -495,7 +495,7 @@ reduced-returns-in-Some-clause-known t c =
 pub reduced-returns-clause-computes : goal.reduced-returns-clause-computes
 reduced-returns-clause-computes t c =
     on_ok_weaker c.settled-2.result (λ makes positive small two.
-    settled_computes c.args.self.now c.args.code.now c.expression.new.code c.settled-2.new.code c.args.e.now c.in_ok-value-2.value c.args.size c.args.room.registers c.args.room.kept
+    settled_computes c.args.self.now c.args.code.now c.expression.new.code c.settled-2.new.code c.args.e.now c.in_ok-value-2.value c.args.size c.args.room.registers c.args.room.next_temporary
     c.in_ok-value-2.ensures.computes c.in_ok-value-2.ensures.known makes positive small two) c.settled-2.ensures.makes
 
 -- src/subscripts.rt:318:5
@@ -508,7 +508,7 @@ reduced-returns-clause-known t c =
 pub with_constant-returns-clause-computes : goal.with_constant-returns-clause-computes
 with_constant-returns-clause-computes t c =
     on_ok_weaker c.apply_constant.result (λ both unshifted enough.
-    last_computes c.args.self.now c.args.code.now c.expression.new.code c.apply_constant.new.code c.args.operator c.args.left.now c.in_ok-b.b c.args.c c.args.room.registers c.args.room.kept
+    last_computes c.args.self.now c.args.code.now c.expression.new.code c.apply_constant.new.code c.args.operator c.args.left.now c.in_ok-b.b c.args.c c.args.room.registers c.args.room.next_temporary
     c.in_ok-b.ensures.computes c.in_ok-b.ensures.known both.0 both.1 unshifted enough)
     (on_ok_both _ _ c.apply_constant.result c.apply_constant.ensures.makes c.apply_constant.ensures.immediate)
 

@@ -1,0 +1,193 @@
+//! Remedies of faults, by what stands at their places: what other languages write, and what occam writes for it.
+
+use tpw_occam_faults::FaultKind;
+use tpw_occam_terms::{FaultKind as SyntaxFault, Span, Wanted};
+
+/// Characters that begin nothing, and what is written for them.
+static CHARACTERS: [(&str, &str); 19] = [
+    ("&", "occam writes /\\ for bits, and AND for BOOLs"),
+    ("|", "occam writes \\/ for bits, and OR for BOOLs"),
+    ("^", "occam writes >< for exclusive or"),
+    ("%", "occam writes \\ or REM for the remainder"),
+    (";", "the end of a line ends what stands on it"),
+    (
+        "{",
+        "what belongs to a line stands below it, indented by two spaces more",
+    ),
+    (
+        "}",
+        "what belongs to a line stands below it, indented by two spaces more",
+    ),
+    (
+        "\u{2212}",
+        "this is U+2212, which looks like a minus: write -",
+    ),
+    (
+        "\u{2013}",
+        "this is U+2013, which looks like a minus: write -",
+    ),
+    (
+        "\u{2014}",
+        "this is U+2014, which looks like a minus: write -",
+    ),
+    ("\u{D7}", "this is U+00D7: write *"),
+    ("\u{F7}", "this is U+00F7: write /"),
+    (
+        "\u{A0}",
+        "this is U+00A0, which looks like a space: write a space",
+    ),
+    (
+        "\u{2018}",
+        "this is U+2018, which looks like a quote: write '",
+    ),
+    (
+        "\u{2019}",
+        "this is U+2019, which looks like a quote: write '",
+    ),
+    (
+        "\u{201C}",
+        "this is U+201C, which looks like a quote: write \"",
+    ),
+    (
+        "\u{201D}",
+        "this is U+201D, which looks like a quote: write \"",
+    ),
+    ("\u{2264}", "this is U+2264: write <="),
+    ("\u{2265}", "this is U+2265: write >="),
+];
+
+/// Directives of occam.
+static DIRECTIVES: [&str; 5] = ["#INCLUDE", "#USE", "#IMPORT", "#OPTION", "#PRAGMA"];
+
+/// The remedy for another name for a variable.
+const NO_ABBREVIATION: &str = "VAL n IS e names a value; a variable has no second name";
+
+/// The remedy for an IF with a replicator.
+const NO_REPLICATED_IF: &str =
+    "there is no IF i = s FOR n: use SEQ i = s FOR n, and an IF within it";
+
+/// The text around a place: the line, and its parts before and behind the place.
+#[derive(Clone, Copy)]
+struct Around<'a> {
+    line: &'a str,
+    before: &'a str,
+    behind: &'a str,
+}
+
+/// The text around a span.
+fn around(text: &str, span: Span) -> Around<'_> {
+    let line = text.lines().nth(span.line.saturating_sub(1)).unwrap_or("");
+    let column = span.column.saturating_sub(1);
+    Around {
+        line: line.trim_ascii(),
+        before: line.get(..column).unwrap_or(""),
+        behind: line.get(column..).unwrap_or(""),
+    }
+}
+
+/// Whether a line is a name alone.
+fn is_name(line: &str) -> bool {
+    let begins = match line.bytes().next() {
+        Some(byte) => byte.is_ascii_alphabetic(),
+        None => false,
+    };
+    begins
+        && line
+            .bytes()
+            .all(|byte| byte.is_ascii_alphanumeric() || byte == b'.')
+}
+
+/// The remedy for a character that begins nothing.
+fn for_character(behind: &str) -> Option<&'static str> {
+    for (character, remedy) in &CHARACTERS {
+        if behind.starts_with(*character) {
+            return Some(*remedy);
+        }
+    }
+    None
+}
+
+/// The remedy for a directive.
+fn for_directive(behind: &str) -> Option<&'static str> {
+    if DIRECTIVES.iter().any(|one| behind.starts_with(*one)) {
+        Some("there are no directives: a text is one file")
+    } else {
+        None
+    }
+}
+
+/// The remedy where an operator is wanted.
+fn for_operator(at: Around<'_>) -> Option<&'static str> {
+    if at.behind.starts_with("!=") {
+        Some("occam writes <> for unequal")
+    } else if at.behind.starts_with(":=") {
+        Some("a guard is a BOOL, and what is done stands below it")
+    } else if at.behind.starts_with(":") {
+        Some("a colon ends a declaration, and no process")
+    } else if at.behind.starts_with("IS ") {
+        Some(NO_ABBREVIATION)
+    } else if at.behind.starts_with("[") {
+        Some("an array has one size and one subscript, as (n * i) + j")
+    } else if at.behind.starts_with("x") && at.before.ends_with("0") {
+        Some("occam writes #1F for 0x1F")
+    } else {
+        None
+    }
+}
+
+/// The remedy where an operand is wanted.
+fn for_operand(at: Around<'_>) -> Option<&'static str> {
+    if at.behind.starts_with("=") && at.before.ends_with("=") {
+        Some("occam writes = for equal")
+    } else if at.behind.starts_with("=") {
+        Some("there is no += or the like: write x := x + e")
+    } else if at.behind.starts_with("/") && at.before.ends_with("/") {
+        Some("a comment begins with --")
+    } else if at.behind.starts_with("IF ") {
+        Some(NO_REPLICATED_IF)
+    } else {
+        None
+    }
+}
+
+/// The remedy where no more is wanted on a line.
+fn for_nothing(at: Around<'_>) -> Option<&'static str> {
+    if at.behind.starts_with("IS ") {
+        Some(NO_ABBREVIATION)
+    } else if at.line.starts_with("IF ") {
+        Some(NO_REPLICATED_IF)
+    } else {
+        None
+    }
+}
+
+/// The remedy for a fault of how a text is written.
+fn for_syntax(kind: SyntaxFault, at: Around<'_>) -> Option<&'static str> {
+    match kind {
+        SyntaxFault::NoToken => for_character(at.behind),
+        SyntaxFault::BadHexadecimal => for_directive(at.behind),
+        SyntaxFault::BigNumber if at.behind.starts_with("2147483648") && at.before.ends_with("-") =>
+            { Some("the least INT is MOSTNEG INT") }
+        SyntaxFault::Wanted(Wanted::Operator) => for_operator(at),
+        SyntaxFault::Wanted(Wanted::Operand) => for_operand(at),
+        SyntaxFault::Wanted(Wanted::Nothing) => for_nothing(at),
+        SyntaxFault::Wanted(Wanted::Process) if is_name(at.line) => {
+            Some("a call has brackets, as in p ()")
+        }
+        _ => None,
+    }
+}
+
+/// The remedy of a fault at a place of a text, where one is known.
+pub(crate) fn remedy_of(text: &str, kind: FaultKind<'_>, span: Span) -> Option<&'static str> {
+    let at = around(text, span);
+    match kind {
+        FaultKind::Syntax(kind) => for_syntax(kind, at),
+        FaultKind::NotConstant if at.line.starts_with("SEQ ") => {
+            Some(
+                "a loop has a constant number of turns, the most that are needed, with an IF within it",
+            )
+        }
+        _ => None,
+    }
+}
