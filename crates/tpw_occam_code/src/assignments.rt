@@ -239,26 +239,20 @@ fn store(
     ensures knowledge { OnOk result (emitter.new ≡ emitter.old) }
     ensures stores { OnOk result (room.registers ≡ 3 → StoresIn emitter.old code.old code.new target.now room.next_temporary) }
 {
-    let line = room.line;
-    match target {
-        Target::Variable(x) => store_variable(code, line, *x),
-        Target::Element {
-            array,
-            kind,
-            subscript,
-        } => {
-            if let Some(word) = fixed_word(emitter, *array, *kind, subscript) {
-                return store_word(code, line, *array, word);
-            }
-            if let Some(offset) = emitter.offset_subscript(*array, *kind, subscript) {
-                return store_offset(code, line, *array, offset);
-            }
-            store_element(emitter, code, *array, *kind, subscript, room)
+    if let Target::Element {
+        array,
+        kind,
+        subscript,
+    } = target
+    {
+        if fixed_word(emitter, *array, *kind, subscript).is_none() {
+            return store_element(emitter, code, *array, *kind, subscript, room);
         }
     }
+    store_in_word(emitter, code, target, room)
 }
 
-/// Stores Areg in an element.
+/// Stores Areg in an element whose place is computed.
 fn store_element(
     emitter: &mut Emitter<'_>,
     code: &mut Code,
@@ -271,6 +265,9 @@ fn store_element(
     ensures stores { OnOk result (room.registers ≡ 3
         → StoresIn emitter.old code.old code.new (target.Element array kind subscript.now) room.next_temporary) }
 {
+    if let Some(offset) = emitter.offset_subscript(array, kind, subscript) {
+        return store_offset(code, room.line, array, offset);
+    }
     let size = emitter.elements(array, kind);
     subscript_over(emitter, code, subscript, size, room)?;
     indexed(code, room.line, array, kind)?;
@@ -383,20 +380,23 @@ fn assign_by_registers(
     };
     emitter.expression(code, &one.value, room)?;
     assign_by_registers(emitter, code, rest, room.above())?;
-    store_in_word(emitter, code, &one.target, room.line)
+    store_in_word(emitter, code, &one.target, room)
 }
 
-/// Stores Areg in a target that is a word.
+/// Stores Areg in a target whose place is fixed: a variable, or a word of an array.
 fn store_in_word(
     emitter: &mut Emitter<'_>,
     code: &mut Code,
     target: &Target,
-    line: u32,
+    room: Allocation,
 ) -> Result<(), CodeFault>
     ensures knowledge { OnOk result (emitter.new ≡ emitter.old) }
     ensures stores { OnOk result (IsWordTarget emitter.old target.now
         → StoresWord emitter.old code.old code.new target.now) }
+    ensures alone { OnOk result (room.registers ≡ 3
+        → StoresIn emitter.old code.old code.new target.now room.next_temporary) }
 {
+    let line = room.line;
     match target {
         Target::Variable(x) => store_variable(code, line, *x),
         Target::Element {
@@ -407,7 +407,7 @@ fn store_in_word(
             if let Some(word) = fixed_word(emitter, *array, *kind, subscript) {
                 return store_word(code, line, *array, word);
             }
-            // the target is no such word
+            // the place is not fixed
             Err(CodeFault::Code { line })
         }
     }
