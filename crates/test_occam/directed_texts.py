@@ -201,6 +201,10 @@ def spellings():
                declared=[f'VAL []BYTE t IS "{spelled}":'])
     for name, spelled in (('capital N', "'*N'"), ('capital C', "'*C'"), ('a DEL as a character', "'\x7f'")):
         worker(name, [f'r := (INT {spelled}) PLUS p[0]'], [packet(a, 0) for a in ENDS])
+    text('INT by its other name', [
+        'PROC worker (CHAN OF [2]INT32 packet, CHAN OF INT result)', '  PROC add (VAL []INT32 a, INT sum)', '    INT32 x:', '    SEQ',
+        '      x := a[0] PLUS (INT32 (BYTE (a[1] /\\ 255)))', '      sum := x PLUS (MOSTNEG INT32)', '  :', '  [2]INT p:', '  INT32 r:', '  SEQ',
+        '    packet ? p', '    add (p, r)', '    result ! r', ':'], pairs()[::7])
     for number in (123456789, 999999999, 1000000000, 2147483647):
         worker(f'the number {number}', [f'r := p[0] >< {number}'], [packet(a, 0) for a in ENDS])
 

@@ -1,7 +1,7 @@
 #!/usr/bin/env python3
 """Random workers in occam: texts of every construct, which keep the rules of types and scopes.
 
-    random_texts.py FIRST COUNT     writes the workers of so many seeds, with four packets each
+    random_texts.py FIRST COUNT     writes the workers of COUNT seeds from FIRST on, with four packets each
 """
 
 import random
@@ -37,6 +37,8 @@ class Entry:
 class Maker:
     def __init__(self, seed):
         self.random = random.Random(seed)
+        # Whether INT has its other name.
+        self.is_long = seed % 8 == 5
         self.scope = {}
         self.out = []
         self.indent = 0
@@ -601,7 +603,8 @@ class Maker:
         self.gives(result_of, result_size)
         self.indent -= 2
         self.line(':')
-        return '\n'.join(self.out) + '\n'
+        text = '\n'.join(self.out) + '\n'
+        return re.sub(r'\bINT\b', 'INT32', text) if self.is_long else text
 
     def takes(self, packet_size):
         """Receives the packet, now and then in an element; the traces of some are too many."""
