@@ -37,8 +37,9 @@ class Entry:
 class Maker:
     def __init__(self, seed):
         self.random = random.Random(seed)
-        # Whether INT has its other name.
+        # Whether INT has its other name, and whether BOOLs have a CASE.
         self.is_long = seed % 8 == 5
+        self.has_truth_cases = seed % 4 == 2
         self.scope = {}
         self.out = []
         self.indent = 0
@@ -533,7 +534,18 @@ class Maker:
         self.block(depth - 1)
         self.indent -= 1
 
+    def truth_case(self, depth):
+        self.line(f'CASE {self.whole(BOOL, 2)}')
+        self.indent += 1
+        choices = ['TRUE', 'FALSE'] if self.chance(0.5) else ['FALSE', 'ELSE'] if self.chance(0.5) else ['FALSE, TRUE']
+        for choice in choices:
+            self.guarded(choice, depth)
+        self.indent -= 1
+
     def case(self, depth):
+        if self.has_truth_cases and self.chance(0.3):
+            self.truth_case(depth)
+            return
         of = self.of(INT, INT, BYTE)
         self.line(f'CASE {self.whole(of, 2)}')
         if self.chance(0.03):
