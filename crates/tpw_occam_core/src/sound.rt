@@ -28,10 +28,7 @@ fn are_turns(start: u32, count: u32) -> bool
 }
 
 /// Whether an expression is sound.
-fn is_sound_expression(
-    env: &mut Environment<'_>,
-    e: &Expression,
-) -> Result<bool, AllocError>
+fn is_sound_expression(env: &mut Environment<'_>, e: &Expression) -> Result<bool, AllocError>
     ensures sound { IfOk result (λ sound. sound ≡ is_sound_expression env.old.count env.old.storages env.old.scope e.now) }
     ensures same { OnOk result (env.new ≡ env.old) }
 {
@@ -46,42 +43,30 @@ fn is_sound_expression(
             array,
             kind,
             subscript,
-        } => Ok(
-            env.is_seen(*array, *kind)
-                && is_sound_expression(env, subscript)?,
-        ),
+        } => Ok(env.is_seen(*array, *kind) && is_sound_expression(env, subscript)?),
         Expression::Checked { below, subscript } => Ok(
-            *below > 0
-                && *below <= 0x8000_0000
-                && is_sound_expression(env, subscript)?,
+            *below > 0 && *below <= 0x8000_0000 && is_sound_expression(env, subscript)?,
         ),
         Expression::Binary {
             operator: _,
             left,
             right,
-        } => Ok(
-            is_sound_expression(env, left)?
-                && is_sound_expression(env, right)?,
-        ),
+        } => Ok(is_sound_expression(env, left)? && is_sound_expression(env, right)?),
         Expression::Complement(e) => is_sound_expression(env, e),
         Expression::Not(e) => is_sound_expression(env, e),
         Expression::LowByte(e) => is_sound_expression(env, e),
         Expression::And(left, right) => Ok(
-            is_sound_expression(env, left)?
-                && is_sound_expression(env, right)?,
+            is_sound_expression(env, left)? && is_sound_expression(env, right)?,
         ),
         Expression::Or(left, right) => Ok(
-            is_sound_expression(env, left)?
-                && is_sound_expression(env, right)?,
+            is_sound_expression(env, left)? && is_sound_expression(env, right)?,
         ),
         Expression::Let {
             name,
             value,
             within,
         } => {
-            if !is_sound_expression(env, value)?
-                || !env.is_new_name(*name)
-            {
+            if !is_sound_expression(env, value)? || !env.is_new_name(*name) {
                 return Ok(false);
             }
             env.scope.push(Entry::Value(*name))?;
@@ -92,10 +77,7 @@ fn is_sound_expression(
     }
 }
 
-fn is_sound_target(
-    env: &mut Environment<'_>,
-    target: &Target,
-) -> Result<bool, AllocError>
+fn is_sound_target(env: &mut Environment<'_>, target: &Target) -> Result<bool, AllocError>
     ensures sound { IfOk result (λ sound. sound ≡ is_sound_target env.old.count env.old.storages env.old.scope target.now) }
     ensures same { OnOk result (env.new ≡ env.old) }
 {
@@ -113,23 +95,14 @@ fn is_sound_target(
     }
 }
 
-fn is_sound_assignment(
-    env: &mut Environment<'_>,
-    a: &Assignment,
-) -> Result<bool, AllocError>
+fn is_sound_assignment(env: &mut Environment<'_>, a: &Assignment) -> Result<bool, AllocError>
     ensures sound { IfOk result (λ sound. sound ≡ is_sound_assignment env.old.count env.old.storages env.old.scope a.now) }
     ensures same { OnOk result (env.new ≡ env.old) }
 {
-    Ok(
-        is_sound_target(env, &a.target)?
-            && is_sound_expression(env, &a.value)?,
-    )
+    Ok(is_sound_target(env, &a.target)? && is_sound_expression(env, &a.value)?)
 }
 
-fn are_sound_assignments(
-    env: &mut Environment<'_>,
-    list: &[Assignment],
-) -> Result<bool, AllocError>
+fn are_sound_assignments(env: &mut Environment<'_>, list: &[Assignment]) -> Result<bool, AllocError>
     ensures sound { IfOk result (λ sound. sound ≡ list_all (is_sound_assignment env.old.count env.old.storages env.old.scope)
         list.now) }
     ensures same { OnOk result (env.new ≡ env.old) }
@@ -137,16 +110,12 @@ fn are_sound_assignments(
     match list {
         [] => Ok(true),
         [first, more @ ..] => Ok(
-            is_sound_assignment(env, first)?
-                && are_sound_assignments(env, more)?,
+            is_sound_assignment(env, first)? && are_sound_assignments(env, more)?,
         ),
     }
 }
 
-fn is_sound_message(
-    env: &mut Environment<'_>,
-    m: &Message,
-) -> Result<bool, AllocError>
+fn is_sound_message(env: &mut Environment<'_>, m: &Message) -> Result<bool, AllocError>
     ensures sound { IfOk result (λ sound. sound ≡ is_sound_message env.old.count env.old.storages env.old.scope m.now) }
     ensures same { OnOk result (env.new ≡ env.old) }
 {
@@ -175,10 +144,7 @@ fn is_sound_within(
 
 /// Whether a process is sound.
 #[cycle(sound)]
-fn is_sound_process(
-    env: &mut Environment<'_>,
-    p: &Process,
-) -> Result<bool, AllocError>
+fn is_sound_process(env: &mut Environment<'_>, p: &Process) -> Result<bool, AllocError>
     ensures sound { IfOk result (λ sound. sound ≡ is_sound_process env.old.count env.old.storages env.old.scope p.now) }
     ensures same { OnOk result (env.new ≡ env.old) }
 {
@@ -192,8 +158,7 @@ fn is_sound_process(
                 && env.bytes_of(*to) == env.bytes_of(*from),
         ),
         Process::Sequence(first, second) => Ok(
-            is_sound_process(env, first)?
-                && is_sound_process(env, second)?,
+            is_sound_process(env, first)? && is_sound_process(env, second)?,
         ),
         Process::Repeat {
             index,
@@ -215,8 +180,7 @@ fn is_sound_process(
                 && is_sound_process(env, rest)?,
         ),
         Process::Variable { name, body } => Ok(
-            env.is_new_name(*name)
-                && is_sound_within(env, Entry::Variable(*name), body)?,
+            env.is_new_name(*name) && is_sound_within(env, Entry::Variable(*name), body)?,
         ),
         Process::Value { name, value, body } => {
             Ok(
@@ -226,8 +190,7 @@ fn is_sound_process(
             )
         }
         Process::Array { name, body } => Ok(
-            env.is_new_array(*name)
-                && is_sound_within(env, Entry::Array(*name), body)?,
+            env.is_new_array(*name) && is_sound_within(env, Entry::Array(*name), body)?,
         ),
         Process::Trace(m) => is_sound_message(env, m),
         Process::At { line: _, body } => is_sound_process(env, body),
@@ -300,8 +263,10 @@ pub fn is_sound(alloc: Global, worker: &Worker) -> Result<bool, AllocError>
     ensures { IfOk result (λ sound. sound ≡ is_sound worker.now) }
 {
     let mut env = Environment::of(alloc, worker)?;
-    Ok(are_declared(worker)
-        && is_sound_place(worker, &env)
-        && is_sound_process(&mut env, &worker.body)?
-        && is_sound_message(&mut env, &worker.send)?)
+    Ok(
+        are_declared(worker)
+            && is_sound_place(worker, &env)
+            && is_sound_process(&mut env, &worker.body)?
+            && is_sound_message(&mut env, &worker.send)?,
+    )
 }
