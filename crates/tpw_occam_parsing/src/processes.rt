@@ -6,10 +6,11 @@ use crate::draft::{
 };
 use crate::faults::Faults;
 use crate::heads::{Below, Entry, Head, constants, guard, head_of, wrong_head};
-use crate::parts::Part;
+use crate::parts::{Part, keyword_of};
 use crate::rows::{Row, first_of, is_end, last_of, parts_of_row};
 use crate::stop::Stop;
 use std::alloc::AllocError;
+use tpw_occam_lexing::Keyword;
 use tpw_occam_terms::{Fault, FaultKind, Span, Wanted};
 
 /// More than the levels of lines.
@@ -288,11 +289,21 @@ impl<'a> Parser<'_, 'a> {
         self.one(row, below, depth)
     }
 
-    /// A guard with its process.
+    /// Whether a line begins with `IF`.
+    fn begins_with_if(&self, row: Row) -> bool {
+        keyword_of(parts_of_row(self.parts, row)) == Some(Keyword::If)
+    }
+
+    /// A guard with its process. Below an IF in its place, which occam has, stand guards.
     #[cycle(processes)]
     fn choice(&mut self, row: Row, below: &[Row], depth: usize) -> Result<ChoiceNode, AllocError> {
         let guard = self.guard(row)?;
-        let process = self.chosen(row, below, guard.is_none(), depth)?;
+        let process = if guard.is_none() && depth > 0 && self.begins_with_if(row) {
+            self.choices(below, depth - 1)?;
+            self.draft.put_process(ProcessNode::Wrong)?
+        } else {
+            self.chosen(row, below, guard.is_none(), depth)?
+        };
         let guard = match guard {
             Some(guard) => guard,
             None => self.wrong(row.span)?,
