@@ -47,6 +47,11 @@ impl Branches {
         self.closing.is_some()
     }
 
+    /// Whether there is one that may be done.
+    pub(crate) fn is_some(&self) -> bool {
+        self.least.is_some()
+    }
+
     /// Ends a branch that may be done.
     pub(crate) fn end_branch(&mut self, checker: &mut Checker<'_, '_>) {
         let traced = checker.traced;

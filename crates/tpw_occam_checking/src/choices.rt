@@ -99,7 +99,7 @@ fn case_constant<'t, 'a>(
     let word = checker.constant(frame, e, of)?;
     let span = span_of(e);
     if seen.len() >= MAX_GUARDS {
-        return Err(checker.fault(span, FaultKind::Limit(Limit::Guards)));
+        return Err(checker.limit(frame, span, Limit::Guards));
     }
     if let Some(first) = seen.iter().find(|other| other.word == word).copied() {
         return Err(checker.fault(span, FaultKind::CaseTwice { first: first.span }));
@@ -143,7 +143,7 @@ pub(crate) fn case_guard<'t, 'a>(
         return Err(Interrupt::Reported);
     };
     if levels_within(depth, count) == 0 {
-        return Err(checker.fault(span_of(first), FaultKind::Limit(Limit::Depth)));
+        return Err(checker.limit(frame, span_of(first), Limit::Depth));
     }
     Ok(())
 }

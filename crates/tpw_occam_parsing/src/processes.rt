@@ -311,16 +311,22 @@ impl<'a> Parser<'_, 'a> {
         Ok(ChoiceNode { guard, process })
     }
 
-    /// The choices of an IF.
+    /// The choices of an IF. Of lines with nothing below, as where guards and processes stand as deep as one another,
+    /// the first alone is told of.
     #[cycle(processes)]
     fn choices(&mut self, rows: &[Row], depth: usize) -> Result<Stretch, AllocError> {
         let mut choices = Vec::new(self.draft.alloc);
+        let mut is_flat = false;
         let mut rest = rows;
         for _ in 0..rows.len() {
             let Some((row, below, behind)) = first_of(rest) else {
                 break;
             };
             rest = behind;
+            if below.is_empty() && is_flat {
+                continue;
+            }
+            is_flat = is_flat || below.is_empty();
             choices.push(self.choice(row, below, depth)?)?;
         }
         self.draft.choice_list(&choices)
@@ -353,17 +359,22 @@ impl<'a> Parser<'_, 'a> {
         Ok(CaseNode { constants, process })
     }
 
-    /// The choices of a CASE.
+    /// The choices of a CASE, as those of an IF.
     #[cycle(processes)]
     fn cases(&mut self, rows: &[Row], depth: usize) -> Result<Stretch, AllocError> {
         let mut cases = Vec::new(self.draft.alloc);
         let mut has_else = false;
+        let mut is_flat = false;
         let mut rest = rows;
         for _ in 0..rows.len() {
             let Some((row, below, behind)) = first_of(rest) else {
                 break;
             };
             rest = behind;
+            if below.is_empty() && is_flat {
+                continue;
+            }
+            is_flat = is_flat || below.is_empty();
             let case = self.case(row, below, has_else, depth)?;
             has_else = has_else || case.constants.is_none();
             cases.push(case)?;
