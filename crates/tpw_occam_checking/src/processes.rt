@@ -141,7 +141,8 @@ fn replicated<'t, 'a>(
     checker: &mut Checker<'t, 'a>,
     frame: Frame,
     index: Name<'a>,
-    (start, count): (&'t Tree<'a>, &'t Tree<'a>),
+    start: &'t Tree<'a>,
+    count: &'t Tree<'a>,
     list: &'t Processes<'a>,
     depth: u32,
 ) -> Result<(), Interrupt> {
@@ -318,11 +319,7 @@ fn procedure_call<'t, 'a>(
     checker.check_count(name, entry, signature, count_of(arguments))?;
     checker.enter(signature);
     let bound = checker.bound(frame, signature, arguments, scope, depth)?;
-    let within = Frame {
-        scope: bound.scope,
-        calls: frame.calls - 1,
-        ..frame.in_call(name.span)
-    };
+    let within = frame.in_call(bound.scope, name.span);
     let depth = levels_within(depth, bound.names);
     process(checker, within, body, depth)
 }
@@ -374,7 +371,7 @@ pub(crate) fn process<'t, 'a>(
             count,
             steps,
             ..
-        } => replicated(checker, frame, *index, (start, count), steps, depth - 1),
+        } => replicated(checker, frame, *index, start, count, steps, depth - 1),
         Written::If { choices, span } => choice(checker, frame, choices, *span, depth - 1),
         Written::Case {
             selector,

@@ -35,11 +35,13 @@ impl Frame {
         Frame { scope, ..self }
     }
 
-    /// The same in a call at a place.
-    pub fn in_call(self, span: Span) -> Frame {
+    /// The frame of the body that a call at a place has, with these names in scope.
+    pub fn in_call(self, scope: Scope, span: Span) -> Frame {
         Frame {
+            scope,
+            calls: self.calls.saturating_sub(1),
             call: Some(self.call.unwrap_or(span.line)),
-            ..self
+            choices: self.choices,
         }
     }
 

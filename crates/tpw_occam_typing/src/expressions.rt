@@ -289,11 +289,7 @@ impl<'t, 'a> Checker<'t, 'a> {
         self.check_count(name, entry, signature, count_of(arguments))?;
         self.enter(signature);
         let bound = self.bound(frame, signature, arguments, scope, depth)?;
-        let within = Frame {
-            scope: bound.scope,
-            calls: frame.calls - 1,
-            ..frame.in_call(name.span)
-        };
+        let within = frame.in_call(bound.scope, name.span);
         let depth = levels_within(depth, bound.names);
         let value = self.expression(within, value, Some(of), depth)?;
         if !bound.is_whole {
