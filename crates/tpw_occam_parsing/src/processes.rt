@@ -289,16 +289,20 @@ impl<'a> Parser<'_, 'a> {
         self.one(row, below, depth)
     }
 
-    /// Whether a line begins with `IF`.
-    fn begins_with_if(&self, row: Row) -> bool {
-        keyword_of(parts_of_row(self.parts, row)) == Some(Keyword::If)
+    /// Whether a line begins with `IF`, and guards may stand below it: of lines that others stand below.
+    fn is_of_guards(&self, row: Row, below: &[Row]) -> bool {
+        let is_nested = match first_of(below) {
+            Some((_, below, _)) => !below.is_empty(),
+            None => false,
+        };
+        is_nested && keyword_of(parts_of_row(self.parts, row)) == Some(Keyword::If)
     }
 
     /// A guard with its process. Below an IF in its place, which occam has, stand guards.
     #[cycle(processes)]
     fn choice(&mut self, row: Row, below: &[Row], depth: usize) -> Result<ChoiceNode, AllocError> {
         let guard = self.guard(row)?;
-        let process = if guard.is_none() && depth > 0 && self.begins_with_if(row) {
+        let process = if guard.is_none() && depth > 0 && self.is_of_guards(row, below) {
             self.choices(below, depth - 1)?;
             self.draft.put_process(ProcessNode::Wrong)?
         } else {
