@@ -11,6 +11,7 @@ ghost use Rattle.tpw_occam_scoped.specs.Meaning.{meaning};
 use crate::diagnosing::{fault_at, faults_of, warnings_of};
 use crate::fault::{Defect, OccamFault};
 use crate::names::{Located, Sources, located_in};
+use crate::room::largest_of;
 use std::alloc::{AllocError, Global};
 use tpw_asm::{Assembled, Program};
 use tpw_debug::Diagnostic;
@@ -58,11 +59,11 @@ fn refused(alloc: Global, text: &str, faults: &[Fault<'_>]) -> OccamFault
     OccamFault::Refused(diagnostics)
 }
 
-/// Why a text is refused whose code goes beyond a limit at a line.
-fn beyond(alloc: Global, text: &str, line: u32, fault: CodeFault) -> OccamFault
+/// Why a text is refused of a line of which this is said.
+fn refused_at(alloc: Global, text: &str, line: u32, said: Result<String, AllocError>) -> OccamFault
     ensures { IsRefusal text.now result }
 {
-    let Ok(said) = format!(in alloc; "{fault}") else {
+    let Ok(said) = said else {
         return OccamFault::Memory;
     };
     let mut diagnostics = Vec::new(alloc);
@@ -70,6 +71,29 @@ fn beyond(alloc: Global, text: &str, line: u32, fault: CodeFault) -> OccamFault
         Ok(()) => OccamFault::Refused(diagnostics),
         Err(_) => OccamFault::Memory,
     }
+}
+
+/// Why a text is refused whose code goes beyond a limit at a line.
+fn beyond(alloc: Global, text: &str, line: u32, fault: CodeFault) -> OccamFault
+    ensures { IsRefusal text.now result }
+{
+    refused_at(alloc, text, line, format!(in alloc; "{fault}"))
+}
+
+/// Why a text is refused that has too few words from a line on, of which this takes most.
+fn without_room(
+    alloc: Global,
+    text: &str,
+    line: u32,
+    largest: Result<String, AllocError>,
+) -> OccamFault
+    ensures { IsRefusal text.now result }
+{
+    let Ok(largest) = largest else {
+        return OccamFault::Memory;
+    };
+    let fault = CodeFault::Workspace { line };
+    refused_at(alloc, text, line, format!(in alloc; "{fault}: {largest}"))
 }
 
 /// Why a text has no program that has a worker.
@@ -160,6 +184,10 @@ fn compiled<'t>(
                 located,
                 warnings,
             })
+        }
+        Err(CodeFault::Workspace { line }) => {
+            let largest = largest_of(alloc, text, &worker, &declared);
+            Err(without_room(alloc, text, line, largest))
         }
         Err(fault) => Err(without_code(alloc, text, fault)),
     }

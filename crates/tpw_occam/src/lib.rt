@@ -7,6 +7,7 @@ mod fault;
 pub mod laws;
 mod names;
 mod remedies;
+mod room;
 
 pub use compiling::{CompiledText, compile_text};
 pub use diagnosing::fault_at;

@@ -35,7 +35,7 @@ struct Stretch {
 }
 
 /// The text at a span, by its lines.
-fn said_at<'t>(lines: &[&'t str], span: Span) -> Option<&'t str> {
+pub(crate) fn said_at<'t>(lines: &[&'t str], span: Span) -> Option<&'t str> {
     let line = lines.get(span.line.saturating_sub(1))?;
     let first = span.column.saturating_sub(1);
     line.get(first..first.saturating_add(span.width))

@@ -1,6 +1,7 @@
 //! Remedies of faults, by what stands at their places: what other languages write, and what occam writes for it.
 
 use tpw_occam_faults::FaultKind;
+use tpw_occam_lexing::Keyword;
 use tpw_occam_terms::{FaultKind as SyntaxFault, Span, Wanted};
 
 /// Characters that begin nothing, and what is written for them.
@@ -59,6 +60,9 @@ static CHARACTERS: [(&str, &str); 19] = [
 /// Directives of occam.
 static DIRECTIVES: [&str; 5] = ["#INCLUDE", "#USE", "#IMPORT", "#OPTION", "#PRAGMA"];
 
+/// Operators that other languages join with `=`.
+static OPERATORS: [&str; 5] = ["+", "-", "*", "/", "\\"];
+
 /// The remedy for another name for a variable.
 const NO_ABBREVIATION: &str = "VAL n IS e names a value; a variable has no second name";
 
@@ -66,7 +70,13 @@ const NO_ABBREVIATION: &str = "VAL n IS e names a value; a variable has no secon
 const NO_REPLICATED_IF: &str =
     "there is no IF i = s FOR n: use SEQ i = s FOR n, and an IF within it";
 
-/// The text around a place: the line, and its parts before and behind the place.
+/// The remedy for what stands as deep as the IF that it is a guard of.
+const GUARD_BELOW: &str = "a guard stands below its IF, indented by two spaces more";
+
+/// The remedy for what stands as deep as the CASE that it is a choice of.
+const CHOICE_BELOW: &str = "a choice stands below its CASE, indented by two spaces more";
+
+/// The text around a place: the line without its comment, and its parts before and behind the place.
 #[derive(Clone, Copy)]
 struct Around<'a> {
     line: &'a str,
@@ -74,19 +84,27 @@ struct Around<'a> {
     behind: &'a str,
 }
 
+/// A line without its comment.
+fn without_comment(line: &str) -> &str {
+    match line.split_once("--") {
+        Some((front, _)) => front,
+        None => line,
+    }
+}
+
 /// The text around a span.
 fn around(text: &str, span: Span) -> Around<'_> {
     let line = text.lines().nth(span.line.saturating_sub(1)).unwrap_or("");
     let column = span.column.saturating_sub(1);
     Around {
-        line: line.trim_ascii(),
+        line: without_comment(line).trim_ascii(),
         before: line.get(..column).unwrap_or(""),
         behind: line.get(column..).unwrap_or(""),
     }
 }
 
-/// Whether a line is a name alone.
-fn is_name(line: &str) -> bool {
+/// Whether a line is a word alone.
+fn is_word(line: &str) -> bool {
     let begins = match line.bytes().next() {
         Some(byte) => byte.is_ascii_alphabetic(),
         None => false,
@@ -95,6 +113,30 @@ fn is_name(line: &str) -> bool {
         && line
             .bytes()
             .all(|byte| byte.is_ascii_alphanumeric() || byte == b'.')
+}
+
+/// Whether a replicator stands behind the keyword at the front of a text.
+fn is_replicated(behind: &str) -> bool {
+    behind.contains("=") && behind.contains(" FOR ")
+}
+
+/// The remedy for an IF behind which something stands.
+fn for_if(behind: &str) -> &'static str {
+    if is_replicated(behind) {
+        NO_REPLICATED_IF
+    } else {
+        GUARD_BELOW
+    }
+}
+
+/// The remedy for a word alone where a process is wanted: a name, or a keyword that begins none.
+fn for_word(word: &str) -> Option<&'static str> {
+    match Keyword::of(word) {
+        Some(Keyword::True | Keyword::False) => Some(GUARD_BELOW),
+        Some(Keyword::Else) => Some(CHOICE_BELOW),
+        Some(_) => None,
+        None => Some("a call has brackets, as in p ()"),
+    }
 }
 
 /// The remedy for a character that begins nothing.
@@ -116,35 +158,64 @@ fn for_directive(behind: &str) -> Option<&'static str> {
     }
 }
 
+/// The remedy for `:=` behind an expression.
+fn for_becomes(at: Around<'_>) -> Option<&'static str> {
+    if at.before.contains(":=") {
+        Some("one := stands on a line, as in x, y := e, f")
+    } else if at.line.starts_with("CASE") {
+        None
+    } else {
+        Some("a guard is a BOOL, and what is done stands below it")
+    }
+}
+
+/// Whether a 0 stands at the end of a text, and no digit before it.
+fn ends_with_zero(before: &str) -> bool {
+    match before.strip_suffix("0") {
+        Some(front) => match front.as_bytes().last() {
+            Some(byte) => !byte.is_ascii_alphanumeric(),
+            None => true,
+        },
+        None => false,
+    }
+}
+
 /// The remedy where an operator is wanted.
 fn for_operator(at: Around<'_>) -> Option<&'static str> {
     if at.behind.starts_with("!=") {
         Some("occam writes <> for unequal")
     } else if at.behind.starts_with(":=") {
-        Some("a guard is a BOOL, and what is done stands below it")
+        for_becomes(at)
     } else if at.behind.starts_with(":") {
         Some("a colon ends a declaration, and no process")
     } else if at.behind.starts_with("IS ") {
         Some(NO_ABBREVIATION)
-    } else if at.behind.starts_with("[") {
+    } else if at.behind.starts_with("[") && at.before.trim_ascii_end().ends_with("]") {
         Some("an array has one size and one subscript, as (n * i) + j")
-    } else if at.behind.starts_with("x") && at.before.ends_with("0") {
+    } else if at.behind.starts_with("x") && ends_with_zero(at.before) {
         Some("occam writes #1F for 0x1F")
     } else {
         None
     }
 }
 
+/// Whether what stands before a place ends with an operator that other languages join with `=`.
+fn ends_with_operator(before: &str) -> bool {
+    OPERATORS.iter().any(|one| before.ends_with(*one))
+}
+
 /// The remedy where an operand is wanted.
 fn for_operand(at: Around<'_>) -> Option<&'static str> {
     if at.behind.starts_with("=") && at.before.ends_with("=") {
         Some("occam writes = for equal")
-    } else if at.behind.starts_with("=") {
+    } else if at.behind.starts_with("=") && ends_with_operator(at.before) {
         Some("there is no += or the like: write x := x + e")
     } else if at.behind.starts_with("/") && at.before.ends_with("/") {
         Some("a comment begins with --")
-    } else if at.behind.starts_with("IF ") {
+    } else if at.behind.starts_with("IF ") && is_replicated(at.behind) {
         Some(NO_REPLICATED_IF)
+    } else if at.behind.starts_with("IF") && is_word(at.line) {
+        Some("a guard is a BOOL: an IF within another stands below a guard, as TRUE")
     } else {
         None
     }
@@ -155,7 +226,7 @@ fn for_nothing(at: Around<'_>) -> Option<&'static str> {
     if at.behind.starts_with("IS ") {
         Some(NO_ABBREVIATION)
     } else if at.line.starts_with("IF ") {
-        Some(NO_REPLICATED_IF)
+        Some(for_if(at.line))
     } else {
         None
     }
@@ -171,10 +242,17 @@ fn for_syntax(kind: SyntaxFault, at: Around<'_>) -> Option<&'static str> {
         SyntaxFault::Wanted(Wanted::Operator) => for_operator(at),
         SyntaxFault::Wanted(Wanted::Operand) => for_operand(at),
         SyntaxFault::Wanted(Wanted::Nothing) => for_nothing(at),
-        SyntaxFault::Wanted(Wanted::Process) if is_name(at.line) => {
-            Some("a call has brackets, as in p ()")
-        }
+        SyntaxFault::Wanted(Wanted::Process) if is_word(at.line) => for_word(at.line),
         _ => None,
+    }
+}
+
+/// The remedy for a part of a replicator that is no constant.
+fn for_replicator(at: Around<'_>) -> &'static str {
+    if at.before.contains(" FOR ") {
+        "a loop has a constant number of turns, the most that are needed, with an IF within it"
+    } else {
+        "a loop begins at a constant: add to its index within it"
     }
 }
 
@@ -183,11 +261,7 @@ pub(crate) fn remedy_of(text: &str, kind: FaultKind<'_>, span: Span) -> Option<&
     let at = around(text, span);
     match kind {
         FaultKind::Syntax(kind) => for_syntax(kind, at),
-        FaultKind::NotConstant if at.line.starts_with("SEQ ") => {
-            Some(
-                "a loop has a constant number of turns, the most that are needed, with an IF within it",
-            )
-        }
+        FaultKind::NotConstant if at.line.starts_with("SEQ ") => Some(for_replicator(at)),
         _ => None,
     }
 }

@@ -37,7 +37,7 @@ fn element_target<'t, 'a>(
     subscript: &'t Tree<'a>,
     depth: u32,
 ) -> Result<Primitive, Interrupt> {
-    let place = checker.subscript_at(subscript);
+    let place = checker.subscript_at(frame, subscript);
     let view = checker.written_view(frame.scope, array);
     let subscript = checker.expression(frame, subscript, Some(Primitive::Int), depth);
     let (view, subscript) = (view?, subscript?);

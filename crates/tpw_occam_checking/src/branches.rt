@@ -5,18 +5,20 @@ use tpw_occam_faults::NoteKind;
 use tpw_occam_terms::Span;
 use tpw_occam_typing::Checker;
 
-/// The constness of a guard: whether it holds, where that is a constant, and whether it is the same in each call.
+/// The constness of a guard.
 #[derive(Clone, Copy)]
 pub(crate) struct Guard {
+    /// Whether it holds, where that is a constant.
     pub(crate) truth: Option<bool>,
-    pub(crate) is_same: bool,
+    /// Whether that may not be meant: it is so in each call, and no name alone says it.
+    pub(crate) is_odd: bool,
 }
 
-/// A guard that always holds, and whether it does so in each call.
+/// A guard that always holds, and whether that may not be meant.
 #[derive(Clone, Copy)]
 struct Closing {
     span: Span,
-    is_same: bool,
+    is_odd: bool,
 }
 
 /// The branches before a place of a choice.
@@ -45,6 +47,11 @@ impl Branches {
         self.closing.is_some()
     }
 
+    /// Whether there is one that may be done.
+    pub(crate) fn is_some(&self) -> bool {
+        self.least.is_some()
+    }
+
     /// Ends a branch that may be done.
     pub(crate) fn end_branch(&mut self, checker: &mut Checker<'_, '_>) {
         let traced = checker.traced;
@@ -60,11 +67,11 @@ impl Branches {
         span: Span,
     ) -> Result<(), AllocError> {
         match self.closing {
-            Some(closing) if closing.is_same => {
+            Some(closing) if closing.is_odd => {
                 let kind = NoteKind::Unreached { by: closing.span };
                 checker.findings.note(span, kind)
             }
-            None if guard.is_same => checker.findings.note(span, NoteKind::NeverTrue),
+            None if guard.is_odd => checker.findings.note(span, NoteKind::NeverTrue),
             _ => Ok(()),
         }
     }
@@ -87,7 +94,7 @@ impl Branches {
         if guard.truth == Some(true) {
             self.closing = Some(Closing {
                 span,
-                is_same: guard.is_same,
+                is_odd: guard.is_odd,
             });
         }
         Ok(())

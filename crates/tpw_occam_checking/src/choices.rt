@@ -3,9 +3,9 @@
 use crate::branches::Guard;
 use crate::limits::MAX_GUARDS;
 use tpw_occam_faults::{FaultKind, Interrupt, Limit};
-use tpw_occam_meaning::{Expression as Tree, Expressions};
+use tpw_occam_meaning::{Expression as Tree, Expressions, Monadic};
 use tpw_occam_terms::{Primitive, Span};
-use tpw_occam_typing::{Checker, Constness, Frame, Root, levels_within, span_of};
+use tpw_occam_typing::{Checker, Constness, Frame, Root, bare, levels_within, span_of};
 
 /// The selector of a CASE: its type, and whether a name is bound for it.
 #[derive(Clone, Copy)]
@@ -33,6 +33,19 @@ pub(crate) struct Seen {
     span: Span,
 }
 
+/// Whether a guard is a name alone, or NOT of one. A constant of such a name turns a part of a worker on or off.
+fn is_switch(e: &Tree<'_>) -> bool {
+    match bare(e) {
+        Tree::Name(_) => true,
+        Tree::Monadic {
+            operator: Monadic::Not,
+            operand,
+            ..
+        } => matches!(bare(operand), Tree::Name(_)),
+        _ => false,
+    }
+}
+
 /// The constness of the guard of a choice.
 pub(crate) fn guard<'t, 'a>(
     checker: &mut Checker<'t, 'a>,
@@ -46,8 +59,8 @@ pub(crate) fn guard<'t, 'a>(
         Constness::Constant(word) => Some(word != 0),
         _ => None,
     };
-    let is_same = checker.per_call.point() == before;
-    Ok(Guard { truth, is_same })
+    let is_odd = checker.per_call.point() == before && !is_switch(e);
+    Ok(Guard { truth, is_odd })
 }
 
 /// The selector of a CASE.
@@ -83,7 +96,7 @@ fn case_constant<'t, 'a>(
     let word = checker.constant(frame, e, of)?;
     let span = span_of(e);
     if seen.len() >= MAX_GUARDS {
-        return Err(checker.fault(span, FaultKind::Limit(Limit::Guards)));
+        return Err(checker.limit(frame, span, Limit::Guards));
     }
     if let Some(first) = seen.iter().find(|other| other.word == word).copied() {
         return Err(checker.fault(span, FaultKind::CaseTwice { first: first.span }));
@@ -127,7 +140,7 @@ pub(crate) fn case_guard<'t, 'a>(
         return Err(Interrupt::Reported);
     };
     if levels_within(depth, count) == 0 {
-        return Err(checker.fault(span_of(first), FaultKind::Limit(Limit::Depth)));
+        return Err(checker.limit(frame, span_of(first), Limit::Depth));
     }
     Ok(())
 }

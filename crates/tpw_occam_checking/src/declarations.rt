@@ -74,7 +74,7 @@ fn put<'t, 'a>(
     name: Name<'a>,
     made: Made<'t, 'a>,
 ) -> Result<Declared, Interrupt> {
-    checker.count(name.span)?;
+    checker.count(declared.frame, name.span)?;
     let scope = checker.declare(declared.frame.scope, name, made.meaning)?;
     Ok(Declared {
         frame: declared.frame.with_scope(scope),

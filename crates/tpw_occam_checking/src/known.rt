@@ -4,8 +4,8 @@ use std::alloc::{AllocError, Global};
 use tpw_occam_faults::{Findings, NoteKind, Unused};
 use tpw_occam_terms::{Name, Span};
 
-/// How many names and processes of a text are looked at, at the most.
-const MAX_LOOKED_AT: u32 = 300_000;
+/// How much of a text is looked at, at the most: expressions, processes, and names, each as often as it is passed by.
+const MAX_LOOKED_AT: u32 = 50_000_000;
 
 /// How far names are seen: those that were declared up to the innermost.
 pub(crate) type Scope = Option<usize>;
@@ -54,8 +54,14 @@ impl<'a> Usage<'a> {
 
     /// Whether more is looked at.
     pub(crate) fn goes_on(&mut self) -> bool {
-        self.left = self.left.saturating_sub(1);
+        self.look_at(1);
         self.left > 0
+    }
+
+    /// Counts so many names that are looked at.
+    fn look_at(&mut self, names: usize) {
+        let names = u32::try_from(names).unwrap_or(u32::MAX);
+        self.left = self.left.saturating_sub(names);
     }
 
     /// Looks at no more: of names that are not used nothing is known then.
@@ -77,6 +83,7 @@ impl<'a> Usage<'a> {
         parameters: Places,
     ) -> Result<Scope, AllocError> {
         let innermost = self.known.len();
+        self.look_at(1);
         self.known.push(Known {
             name,
             what,
@@ -89,9 +96,12 @@ impl<'a> Usage<'a> {
     }
 
     /// Where a name is declared that is in scope.
-    fn find(&self, scope: Scope, name: Name<'a>) -> Option<usize> {
+    fn find(&mut self, scope: Scope, name: Name<'a>) -> Option<usize> {
         let mut scope = scope;
         for _ in 0..self.known.len() {
+            if !self.goes_on() {
+                return None;
+            }
             let at = scope?;
             let known = self.known.get(at)?;
             if known.name.text == name.text {
@@ -146,6 +156,10 @@ impl<'a> Usage<'a> {
 
     /// Notes a name that stands in one list behind an equal one: the names from one on.
     pub(crate) fn note_twice(&mut self, first: usize, name: Name<'a>) -> Result<(), AllocError> {
+        self.look_at(self.known.len().saturating_sub(first));
+        if self.left == 0 {
+            return Ok(());
+        }
         let is_twice = self
             .known
             .iter()

@@ -10,6 +10,7 @@ mod limits;
 mod messages;
 mod processes;
 mod trees;
+mod uncalled;
 mod usage;
 mod whole;
 mod worker;

@@ -9,6 +9,7 @@ use crate::declarations::{Declared, Level, declare};
 use crate::limits::{MAX_GUARDS, MAX_TURNS, halves};
 use crate::messages::trace;
 use crate::trees::{cases_of, guards_of, has_else, place_of, steps_of};
+use std::alloc::AllocError;
 use tpw_occam_faults::{FaultKind, Interrupt, Limit, NoteKind, Use};
 use tpw_occam_meaning::{
     Cases, Choices, Expression as Tree, Expressions, Process as Written, Processes,
@@ -23,13 +24,20 @@ fn is_beyond(first: u32, turns: u32) -> bool {
     turns > 0 && turns - 1 > MOST_POSITIVE.wrapping_sub(first)
 }
 
+/// The turns of a replicated SEQ.
+#[derive(Clone, Copy)]
+struct Turns {
+    first: u32,
+    count: u32,
+}
+
 /// The turns of a replicated SEQ, whose last index is an INT.
 fn check_turns<'t, 'a>(
     checker: &mut Checker<'t, 'a>,
     frame: Frame,
     start: &'t Tree<'a>,
     count: &'t Tree<'a>,
-) -> Result<u32, Interrupt> {
+) -> Result<Turns, Interrupt> {
     let first = checker.constant(frame, start, Primitive::Int);
     let turns = checker.constant(frame, count, Primitive::Int);
     let (first, turns) = (first?, turns?);
@@ -42,7 +50,35 @@ fn check_turns<'t, 'a>(
     if is_beyond(first, turns) {
         return Err(checker.fault(span_of(count), FaultKind::LastIndex));
     }
-    Ok(turns)
+    Ok(Turns {
+        first,
+        count: turns,
+    })
+}
+
+/// The frame of the body of a replicated SEQ, with its index; where there may be no turn, it may not be done.
+fn turn<'t, 'a>(
+    checker: &mut Checker<'t, 'a>,
+    frame: Frame,
+    index: Name<'a>,
+    turns: Result<Turns, Interrupt>,
+) -> Result<Frame, AllocError> {
+    let (around, meaning) = match turns {
+        Ok(turns) if turns.count > 0 => {
+            let last = turns.first.wrapping_add(turns.count - 1);
+            let meaning = frame.index(turns.first.cast_signed(), last.cast_signed());
+            (frame, meaning)
+        }
+        _ => {
+            let meaning = Meaning::Value {
+                of: Primitive::Int,
+                root: Root::Named,
+            };
+            (frame.in_choice(), meaning)
+        }
+    };
+    let scope = checker.declare(frame.scope, index, meaning)?;
+    Ok(around.with_scope(scope))
 }
 
 /// The bytes that are traced where so many turns begin behind some, and the first turn ends behind others.
@@ -105,20 +141,26 @@ fn replicated<'t, 'a>(
     checker: &mut Checker<'t, 'a>,
     frame: Frame,
     index: Name<'a>,
-    turns: Result<u32, Interrupt>,
+    start: &'t Tree<'a>,
+    count: &'t Tree<'a>,
     list: &'t Processes<'a>,
     depth: u32,
 ) -> Result<(), Interrupt> {
-    let meaning = Meaning::Value {
-        of: Primitive::Int,
-        root: Root::Named,
-    };
-    let scope = checker.declare(frame.scope, index, meaning)?;
-    let within = frame.with_scope(scope);
+    let turns = check_turns(checker, frame, start, count);
+    let within = turn(checker, frame, index, turns)?;
     let before = checker.traced;
     let body = steps(checker, within, list, steps_of(list), depth);
-    checker.traced = traced_by(before, checker.traced, turns?);
+    checker.traced = traced_by(before, checker.traced, turns?.count);
     body
+}
+
+/// Where a guard stands behind so many others.
+fn behind_guards(frame: Frame, others: usize) -> Frame {
+    if others == 0 {
+        frame
+    } else {
+        frame.in_choice()
+    }
 }
 
 /// IF.
@@ -131,7 +173,7 @@ fn choice<'t, 'a>(
     depth: u32,
 ) -> Result<(), Interrupt> {
     if guards_of(choices) > MAX_GUARDS {
-        return Err(checker.fault(span, FaultKind::Limit(Limit::Guards)));
+        return Err(checker.limit(frame, span, Limit::Guards));
     }
     let mut branches = Branches::new(checker.traced);
     let mut is_whole = true;
@@ -140,8 +182,8 @@ fn choice<'t, 'a>(
     while let Choices::More(e, p, more) = rest {
         let depth = levels_within(depth, index);
         let noted = checker.findings.notes.len();
-        let made = guard(checker, frame, e, depth);
-        let body = process(checker, frame, p, depth);
+        let made = guard(checker, behind_guards(frame, index), e, depth);
+        let body = process(checker, frame.in_choice(), p, depth);
         let (made, body) = (recovered(made)?, recovered(body)?);
         if let Some(guard) = made {
             branches.end_guarded(checker, guard, span_of(e), noted)?;
@@ -160,6 +202,20 @@ fn choice<'t, 'a>(
     Ok(())
 }
 
+/// Ends a CASE, some choice of which is always done, or is not; where it is not, that is noted.
+fn end_cases(
+    checker: &mut Checker<'_, '_>,
+    branches: Branches,
+    is_closed: bool,
+    span: Span,
+) -> Result<(), AllocError> {
+    branches.end(checker, is_closed);
+    if branches.is_some() && !is_closed {
+        checker.findings.note(span, NoteKind::NoElse)?;
+    }
+    Ok(())
+}
+
 /// The choices of a CASE, each tried within those before it. ELSE, wherever it stands, is within all of them.
 #[cycle(process)]
 fn all_cases<'t, 'a>(
@@ -171,6 +227,7 @@ fn all_cases<'t, 'a>(
     depth: u32,
 ) -> Result<(), Interrupt> {
     let many = cases_of(cases);
+    let within = frame.in_choice();
     let mut seen = Vec::new(checker.alloc);
     let mut branches = Branches::new(checker.traced);
     let mut is_whole = selector.is_some();
@@ -182,13 +239,13 @@ fn all_cases<'t, 'a>(
             Cases::Constants(constants, p, more) => {
                 rest = more;
                 let depth = levels_within(depth, index);
-                let body = process(checker, frame, p, depth);
+                let body = process(checker, within, p, depth);
                 let body = recovered(body)?.is_some();
                 constants_of(checker, frame, selector, constants, &mut seen, depth)? && body
             }
             Cases::Else(p, more) => {
                 rest = more;
-                let made = process(checker, frame, p, levels_within(depth, many));
+                let made = process(checker, within, p, levels_within(depth, many));
                 recovered(made)?.is_some()
             }
         };
@@ -196,15 +253,13 @@ fn all_cases<'t, 'a>(
         is_whole = is_whole && made;
         index = index.saturating_add(1);
     }
-    let is_closed = has_else(cases) || selector.is_some_and(|one| one.is_among(&seen));
-    branches.end(checker, is_closed);
-    if !is_whole {
-        return Err(Interrupt::Reported);
+    let is_chosen = selector.is_some_and(|one| one.is_among(&seen));
+    end_cases(checker, branches, is_chosen || has_else(cases), span)?;
+    if is_whole {
+        Ok(())
+    } else {
+        Err(Interrupt::Reported)
     }
-    if index > 0 && !is_closed {
-        checker.findings.note(span, NoteKind::NoElse)?;
-    }
-    Ok(())
 }
 
 /// Whether the constants of a choice are without a fault, where it is known what is chosen by.
@@ -259,14 +314,12 @@ fn procedure_call<'t, 'a>(
         return Err(checker.not_a(name, entry, Use::Procedure));
     };
     if frame.calls == 0 {
-        return Err(checker.fault(name.span, FaultKind::Limit(Limit::Calls)));
+        return Err(checker.limit(frame, name.span, Limit::Calls));
     }
     checker.check_count(name, entry, signature, count_of(arguments))?;
+    checker.enter(signature);
     let bound = checker.bound(frame, signature, arguments, scope, depth)?;
-    let within = Frame {
-        scope: bound.scope,
-        calls: frame.calls - 1,
-    };
+    let within = frame.in_call(bound.scope, name.span);
     let depth = levels_within(depth, bound.names);
     process(checker, within, body, depth)
 }
@@ -304,9 +357,9 @@ pub(crate) fn process<'t, 'a>(
     let Some(span) = place_of(p) else {
         return Err(Interrupt::Reported);
     };
-    checker.count(span)?;
+    checker.count(frame, span)?;
     if depth == 0 {
-        return Err(checker.fault(span, FaultKind::Limit(Limit::Depth)));
+        return Err(checker.limit(frame, span, Limit::Depth));
     }
     match p {
         Written::Sequence { steps: list, .. } => {
@@ -318,10 +371,7 @@ pub(crate) fn process<'t, 'a>(
             count,
             steps,
             ..
-        } => {
-            let turns = check_turns(checker, frame, start, count);
-            replicated(checker, frame, *index, turns, steps, depth - 1)
-        }
+        } => replicated(checker, frame, *index, start, count, steps, depth - 1),
         Written::If { choices, span } => choice(checker, frame, choices, *span, depth - 1),
         Written::Case {
             selector,

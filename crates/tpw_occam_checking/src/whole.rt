@@ -5,13 +5,14 @@ ghost use Rattle.tpw_occam_checking.specs.Checked.{IsChecked};
 
 use crate::declarations::{Declared, Level, declare};
 use crate::trees::{declared_place, last_declaration};
+use crate::uncalled::check_uncalled;
 use crate::usage::note_usage;
 use crate::worker::worker;
 use std::alloc::{AllocError, Global};
 use tpw_occam_faults::{FIRST, Fault, FaultKind, Interrupt, Note, reported_faults, reported_notes};
 use tpw_occam_meaning::{Declaration, Declarations, Source};
 use tpw_occam_terms::Fault as Misread;
-use tpw_occam_typing::{Checker, Frame, MAX_DEPTH};
+use tpw_occam_typing::{Checker, Frame, MAX_DEPTH, recovered};
 
 /// Why a text has no worker.
 #[derive(Debug, Drop)]
@@ -62,6 +63,25 @@ fn others<'t, 'a>(
     Ok(declared.frame)
 }
 
+/// The last declaration, which is the worker's.
+fn check_last<'t, 'a>(
+    checker: &mut Checker<'t, 'a>,
+    frame: Frame,
+    last: &'t Declaration<'a>,
+) -> Result<(), Interrupt> {
+    match last {
+        Declaration::Procedure {
+            name,
+            parameters,
+            body,
+        } => worker(checker, frame, *name, parameters, body),
+        other => {
+            let place = declared_place(other).unwrap_or(FIRST);
+            Err(checker.fault(place, FaultKind::NoWorker))
+        }
+    }
+}
+
 /// Reports all that is wrong with a text. Its worker is its last declaration. Where the indentation is wrong, no more is
 /// looked for.
 fn check_text<'t, 'a>(
@@ -79,17 +99,13 @@ fn check_text<'t, 'a>(
         return Err(checker.fault(FIRST, FaultKind::NoWorker));
     };
     let frame = others(checker, &source.declarations)?;
-    match last {
-        Declaration::Procedure {
-            name,
-            parameters,
-            body,
-        } => worker(checker, frame, *name, parameters, body),
-        other => {
-            let place = declared_place(other).unwrap_or(FIRST);
-            Err(checker.fault(place, FaultKind::NoWorker))
-        }
+    let made = check_last(checker, frame, last);
+    recovered(made)?;
+    if checker.findings.faults.is_empty() {
+        checker.note_cells()?;
+        note_usage(checker.alloc, &mut checker.findings, source)?;
     }
+    check_uncalled(checker)
 }
 
 /// The warnings of a text, by places; or its faults: of how it is written, `misread`, or of
@@ -108,10 +124,6 @@ pub fn check<'t, 'a>(
     match check_text(&mut checker, source, misread) {
         Err(Interrupt::Memory) => Err(CheckError::Memory),
         Ok(()) if misread.is_empty() && checker.findings.faults.is_empty() => {
-            checker.note_cells()?;
-            if let Some(source) = source {
-                note_usage(alloc, &mut checker.findings, source)?;
-            }
             Ok(reported_notes(alloc, text, &checker.findings.notes)?)
         }
         _ => {

@@ -154,10 +154,39 @@ pub enum FaultKind<'a> {
     },
     /// Variables outside of PROCs.
     OutsideProc,
-    /// A limit is reached.
-    Limit(Limit),
+    /// A limit is reached: in the call that stands in the worker on a line, if it is in one.
+    Limit {
+        limit: Limit,
+        call: Option<usize>,
+    },
     /// The worker that was made is not sound: a fault of the compiler.
     Compiler,
+}
+
+impl FaultKind<'_> {
+    /// Whether it is one whatever the values of variables, constants and sizes are.
+    pub(crate) fn is_of_types(self) -> bool {
+        matches!(
+            self,
+            FaultKind::Syntax(_)
+                | FaultKind::Unknown { .. }
+                | FaultKind::OutOfScope { .. }
+                | FaultKind::NotA { .. }
+                | FaultKind::Type { .. }
+                | FaultKind::NoOrder
+                | FaultKind::Conversion { .. }
+                | FaultKind::NoByte { .. }
+                | FaultKind::TableHere
+                | FaultKind::ArrayWanted
+                | FaultKind::TableWanted
+                | FaultKind::VariableWanted
+                | FaultKind::Elements { .. }
+                | FaultKind::BoolElements
+                | FaultKind::Arguments { .. }
+                | FaultKind::NotVal { .. }
+                | FaultKind::CaseOfBools
+        )
+    }
 }
 
 /// Something wrong, and where.
@@ -179,6 +208,18 @@ impl fmt::Display for Limit {
             }
             Limit::Guards => "more than 2,000 guards of an IF, or constants of a CASE",
         })
+    }
+}
+
+/// That a limit is reached.
+fn write_limit<W: fmt::Write>(
+    f: &mut fmt::Formatter<W>,
+    limit: Limit,
+    call: Option<usize>,
+) -> fmt::Result {
+    match call {
+        Some(line) => write!(f, "{limit}; this is reached by the call of line {line}"),
+        None => write!(f, "{limit}"),
     }
 }
 
@@ -368,7 +409,7 @@ impl fmt::Display for FaultKind<'_> {
     fn fmt<W: fmt::Write>(&self, f: &mut fmt::Formatter<W>) -> fmt::Result {
         match *self {
             FaultKind::Syntax(kind) => write!(f, "{kind}"),
-            FaultKind::Limit(limit) => write!(f, "{limit}"),
+            FaultKind::Limit { limit, call } => write_limit(f, limit, call),
             FaultKind::Unknown {
                 name,
                 near: Some(near),

@@ -36,6 +36,8 @@ impl<T: Drop> From<AllocFailed<T>> for Interrupt {
 pub struct Findings<'a> {
     pub faults: Vec<Fault<'a>>,
     pub notes: Vec<Note<'a>>,
+    /// Whether it is looked for faults of types alone.
+    is_of_types: bool,
 }
 
 impl<'a> Findings<'a> {
@@ -44,12 +46,19 @@ impl<'a> Findings<'a> {
         Findings {
             faults: Vec::new(alloc),
             notes: Vec::new(alloc),
+            is_of_types: false,
         }
+    }
+
+    /// From here on it is looked for faults of types alone, as where nothing is known of values.
+    pub fn turn_to_types(&mut self) {
+        self.is_of_types = true;
     }
 
     /// Reports what is wrong, once for each place. No more is looked for behind the last fault that is reported.
     pub fn report(&mut self, span: Span, kind: FaultKind<'a>) -> Result<(), Interrupt> {
-        if self.faults.iter().any(|fault| fault.span == span) {
+        let is_left_out = self.is_of_types && !kind.is_of_types();
+        if is_left_out || self.faults.iter().any(|fault| fault.span == span) {
             return Ok(());
         }
         self.faults.push(Fault { span, kind })?;
@@ -62,7 +71,8 @@ impl<'a> Findings<'a> {
     /// Notes what may not be meant, once for each place, and the same once for each line.
     pub fn note(&mut self, span: Span, kind: NoteKind<'a>) -> Result<(), AllocError> {
         let line = span.line;
-        if self.notes.len() >= MAX_NOTES
+        if self.is_of_types
+            || self.notes.len() >= MAX_NOTES
             || self.notes.iter().any(|note| note.span == span
                 || (note.span.line == line && note.kind == kind))
         {

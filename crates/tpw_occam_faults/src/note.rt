@@ -86,6 +86,13 @@ pub enum NoteKind<'a> {
         at: i32,
         elements: u32,
     },
+    /// A subscript that is this in the first turn of its loop, or in the last, and not below the size of the array.
+    Turn {
+        name: &'a str,
+        at: i64,
+        is_last: bool,
+        elements: u32,
+    },
     /// Traces of so many bytes at the least, with which each packet is lost.
     LongTraces {
         bytes: u64,
@@ -138,19 +145,24 @@ fn write_unused<W: fmt::Write>(f: &mut fmt::Formatter<W>, name: &str, what: Unus
     match what {
         Unused::Value => write!(f, "`{name}` is never used"),
         Unused::Parameter => write!(f, "the parameter `{name}` is never used"),
-        Unused::Procedure => {
-            write!(
-                f,
-                "the PROC `{name}` is never called: its types are not checked"
-            )
-        }
-        Unused::Function => {
-            write!(
-                f,
-                "the FUNCTION `{name}` is never called: its types are not checked"
-            )
-        }
+        Unused::Procedure => write!(f, "the PROC `{name}` is never called"),
+        Unused::Function => write!(f, "the FUNCTION `{name}` is never called"),
     }
+}
+
+/// That the subscript of a turn is none.
+fn write_turn<W: fmt::Write>(
+    f: &mut fmt::Formatter<W>,
+    name: &str,
+    at: i64,
+    is_last: bool,
+    elements: u32,
+) -> fmt::Result {
+    let turn = if is_last { "last" } else { "first" };
+    write!(
+        f,
+        "in the {turn} turn this is {at}, which is no subscript of `{name}`, of {elements} elements: it sets the error flag"
+    )
 }
 
 /// Writes a warning of a name.
@@ -212,6 +224,12 @@ impl fmt::Display for NoteKind<'_> {
                 f,
                 "in a call this is {at}, which is no subscript of `{name}`, of {elements} elements: it sets the error flag"
             ),
+            NoteKind::Turn {
+                name,
+                at,
+                is_last,
+                elements,
+            } => write_turn(f, name, at, is_last, elements),
             NoteKind::LongTraces { bytes } => write!(
                 f,
                 "each packet is lost: its traces have {bytes} bytes or more, of at most 256"

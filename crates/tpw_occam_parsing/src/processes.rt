@@ -6,10 +6,11 @@ use crate::draft::{
 };
 use crate::faults::Faults;
 use crate::heads::{Below, Entry, Head, constants, guard, head_of, wrong_head};
-use crate::parts::Part;
+use crate::parts::{Part, keyword_of};
 use crate::rows::{Row, first_of, is_end, last_of, parts_of_row};
 use crate::stop::Stop;
 use std::alloc::AllocError;
+use tpw_occam_lexing::Keyword;
 use tpw_occam_terms::{Fault, FaultKind, Span, Wanted};
 
 /// More than the levels of lines.
@@ -288,11 +289,25 @@ impl<'a> Parser<'_, 'a> {
         self.one(row, below, depth)
     }
 
-    /// A guard with its process.
+    /// Whether a line begins with `IF`, and guards may stand below it: of lines that others stand below.
+    fn is_of_guards(&self, row: Row, below: &[Row]) -> bool {
+        let is_nested = match first_of(below) {
+            Some((_, below, _)) => !below.is_empty(),
+            None => false,
+        };
+        is_nested && keyword_of(parts_of_row(self.parts, row)) == Some(Keyword::If)
+    }
+
+    /// A guard with its process. Below an IF in its place, which occam has, stand guards.
     #[cycle(processes)]
     fn choice(&mut self, row: Row, below: &[Row], depth: usize) -> Result<ChoiceNode, AllocError> {
         let guard = self.guard(row)?;
-        let process = self.chosen(row, below, guard.is_none(), depth)?;
+        let process = if guard.is_none() && depth > 0 && self.is_of_guards(row, below) {
+            self.choices(below, depth - 1)?;
+            self.draft.put_process(ProcessNode::Wrong)?
+        } else {
+            self.chosen(row, below, guard.is_none(), depth)?
+        };
         let guard = match guard {
             Some(guard) => guard,
             None => self.wrong(row.span)?,
@@ -300,16 +315,22 @@ impl<'a> Parser<'_, 'a> {
         Ok(ChoiceNode { guard, process })
     }
 
-    /// The choices of an IF.
+    /// The choices of an IF. Of lines with nothing below, as where guards and processes stand as deep as one another,
+    /// the first alone is told of.
     #[cycle(processes)]
     fn choices(&mut self, rows: &[Row], depth: usize) -> Result<Stretch, AllocError> {
         let mut choices = Vec::new(self.draft.alloc);
+        let mut is_flat = false;
         let mut rest = rows;
         for _ in 0..rows.len() {
             let Some((row, below, behind)) = first_of(rest) else {
                 break;
             };
             rest = behind;
+            if below.is_empty() && is_flat {
+                continue;
+            }
+            is_flat = is_flat || below.is_empty();
             choices.push(self.choice(row, below, depth)?)?;
         }
         self.draft.choice_list(&choices)
@@ -342,17 +363,22 @@ impl<'a> Parser<'_, 'a> {
         Ok(CaseNode { constants, process })
     }
 
-    /// The choices of a CASE.
+    /// The choices of a CASE, as those of an IF.
     #[cycle(processes)]
     fn cases(&mut self, rows: &[Row], depth: usize) -> Result<Stretch, AllocError> {
         let mut cases = Vec::new(self.draft.alloc);
         let mut has_else = false;
+        let mut is_flat = false;
         let mut rest = rows;
         for _ in 0..rows.len() {
             let Some((row, below, behind)) = first_of(rest) else {
                 break;
             };
             rest = behind;
+            if below.is_empty() && is_flat {
+                continue;
+            }
+            is_flat = is_flat || below.is_empty();
             let case = self.case(row, below, has_else, depth)?;
             has_else = has_else || case.constants.is_none();
             cases.push(case)?;

@@ -79,6 +79,15 @@ impl<'t, 'a> Checker<'t, 'a> {
         let name = name_alone(e)?;
         match self.environment.find(scope, name.text)?.meaning {
             Meaning::Value { of, root } => Some(Meaning::Value { of, root }),
+            Meaning::Index {
+                first,
+                last,
+                choices,
+            } => Some(Meaning::Index {
+                first,
+                last,
+                choices,
+            }),
             Meaning::Variable { of, variable } if callee == Callee::Function => {
                 Some(Meaning::Value {
                     of,
@@ -208,7 +217,7 @@ impl<'t, 'a> Checker<'t, 'a> {
         subscript: &'t Tree<'a>,
         depth: u32,
     ) -> Result<Passed<'t, 'a>, Interrupt> {
-        let place = self.subscript_at(subscript);
+        let place = self.subscript_at(frame, subscript);
         let view = self.written_view(frame.scope, array);
         let subscript = self.expression(frame, subscript, Some(Primitive::Int), depth);
         let (view, subscript) = (view?, subscript?);

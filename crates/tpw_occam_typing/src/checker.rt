@@ -1,5 +1,6 @@
 //! The state of a check.
 
+use crate::callees::Callees;
 use crate::cells::Cells;
 use crate::environment::{Environment, Meaning, Scope};
 use crate::limits::{MAX_CALLS, MAX_IN_LINE};
@@ -14,6 +15,10 @@ use tpw_occam_terms::{Name, Span};
 pub struct Frame {
     pub scope: Scope,
     pub calls: u32,
+    /// The line of the first of the calls that it is in.
+    call: Option<usize>,
+    /// How many choices lie around: what is within one more may not be done.
+    pub(crate) choices: u32,
 }
 
 impl Frame {
@@ -21,13 +26,39 @@ impl Frame {
     pub const OUTERMOST: Frame = Frame {
         scope: Scope::EMPTY,
         calls: MAX_CALLS,
+        call: None,
+        choices: 0,
     };
 
     /// The same call with other names in scope.
     pub fn with_scope(self, scope: Scope) -> Frame {
+        Frame { scope, ..self }
+    }
+
+    /// The frame of the body that a call at a place has, with these names in scope.
+    pub fn in_call(self, scope: Scope, span: Span) -> Frame {
         Frame {
             scope,
-            calls: self.calls,
+            calls: self.calls.saturating_sub(1),
+            call: Some(self.call.unwrap_or(span.line)),
+            choices: self.choices,
+        }
+    }
+
+    /// A part of it that may not be done.
+    pub fn in_choice(self) -> Frame {
+        Frame {
+            choices: self.choices.saturating_add(1),
+            ..self
+        }
+    }
+
+    /// The index of a loop in it, which has these values in the first and the last turn.
+    pub fn index<'t, 'a>(self, first: i32, last: i32) -> Meaning<'t, 'a> {
+        Meaning::Index {
+            first,
+            last,
+            choices: self.choices,
         }
     }
 }
@@ -42,6 +73,7 @@ pub struct Checker<'t, 'a> {
     /// The bytes that are traced at the least up to here.
     pub traced: u64,
     pub(crate) environment: Environment<'t, 'a>,
+    pub(crate) callees: Callees,
     /// The parameters of all PROCs and FUNCTIONs.
     pub(crate) parameters: Vec<Parameter<'a>>,
     /// The bytes of each table that is written out.
@@ -59,6 +91,7 @@ impl<'t, 'a> Checker<'t, 'a> {
             per_call: PerCall::new(alloc),
             traced: 0,
             environment: Environment::new(alloc),
+            callees: Callees::new(alloc),
             parameters: Vec::new(alloc),
             tables: Vec::new(alloc),
             left: MAX_IN_LINE,
@@ -73,11 +106,24 @@ impl<'t, 'a> Checker<'t, 'a> {
         }
     }
 
+    /// Begins to count anew: there may be so many.
+    pub(crate) fn renew(&mut self, left: u32) {
+        self.left = left;
+    }
+
+    /// Reports a limit that is reached; returns why no more is made of what reaches it.
+    pub fn limit(&mut self, frame: Frame, span: Span, limit: Limit) -> Interrupt {
+        let call = frame.call;
+        self.fault(span, FaultKind::Limit { limit, call })
+    }
+
     /// Counts an expression or a process.
-    pub fn count(&mut self, span: Span) -> Result<(), Interrupt> {
+    pub fn count(&mut self, frame: Frame, span: Span) -> Result<(), Interrupt> {
         if self.left == 0 {
-            self.findings.report(span, FaultKind::Limit(Limit::InLine))?;
-            return Err(Interrupt::Ended);
+            return match self.limit(frame, span, Limit::InLine) {
+                Interrupt::Reported => Err(Interrupt::Ended),
+                stop => Err(stop),
+            };
         }
         self.left -= 1;
         Ok(())

@@ -16,6 +16,14 @@ use tpw_occam_meaning::{Dyadic, Expression as Tree, Expressions, Monadic};
 use tpw_occam_names::{character, element_at, element_type, number};
 use tpw_occam_terms::{FaultKind as Misread, Name, Primitive, Span};
 
+/// Where the right operand of an operator stands: that of AND and OR may not be worked out.
+fn behind_operator(frame: Frame, operator: Dyadic) -> Frame {
+    match operator {
+        Dyadic::And | Dyadic::Or => frame.in_choice(),
+        _ => frame,
+    }
+}
+
 impl<'t, 'a> Checker<'t, 'a> {
     /// A number, which is a BYTE where one is wanted.
     fn number(
@@ -76,9 +84,9 @@ impl<'t, 'a> Checker<'t, 'a> {
         depth: u32,
     ) -> Result<Value, Interrupt> {
         let e = bare(e);
-        self.count(span_of(e))?;
+        self.count(frame, span_of(e))?;
         if depth == 0 {
-            return Err(self.fault(span_of(e), FaultKind::Limit(Limit::Depth)));
+            return Err(self.limit(frame, span_of(e), Limit::Depth));
         }
         let value = self.made(frame, e, wanted, depth - 1)?;
         if let Some(wanted) = wanted {
@@ -181,6 +189,7 @@ impl<'t, 'a> Checker<'t, 'a> {
         match self.expression(frame, one, wanted, depth) {
             Ok(first) => {
                 let noted = self.findings.notes.len();
+                let frame = behind_operator(frame, operator);
                 let second = self.expression(frame, other, wanted.or(Some(first.of)), depth)?;
                 if decides(operator, first.constness) {
                     self.findings.forget(noted);
@@ -248,7 +257,7 @@ impl<'t, 'a> Checker<'t, 'a> {
         subscript: &'t Tree<'a>,
         depth: u32,
     ) -> Result<Value, Interrupt> {
-        let place = self.subscript_at(subscript);
+        let place = self.subscript_at(frame, subscript);
         let view = self.view_of(frame.scope, name);
         let subscript = self.expression(frame, subscript, Some(Primitive::Int), depth);
         let (view, subscript) = (view?, subscript?);
@@ -275,14 +284,12 @@ impl<'t, 'a> Checker<'t, 'a> {
             return Err(self.not_a(name, entry, Use::Function));
         };
         if frame.calls == 0 {
-            return Err(self.fault(name.span, FaultKind::Limit(Limit::Calls)));
+            return Err(self.limit(frame, name.span, Limit::Calls));
         }
         self.check_count(name, entry, signature, count_of(arguments))?;
+        self.enter(signature);
         let bound = self.bound(frame, signature, arguments, scope, depth)?;
-        let within = Frame {
-            scope: bound.scope,
-            calls: frame.calls - 1,
-        };
+        let within = frame.in_call(bound.scope, name.span);
         let depth = levels_within(depth, bound.names);
         let value = self.expression(within, value, Some(of), depth)?;
         if !bound.is_whole {

@@ -2,6 +2,7 @@
 #![tactic(auto)]
 
 mod arguments;
+mod callees;
 mod cells;
 mod checker;
 mod constants;

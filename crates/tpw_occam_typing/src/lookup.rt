@@ -55,6 +55,7 @@ impl<'t, 'a> Checker<'t, 'a> {
         match entry.meaning {
             Meaning::Constant { of, word } => Ok(constant(of, word)),
             Meaning::Value { of, root } => Ok(computed(of, root)),
+            Meaning::Index { .. } => Ok(computed(Primitive::Int, Root::Named)),
             Meaning::Variable { of, variable } => {
                 self.cells.read(variable);
                 Ok(computed(of, Root::Variable(variable)))

@@ -4,6 +4,7 @@ use crate::checker::{Checker, Frame, or_else};
 use crate::environment::{Access, Protocol};
 use crate::signatures::{Callee, Form, Parameter, Signature};
 use crate::trees::{Size, size_of};
+use std::alloc::AllocError;
 use tpw_occam_faults::{FaultKind, Interrupt};
 use tpw_occam_meaning::{Parameters, Type};
 use tpw_occam_terms::{Name, Passing, Primitive, Span};
@@ -64,16 +65,27 @@ impl<'t, 'a> Checker<'t, 'a> {
     /// Adds a parameter, which may stand for something else in each call.
     fn add_parameter(
         &mut self,
+        frame: Frame,
         name: Name<'a>,
         form: Form,
         is_per_call: bool,
     ) -> Result<(), Interrupt> {
-        self.count(name.span)?;
+        self.count(frame, name.span)?;
         if is_per_call {
             self.per_call.add(name.span)?;
         }
         self.parameters.push(Parameter { name, form })?;
         Ok(())
+    }
+
+    /// The parameters from one on.
+    fn signature_from(&mut self, first: usize, callee: Callee) -> Result<Signature, AllocError> {
+        Ok(Signature {
+            number: self.callees.add()?,
+            first,
+            count: self.parameters.len().saturating_sub(first),
+            callee,
+        })
     }
 
     /// The parameters of a PROC or a FUNCTION, each with what its argument has to be.
@@ -101,21 +113,16 @@ impl<'t, 'a> Checker<'t, 'a> {
                     let made = self.form(frame, *passing, of, name.span);
                     form = or_else(made, Form::Wrong)?;
                     is_per_call = !form.has_size() || self.per_call.point() != before;
-                    self.add_parameter(*name, form, is_per_call)?;
+                    self.add_parameter(frame, *name, form, is_per_call)?;
                     rest = more;
                 }
                 Parameters::Further { name, more, .. } => {
-                    self.add_parameter(*name, form, is_per_call)?;
+                    self.add_parameter(frame, *name, form, is_per_call)?;
                     rest = more;
                 }
             }
         }
-        let count = self.parameters.len().saturating_sub(first);
-        Ok(Signature {
-            first,
-            count,
-            callee,
-        })
+        Ok(self.signature_from(first, callee)?)
     }
 
     /// Reports each parameter of a FUNCTION that is not VAL.

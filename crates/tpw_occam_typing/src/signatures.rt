@@ -60,6 +60,8 @@ pub enum Callee {
 /// Where the parameters of a PROC or a FUNCTION stand in the list of all: the first, and how many.
 #[derive(Clone, Copy)]
 pub struct Signature {
+    /// The number of the PROC or the FUNCTION.
+    pub(crate) number: usize,
     pub first: usize,
     pub count: usize,
     pub callee: Callee,

@@ -1,13 +1,37 @@
-//! Subscripts that are constants.
+//! Subscripts that are constants, or a loop's index with a constant.
 
-use crate::checker::Checker;
-use crate::environment::View;
+use crate::checker::{Checker, Frame};
+use crate::environment::{Meaning, View};
 use crate::per_call::Point;
-use crate::trees::{name_alone, span_of};
+use crate::trees::{bare, name_alone, span_of};
 use crate::value::Constness;
 use tpw_occam_faults::{FaultKind, Interrupt, NoteKind};
-use tpw_occam_meaning::Expression as Tree;
-use tpw_occam_terms::{Name, Span};
+use tpw_occam_meaning::{Dyadic, Expression as Tree};
+use tpw_occam_names::number;
+use tpw_occam_terms::{Name, Primitive, Span};
+
+/// The values of a subscript in the first and the last turn of a loop.
+#[derive(Clone, Copy)]
+struct Turns {
+    first: i64,
+    last: i64,
+}
+
+impl Turns {
+    fn plus(self, by: i64) -> Turns {
+        Turns {
+            first: self.first.saturating_add(by),
+            last: self.last.saturating_add(by),
+        }
+    }
+
+    fn minus(self, by: i64) -> Turns {
+        Turns {
+            first: self.first.saturating_sub(by),
+            last: self.last.saturating_sub(by),
+        }
+    }
+}
 
 /// Where a subscript stands.
 #[derive(Clone, Copy)]
@@ -15,14 +39,84 @@ pub struct Subscript {
     span: Span,
     /// The point in front of its array.
     before: Point,
+    /// Its values, where each turn of a loop comes here.
+    turns: Option<Turns>,
+}
+
+/// The value of a constant.
+fn signed(word: u32) -> i64 {
+    i64::from(word.cast_signed())
 }
 
 impl<'t, 'a> Checker<'t, 'a> {
+    /// The values of a loop's index, where each turn comes here.
+    fn index_of(&self, frame: Frame, e: &Tree<'a>) -> Option<Turns> {
+        let name = name_alone(e)?;
+        match self.environment.find(frame.scope, name.text)?.meaning {
+            Meaning::Index {
+                first,
+                last,
+                choices,
+            } if choices == frame.choices => Some(Turns {
+                first: i64::from(first),
+                last: i64::from(last),
+            }),
+            _ => None,
+        }
+    }
+
+    /// The constant that a number or a name is by itself.
+    fn constant_alone(&self, frame: Frame, e: &Tree<'a>) -> Option<i64> {
+        match bare(e) {
+            Tree::Number { spelled, .. } => Some(signed(number(spelled)?)),
+            Tree::Name(name) => match self.environment.find(frame.scope, name.text)?.meaning {
+                Meaning::Constant {
+                    of: Primitive::Int,
+                    word,
+                } => Some(signed(word)),
+                _ => None,
+            },
+            _ => None,
+        }
+    }
+
+    /// The values of the sum of a loop's index and a constant.
+    fn sum_of(&self, frame: Frame, left: &Tree<'a>, right: &Tree<'a>) -> Option<Turns> {
+        if let Some(index) = self.index_of(frame, left) {
+            return Some(index.plus(self.constant_alone(frame, right)?));
+        }
+        let index = self.index_of(frame, right)?;
+        Some(index.plus(self.constant_alone(frame, left)?))
+    }
+
+    /// The values of a subscript that is a loop's index, with a constant or without.
+    fn turns_of(&self, frame: Frame, e: &Tree<'a>) -> Option<Turns> {
+        match bare(e) {
+            Tree::Dyadic {
+                operator: Dyadic::Add | Dyadic::Plus,
+                left,
+                right,
+                ..
+            } => self.sum_of(frame, left, right),
+            Tree::Dyadic {
+                operator: Dyadic::Subtract | Dyadic::Minus,
+                left,
+                right,
+                ..
+            } => {
+                let index = self.index_of(frame, left)?;
+                Some(index.minus(self.constant_alone(frame, right)?))
+            }
+            other => self.index_of(frame, other),
+        }
+    }
+
     /// Where a subscript stands whose array is not looked up yet.
-    pub fn subscript_at(&self, subscript: &Tree<'a>) -> Subscript {
+    pub fn subscript_at(&self, frame: Frame, subscript: &Tree<'a>) -> Subscript {
         Subscript {
             span: span_of(subscript),
             before: self.per_call.point(),
+            turns: self.turns_of(frame, subscript),
         }
     }
 
@@ -34,8 +128,32 @@ impl<'t, 'a> Checker<'t, 'a> {
         }
     }
 
+    /// Notes a subscript that is none in the first turn of its loop, or in the last.
+    fn note_turns(
+        &mut self,
+        name: Name<'a>,
+        view: View,
+        place: Subscript,
+    ) -> Result<(), Interrupt> {
+        let Some(turns) = place.turns else {
+            return Ok(());
+        };
+        let elements = view.elements;
+        let is_last = turns.last >= i64::from(elements);
+        if !is_last && turns.first >= 0 {
+            return Ok(());
+        }
+        let kind = NoteKind::Turn {
+            name: name.text,
+            at: if is_last { turns.last } else { turns.first },
+            is_last,
+            elements,
+        };
+        Ok(self.findings.note(place.span, kind)?)
+    }
+
     /// Reports a subscript that is a constant and not below the size of its array; notes it where another call may make
-    /// it another constant, or give the array another size.
+    /// it another constant, or give the array another size. Notes one that is none in a turn of its loop.
     pub fn check_subscript(
         &mut self,
         name: Name<'a>,
@@ -44,7 +162,7 @@ impl<'t, 'a> Checker<'t, 'a> {
         place: Subscript,
     ) -> Result<(), Interrupt> {
         let Constness::Constant(word) = subscript else {
-            return Ok(());
+            return self.note_turns(name, view, place);
         };
         if word < view.elements {
             return Ok(());

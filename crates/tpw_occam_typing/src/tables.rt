@@ -104,7 +104,7 @@ impl<'t, 'a> Checker<'t, 'a> {
         depth: u32,
     ) -> Result<View, Interrupt> {
         let e = bare(e);
-        self.count(span_of(e))?;
+        self.count(frame, span_of(e))?;
         match e {
             Tree::Name(name) => {
                 let view = self.view_of(frame.scope, *name)?;

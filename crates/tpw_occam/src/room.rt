@@ -1,0 +1,76 @@
+//! What takes the words of a workspace that has too few.
+
+use crate::names::said_at;
+use std::alloc::{AllocError, Global};
+use tpw_occam_core::{Place, Storage, Worker};
+use tpw_occam_placing::Declared;
+
+/// The most names that are told.
+const MAX_NAMES: usize = 3;
+
+/// An array by its name, and its words.
+#[derive(Clone, Copy)]
+struct Sized<'t> {
+    name: &'t str,
+    words: u32,
+}
+
+/// The words of an array.
+fn words_of(array: &Storage) -> u32 {
+    array.bytes().div_ceil(4)
+}
+
+/// The name of an array, if it has one in the text: the first of its names.
+fn name_of<'t>(text: &[&'t str], declared: &[Declared], array: usize) -> Option<&'t str> {
+    let one = declared
+        .iter()
+        .find(|one| one.place == Place::Array(array))?;
+    said_at(text, one.name)
+}
+
+/// The arrays of a worker that have names, from the largest on.
+fn arrays_of<'t>(
+    alloc: Global,
+    text: &'t str,
+    worker: &Worker,
+    declared: &[Declared],
+) -> Result<Vec<Sized<'t>>, AllocError> {
+    let lines: Vec<&'t str> = text.lines().collect(alloc)?;
+    let mut all = Vec::new(alloc);
+    for (at, array) in worker.arrays.iter().enumerate() {
+        if let Some(name) = name_of(&lines, declared, at) {
+            let words = words_of(array);
+            all.push(Sized { name, words })?;
+        }
+    }
+    all.sort_by_key(|one| u32::MAX - one.words)?;
+    Ok(all)
+}
+
+/// How many words all arrays of a worker have.
+fn words_of_arrays(worker: &Worker) -> u64 {
+    let mut words = 0u64;
+    for array in &worker.arrays {
+        words = words.saturating_add(u64::from(words_of(array)));
+    }
+    words
+}
+
+/// What takes most of a workspace: how many words arrays and variables have, and the largest arrays.
+pub(crate) fn largest_of(
+    alloc: Global,
+    text: &str,
+    worker: &Worker,
+    declared: &[Declared],
+) -> Result<String, AllocError> {
+    let words = words_of_arrays(worker);
+    let variables = worker.variables.len();
+    let arrays = arrays_of(alloc, text, worker, declared)?;
+    let mut said = format!(in alloc; "arrays have {words}, and variables {variables}")?;
+    for array in arrays.iter().take(MAX_NAMES) {
+        let Sized { name, words } = *array;
+        let more = format!(in alloc; "; `{name}` has {words}")?;
+        said.push_str(&more)?;
+    }
+    Ok(said)
+}
