@@ -99,6 +99,8 @@ where
             &prepared,
             running,
             &occam.compiled.core,
+            &asked.input,
+            asked.language,
             writer,
             terminal,
         )?),

@@ -2,7 +2,8 @@
 
 ghost use Rattle.std.specs.Prelude.{◌≡◌, ◌≤◌, ◌*◌, All, IfOk, OnOk, length, map};
 ghost use Rattle.tpw_runs.specs.Results.{HasRun, HasShown};
-ghost use Rattle.tpw_running.specs.Checks.{HasChecked, IsChecked};
+ghost use Rattle.std.specs.Option.{option_map};
+ghost use Rattle.tpw_running.specs.Checks.{HasChecked, IsChecked, IsFormOf, has_packets};
 
 use crate::checking::{Checking, write_checked};
 use crate::summary::{is_as_expected, write_summary};
@@ -121,7 +122,28 @@ where
     Ok(shown)
 }
 
-/// Runs packets on an accepted image, and shows where what becomes of them is not what a worker means.
+/// The form of what differs from results that are expected, where they are.
+fn form_of<'e>(style: Style, expected: &'e Option<Vec<Expected>>) -> Form<'e>
+    ensures { IsFormOf (option_map (λ e. e.items) expected.now) result.entry }
+{
+    match expected {
+        Some(expected) => Form::Differences(style, expected),
+        None => Form::Lines(style),
+    }
+}
+
+/// Whether each result that is expected has one of a number of packets.
+fn has_packets(expected: &Option<Vec<Expected>>, packets: usize) -> bool
+    ensures { result ≡ has_packets (option_map (λ e. e.items) expected.now) packets }
+{
+    match expected {
+        Some(expected) => expected.len() <= packets,
+        None => true,
+    }
+}
+
+/// Runs packets on an accepted image, and shows where what becomes of them is not what a worker means, or what a form
+/// says is expected.
 fn run_checked<'m, T, W: Write>(
     rt: &T,
     alloc: Global,
@@ -129,16 +151,17 @@ fn run_checked<'m, T, W: Write>(
     members: usize,
     core: &'m Process,
     style: Style,
+    form: Form<'m>,
     writer: &mut W,
     is_terminal: bool,
 ) -> Result<Checking<'m>, Failure>
 where
     T: Threads + Wait + Clock + Eprint + Sync,
     requires { All (λ p. length p.items ≡ 4 * prepared.now.image.image.packet) prepared.now.packets.items }
-    ensures { IfOk result (HasChecked prepared.now.image core.now style
+    ensures { IfOk result (HasChecked prepared.now.image core.now style form.entry
         (map (λ p. p.items) prepared.now.packets.items) (W.contents writer.old) (W.contents writer.new)) }
 {
-    let mut checking = Checking::new(alloc, core, style, prepared.image.budget());
+    let mut checking = Checking::new(alloc, core, style, form, prepared.image.budget());
     run_reported(
         rt,
         alloc,
@@ -195,25 +218,30 @@ where
     Ok(Outcome::of(is_as_expected(&tally, form)))
 }
 
-/// Runs what is prepared, and writes each packet of which something else is made than the worker means.
+/// Runs what is prepared, and writes each packet of which something else is made than the worker means, or than is
+/// expected where that is said.
 pub fn write_check<T, W: Write, E: Write>(
     rt: &T,
     alloc: Global,
     prepared: &Prepared,
     asked: &RunOptions,
     core: &Process,
+    input: &Input,
+    language: Language,
     writer: &mut W,
     terminal: &mut Terminal<'_, E>,
 ) -> Result<Outcome, Failure>
 where
     T: Threads + Wait + Clock + Eprint + Sync,
     requires { All (λ p. length p.items ≡ 4 * prepared.now.image.image.packet) prepared.now.packets.items }
-    ensures { IfOk result (IsChecked prepared.now.image core.now (map (λ p. p.items) prepared.now.packets.items)) }
+    ensures { IfOk result (IsChecked prepared.now.image core.now
+        (option_map (λ e. e.items) prepared.now.expected) (map (λ p. p.items) prepared.now.packets.items)) }
 {
     let style = Style {
         trace: true,
         ..asked.output.style
     };
+    let form = form_of(style, &prepared.expected);
     let budget = prepared.image.budget();
     let is_terminal = terminal.is_terminal;
     let checking = run_checked(
@@ -223,11 +251,16 @@ where
         asked.members,
         core,
         style,
+        form,
         writer,
         is_terminal,
     )?;
+    let packets = prepared.packets.len();
     let others = checking.others.len();
-    write_summary(writer, Some(budget), &checking.tally, Form::Lines(style))?;
-    write_checked(writer, prepared.packets.len(), others)?;
-    Ok(Outcome::of(others == 0))
+    let unexpected = checking.unexpected.len();
+    write_following(writer, asked, input, language, &checking.tally)?;
+    write_summary(writer, Some(budget), &checking.tally, form)?;
+    write_checked(writer, packets, others)?;
+    let has_packets = has_packets(&prepared.expected, packets);
+    Ok(Outcome::of(others == 0 && unexpected == 0 && has_packets))
 }
