@@ -21,6 +21,8 @@ pub enum PlaceKind {
 pub enum WatchKind {
     #[error("no local has this name")]
     NoLocal,
+    #[error("no local of this name is declared on this line")]
+    NotDeclared,
     #[error("the local has {0} words, from 0 on")]
     NoIndex(usize),
     #[error("the workspace has {0} words, from 0 on")]

@@ -64,7 +64,8 @@ pub(crate) const STEP_COMMAND: Subcommand = Subcommand {
     lines: "\
 Reads an image as hexadecimal, one line, or a worker in occam or as assembly text. Packets are as those of `run`.
 A PLACE is an address, as 36 or 0x24, or a count of steps, as +100; in a text also a label, or a line, as line:37.
-WORDS are names of words or variables, buf[2] for one word of a name, or w5 for a word by its number, with commas between.
+WORDS are names of variables, each of that name, or k@12 for the one that line 12 declares; buf[2] for one word of a name, or
+w5 for a word by its number; with commas between.
 Status 0: the worker stopped, or was left at --until. Status 1: it is stuck, or does not end, or what is read is no image.
 docs/WORKERS.md reads a run.",
     arguments: &[

@@ -33,6 +33,8 @@ pub struct Named<'a> {
     pub name: &'a str,
     pub from: usize,
     pub to: usize,
+    /// The line that declares it, counted from 1; 0 where no text does.
+    pub line: usize,
 }
 
 impl<'a> Named<'a> {

@@ -39,6 +39,7 @@ fn words_of<'a>(alloc: Global, located: &[Located<'a>]) -> Result<Vec<Named<'a>>
             name: name.name,
             from: name.from as usize,
             to: name.to as usize,
+            line: name.line as usize,
         })?;
     }
     Ok(words)

@@ -8,10 +8,12 @@ use tpw_occam_symbolic::{Item, Placed, START};
 use tpw_occam_terms::Span;
 
 /// A name of a variable or of an array, its words of the workspace, and a stretch of the code in which it names them.
-/// A name with its words. Names that are never in scope together may have the same ones.
+/// Names that are never in scope together may have the same words.
 #[derive(Clone, Copy, Debug, PartialEq, Eq)]
 pub struct Located<'t> {
     pub name: &'t str,
+    /// The line that declares it.
+    pub line: u32,
     /// The first word, by its number in the workspace.
     pub first: u32,
     pub words: u32,
@@ -95,6 +97,7 @@ fn add_names<'t>(
             for Stretch { from, to } in stretches(alloc, code, &one.lines)? {
                 let located = Located {
                     name,
+                    line: one.name.line as u32,
                     first: START.saturating_add(placed.local),
                     words,
                     from,

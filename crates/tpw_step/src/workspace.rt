@@ -98,15 +98,17 @@ impl fmt::Display for Values<'_> {
 }
 
 impl Written<'_> {
-    /// Whether a word of these is among them.
+    /// Whether a word of these is among them, where its name is in scope.
     pub(crate) fn changes(&self, watched: &[Named<'_>]) -> bool {
+        let at = self.style.source.at;
         let mut words = self
             .before
             .words
             .iter()
             .zip(self.after.words.iter())
             .enumerate();
-        words.any(|(i, (old, new))| *old != *new && watched.iter().any(|named| named.has(i)))
+        words.any(|(i, (old, new))| *old != *new
+            && watched.iter().any(|named| named.has(i) && named.is_in_scope(at)))
     }
 }
 

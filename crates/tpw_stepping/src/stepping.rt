@@ -2,9 +2,10 @@
 
 ghost use Rattle.std.specs.Prelude.{◌≡◌};
 ghost use Rattle.tpw_stepping.specs.Runs.{of_run};
+ghost use Rattle.tpw_stepping.specs.declared.stepping.WatchFault.TheVariants as watch;
 
 use crate::place::place_of;
-use std::alloc::Global;
+use std::alloc::{AllocError, AllocFailed, Global};
 use std::io::Write;
 use tp_image::Image;
 use tpw_command_line::{Ending, FROM, PlaceKind, Refusal, StepOptions, UNTIL, WatchKind};
@@ -87,28 +88,125 @@ fn place_named(
     }
 }
 
-/// The local of a name.
-fn local_of<'a>(source: SourceText<'a>, name: &str) -> Option<Named<'a>> {
-    source
-        .words
-        .iter()
-        .copied()
-        .find(|named| named.name == name)
+/// A name as the option has it: of each local that has it, or of the one that a line declares, as `k@12`.
+#[derive(Clone, Copy)]
+struct Wanted<'w> {
+    name: &'w str,
+    line: Option<usize>,
 }
 
-/// The word that `buf[2]` names.
-fn indexed<'a>(source: SourceText<'a>, name: &str, index: &str) -> Result<Named<'a>, WatchKind> {
-    let local = local_of(source, name).ok_or(WatchKind::NoLocal)?;
-    let none = WatchKind::NoIndex(local.words);
-    let index = index.parse::<usize>().or(Err(none))?;
-    if local.words <= index {
-        return Err(none);
+/// The name that a word says, with the line behind it where it has one.
+fn wanted_of(word: &str) -> Result<Wanted<'_>, WatchKind> {
+    let Some((name, line)) = word.split_once("@") else {
+        return Ok(Wanted {
+            name: word,
+            line: None,
+        });
+    };
+    match line.parse::<usize>() {
+        Ok(line) => Ok(Wanted {
+            name,
+            line: Some(line),
+        }),
+        Err(_) => Err(WatchKind::NotDeclared),
     }
-    Ok(Named {
-        first: local.first.checked_add(index).ok_or(none)?,
-        words: 1,
-        ..local
-    })
+}
+
+impl Wanted<'_> {
+    /// Whether a local is one of those that are wanted.
+    fn has(&self, local: &Named<'_>) -> bool {
+        local.name == self.name && self.line.unwrap_or(local.line) == local.line
+    }
+
+    /// Why there is none.
+    fn missing(&self) -> WatchKind {
+        match self.line {
+            Some(_) => WatchKind::NotDeclared,
+            None => WatchKind::NoLocal,
+        }
+    }
+}
+
+/// Why an item of the option names no words, or why they are not kept.
+#[derive(Clone, Copy, Debug, PartialEq, Eq)]
+enum WatchFault {
+    None(WatchKind),
+    Memory,
+}
+
+impl From<AllocError> for WatchFault {
+    ghost from_gives = { λ _ e. e ≡ watch.Memory };
+
+    fn from(_: AllocError) -> Self {
+        WatchFault::Memory
+    }
+}
+
+impl<T: Drop> From<AllocFailed<T>> for WatchFault {
+    ghost from_gives = { λ _ e. e ≡ watch.Memory };
+
+    fn from(_: AllocFailed<T>) -> Self {
+        WatchFault::Memory
+    }
+}
+
+impl From<WatchKind> for WatchFault {
+    ghost from_gives = { λ kind e. e ≡ watch.None kind };
+
+    fn from(kind: WatchKind) -> Self {
+        WatchFault::None(kind)
+    }
+}
+
+/// Adds the locals that a word names: each of its name, or that of a line.
+fn push_locals<'a>(
+    watched: &mut Vec<Named<'a>>,
+    source: SourceText<'a>,
+    word: &str,
+) -> Result<(), WatchFault> {
+    let wanted = wanted_of(word)?;
+    let before = watched.len();
+    for local in source.words {
+        if wanted.has(local) {
+            watched.push(*local)?;
+        }
+    }
+    if watched.len() == before {
+        return Err(WatchFault::None(wanted.missing()));
+    }
+    Ok(())
+}
+
+/// Adds the words that `buf[2]` names: of each local that has as many.
+fn push_indexed<'a>(
+    watched: &mut Vec<Named<'a>>,
+    source: SourceText<'a>,
+    word: &str,
+    index: &str,
+) -> Result<(), WatchFault> {
+    let wanted = wanted_of(word)?;
+    let mut most = 0;
+    let before = watched.len();
+    let index = index.parse::<usize>().ok();
+    for local in source.words {
+        if wanted.has(local) {
+            most = most.max(local.words);
+            if let Some(index) = index.filter(|index| *index < local.words) {
+                watched.push(Named {
+                    first: local.first.saturating_add(index),
+                    words: 1,
+                    ..*local
+                })?;
+            }
+        }
+    }
+    if watched.len() > before {
+        Ok(())
+    } else if most == 0 {
+        Err(WatchFault::None(wanted.missing()))
+    } else {
+        Err(WatchFault::None(WatchKind::NoIndex(most)))
+    }
 }
 
 /// The word that `w5` names.
@@ -121,27 +219,33 @@ fn numbered(image: &Image, number: &str) -> Result<Named<'static>, WatchKind> {
             name: "",
             from: 0,
             to: usize::MAX,
+            line: 0,
         })
     } else {
         Err(WatchKind::NoWord(image.workspace))
     }
 }
 
-/// The words that an item of the option names.
-fn watched_by<'a>(
+/// Adds the words that an item of the option names.
+fn push_watched<'a>(
+    watched: &mut Vec<Named<'a>>,
     image: &Image,
     source: SourceText<'a>,
     item: &str,
-) -> Result<Named<'a>, WatchKind> {
-    if let Some(local) = local_of(source, item) {
-        return Ok(local);
-    }
+) -> Result<(), WatchFault> {
     if let Some((name, index)) = item.strip_suffix("]").and_then(|item| item.split_once("[")) {
-        return indexed(source, name, index);
+        return push_indexed(watched, source, name, index);
+    }
+    match push_locals(watched, source, item) {
+        Err(WatchFault::None(WatchKind::NoLocal)) => {}
+        added => return added,
     }
     match item.strip_prefix("w") {
-        Some(number) => numbered(image, number),
-        None => Err(WatchKind::NoLocal),
+        Some(number) => {
+            watched.push(numbered(image, number)?)?;
+            Ok(())
+        }
+        None => Err(WatchFault::None(WatchKind::NoLocal)),
     }
 }
 
@@ -157,9 +261,10 @@ fn watched_of<'a>(
         return Ok(watched);
     };
     for item in watch.split(',') {
-        match watched_by(image, source, item) {
-            Ok(named) => watched.push(named)?,
-            Err(kind) => {
+        match push_watched(&mut watched, image, source, item) {
+            Ok(()) => {}
+            Err(WatchFault::Memory) => return Err(Ending::Failed(Failure::Memory)),
+            Err(WatchFault::None(kind)) => {
                 let item = String::from_str(alloc, item)?;
                 return Err(Ending::Refused(Refusal::NoWatched(item, kind)));
             }
