@@ -25,6 +25,8 @@ pub enum WatchKind {
     NotDeclared,
     #[error("the local has {0} words, from 0 on")]
     NoIndex(usize),
+    #[error("the local has {0} bytes, from 0 on")]
+    NoByte(usize),
     #[error("the workspace has {0} words, from 0 on")]
     NoWord(u32),
 }

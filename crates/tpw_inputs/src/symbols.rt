@@ -40,6 +40,7 @@ fn words_of<'a>(alloc: Global, located: &[Located<'a>]) -> Result<Vec<Named<'a>>
             from: name.from as usize,
             to: name.to as usize,
             line: name.line as usize,
+            bytes: name.bytes.map(|bytes| bytes as usize),
         })?;
     }
     Ok(words)

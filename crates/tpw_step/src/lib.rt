@@ -11,6 +11,7 @@ mod run;
 mod span;
 mod stepper;
 mod value;
+mod watched;
 mod workspace;
 
 pub use profile::{Profile, RunEnd, count_run};
@@ -18,3 +19,4 @@ pub use reason::Reason;
 pub use run::{End, Shown, show_run};
 pub use span::{Place, Span};
 pub use stepper::Stepper;
+pub use watched::Watched;

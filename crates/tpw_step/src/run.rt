@@ -6,13 +6,14 @@ use crate::reason::{Reason, Snapshot, instruction_at, why};
 use crate::span::Span;
 use crate::stepper::Stepper;
 use crate::value::{Style, Value};
+use crate::watched::Watched;
 use crate::workspace::{Values, Workspace, Written};
 use std::alloc::{AllocError, Global};
 use std::io::Write;
 use tp_image::Image;
 use tp_link::{Link, LinkDevice, LinkFault, Links, Media};
 use tp_step::profile::{self, MEM_START};
-use tpw_debug::{Named, ShowFault, SourceText};
+use tpw_debug::{ShowFault, SourceText};
 use tpw_machine::{Registers, Turn};
 
 /// The longest packet, result or trace message, in bytes.
@@ -44,8 +45,8 @@ pub enum End {
 pub struct Shown<'a> {
     /// Which instructions are.
     pub span: Span,
-    /// Where there are some, only instructions that change one of these words are.
-    pub watched: &'a [Named<'a>],
+    /// Where there are some, only instructions that change one of these bytes are.
+    pub watched: &'a [Watched],
     /// Debug information of the code.
     pub source: SourceText<'a>,
     /// Whether each number has its hexadecimal behind it.

@@ -1,7 +1,8 @@
 //! The words of a workspace, and those that an instruction wrote.
 
 use crate::stepper::Stepper;
-use crate::value::{Style, Value};
+use crate::value::{Style, Value, write_byte};
+use crate::watched::Watched;
 use std::alloc::{AllocError, Global};
 use std::fmt;
 use tp_step::profile::{MEM_START, WORD_BYTES};
@@ -51,23 +52,63 @@ pub(crate) struct Written<'a> {
     pub(crate) style: Style<'a>,
 }
 
-/// A word of the workspace and its value: ` buf[2]=3`, or ` w5=3` with the word's number where it has no name.
+/// The bytes of a word, low byte first; none is defined where the word is not.
+fn bytes_of(word: Option<u32>) -> [Option<u8>; 4] {
+    match word {
+        Some(value) => {
+            let [a, b, c, d] = value.to_le_bytes();
+            [Some(a), Some(b), Some(c), Some(d)]
+        }
+        None => [None; 4],
+    }
+}
+
+/// A word of the workspace, as it was and as it is: ` buf[2]=3`, or ` w5=3` with the word's number where it has no name;
+/// of an array of bytes each byte that is another.
 #[derive(Clone, Copy)]
 struct Valued<'a> {
     word: usize,
+    before: Option<u32>,
     value: Value<'a>,
+}
+
+impl Valued<'_> {
+    /// Writes the bytes of an array that are other than before.
+    fn write_bytes<W: fmt::Write>(
+        &self,
+        named: Named<'_>,
+        bytes: usize,
+        f: &mut fmt::Formatter<W>,
+    ) -> fmt::Result {
+        let first = named.first_byte(self.word);
+        let both = bytes_of(self.before)
+            .into_iter()
+            .zip(bytes_of(self.value.word));
+        for (i, (old, new)) in both.enumerate() {
+            let index = first.saturating_add(i);
+            if old != new && index < bytes {
+                let name = named.of_byte(index);
+                write!(f, " {name}=")?;
+                write_byte(f, new, self.value.style.hexadecimal)?;
+            }
+        }
+        Ok(())
+    }
 }
 
 impl fmt::Display for Valued<'_> {
     fn fmt<W: fmt::Write>(&self, f: &mut fmt::Formatter<W>) -> fmt::Result {
         let word = self.word;
         let value = self.value;
-        match value.style.source.named(word) {
-            Some(named) => {
+        let Some(named) = value.style.source.named(word) else {
+            return write!(f, " w{word}={value}");
+        };
+        match named.bytes {
+            Some(bytes) => self.write_bytes(named, bytes, f),
+            None => {
                 let name = named.of(word);
                 write!(f, " {name}={value}")
             }
-            None => write!(f, " w{word}={value}"),
         }
     }
 }
@@ -89,7 +130,11 @@ impl fmt::Display for Values<'_> {
                     word: *value,
                     style,
                 };
-                let valued = Valued { word, value };
+                let valued = Valued {
+                    word,
+                    before: Some(0),
+                    value,
+                };
                 write!(f, "{valued}")?;
             }
         }
@@ -97,9 +142,26 @@ impl fmt::Display for Values<'_> {
     }
 }
 
+/// Whether a byte of a word that is watched at an address changes from one value of the word to another.
+fn is_seen(
+    watched: &[Watched],
+    at: Option<usize>,
+    word: usize,
+    old: Option<u32>,
+    new: Option<u32>,
+) -> bool {
+    let first = word.saturating_mul(WORD_BYTES as usize);
+    let mut both = bytes_of(old)
+        .into_iter()
+        .zip(bytes_of(new))
+        .enumerate();
+    both.any(|(i, (old, new))| old != new
+        && watched.iter().any(|one| one.has(first.saturating_add(i), at)))
+}
+
 impl Written<'_> {
-    /// Whether a word of these is among them, where its name is in scope.
-    pub(crate) fn changes(&self, watched: &[Named<'_>]) -> bool {
+    /// Whether a byte of these is among them.
+    pub(crate) fn changes(&self, watched: &[Watched]) -> bool {
         let at = self.style.source.at;
         let mut words = self
             .before
@@ -107,8 +169,7 @@ impl Written<'_> {
             .iter()
             .zip(self.after.words.iter())
             .enumerate();
-        words.any(|(i, (old, new))| *old != *new
-            && watched.iter().any(|named| named.has(i) && named.is_in_scope(at)))
+        words.any(|(i, (old, new))| *old != *new && is_seen(watched, at, i, *old, *new))
     }
 }
 
@@ -122,7 +183,11 @@ impl fmt::Display for Written<'_> {
                     word: *new,
                     style: self.style,
                 };
-                let valued = Valued { word: i, value };
+                let valued = Valued {
+                    word: i,
+                    before: *old,
+                    value,
+                };
                 write!(f, "{valued}")?;
             }
         }

@@ -8,16 +8,17 @@ use crate::place::place_of;
 use std::alloc::{AllocError, AllocFailed, Global};
 use std::io::Write;
 use tp_image::Image;
+use tp_image::layout::WORD_BYTES;
 use tpw_command_line::{Ending, FROM, PlaceKind, Refusal, StepOptions, UNTIL, WatchKind};
 use tpw_debug::{Named, SourceText};
 use tpw_files::{Failure, Outcome};
-use tpw_step::{End, Place, Shown, Span, show_run};
+use tpw_step::{End, Place, Shown, Span, Watched, show_run};
 
 /// The part of a run that is shown: from where and as far as what, the words whose changes are shown, and how.
 #[derive(Drop)]
 pub struct Excerpt<'a> {
     span: Span,
-    watched: Vec<Named<'a>>,
+    watched: Vec<Watched>,
     source: SourceText<'a>,
     hexadecimal: bool,
 }
@@ -159,16 +160,16 @@ impl From<WatchKind> for WatchFault {
 }
 
 /// Adds the locals that a word names: each of its name, or that of a line.
-fn push_locals<'a>(
-    watched: &mut Vec<Named<'a>>,
-    source: SourceText<'a>,
+fn push_locals(
+    watched: &mut Vec<Watched>,
+    source: SourceText<'_>,
     word: &str,
 ) -> Result<(), WatchFault> {
     let wanted = wanted_of(word)?;
     let before = watched.len();
     for local in source.words {
         if wanted.has(local) {
-            watched.push(*local)?;
+            watched.push(Watched::of(local))?;
         }
     }
     if watched.len() == before {
@@ -177,60 +178,65 @@ fn push_locals<'a>(
     Ok(())
 }
 
-/// Adds the words that `buf[2]` names: of each local that has as many.
-fn push_indexed<'a>(
-    watched: &mut Vec<Named<'a>>,
-    source: SourceText<'a>,
+/// The element of a local that has a number: a word, or a byte of an array of such.
+fn element_of(local: &Named<'_>, index: usize) -> Option<Watched> {
+    match local.bytes {
+        Some(bytes) if index < bytes => Some(Watched::of(local).part(index, 1)),
+        None if index < local.words => {
+            Some(Watched::of(local).part(index.saturating_mul(WORD_BYTES), WORD_BYTES))
+        }
+        _ => None,
+    }
+}
+
+/// Why a local has no element.
+fn no_element(local: &Named<'_>) -> WatchKind {
+    match local.bytes {
+        Some(bytes) => WatchKind::NoByte(bytes),
+        None => WatchKind::NoIndex(local.words),
+    }
+}
+
+/// Adds what `buf[2]` names: an element of each local that has as many.
+fn push_indexed(
+    watched: &mut Vec<Watched>,
+    source: SourceText<'_>,
     word: &str,
     index: &str,
 ) -> Result<(), WatchFault> {
     let wanted = wanted_of(word)?;
-    let mut most = 0;
+    let mut missing = wanted.missing();
     let before = watched.len();
     let index = index.parse::<usize>().ok();
     for local in source.words {
         if wanted.has(local) {
-            most = most.max(local.words);
-            if let Some(index) = index.filter(|index| *index < local.words) {
-                watched.push(Named {
-                    first: local.first.saturating_add(index),
-                    words: 1,
-                    ..*local
-                })?;
+            missing = no_element(local);
+            if let Some(element) = index.and_then(|index| element_of(local, index)) {
+                watched.push(element)?;
             }
         }
     }
-    if watched.len() > before {
-        Ok(())
-    } else if most == 0 {
-        Err(WatchFault::None(wanted.missing()))
-    } else {
-        Err(WatchFault::None(WatchKind::NoIndex(most)))
+    if watched.len() == before {
+        return Err(WatchFault::None(missing));
     }
+    Ok(())
 }
 
 /// The word that `w5` names.
-fn numbered(image: &Image, number: &str) -> Result<Named<'static>, WatchKind> {
+fn numbered(image: &Image, number: &str) -> Result<Watched, WatchKind> {
     let first = number.parse::<usize>().or(Err(WatchKind::NoLocal))?;
     if first < image.workspace as usize {
-        Ok(Named {
-            first,
-            words: 1,
-            name: "",
-            from: 0,
-            to: usize::MAX,
-            line: 0,
-        })
+        Ok(Watched::word(first))
     } else {
         Err(WatchKind::NoWord(image.workspace))
     }
 }
 
 /// Adds the words that an item of the option names.
-fn push_watched<'a>(
-    watched: &mut Vec<Named<'a>>,
+fn push_watched(
+    watched: &mut Vec<Watched>,
     image: &Image,
-    source: SourceText<'a>,
+    source: SourceText<'_>,
     item: &str,
 ) -> Result<(), WatchFault> {
     if let Some((name, index)) = item.strip_suffix("]").and_then(|item| item.split_once("[")) {
@@ -250,12 +256,12 @@ fn push_watched<'a>(
 }
 
 /// The words that the option names, between commas.
-fn watched_of<'a>(
+fn watched_of(
     alloc: Global,
     image: &Image,
-    source: SourceText<'a>,
+    source: SourceText<'_>,
     watch: &Option<String>,
-) -> Result<Vec<Named<'a>>, Ending> {
+) -> Result<Vec<Watched>, Ending> {
     let mut watched = Vec::new(alloc);
     let Some(watch) = watch else {
         return Ok(watched);
