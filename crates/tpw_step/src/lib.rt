@@ -6,6 +6,7 @@
 mod operand;
 mod prefixes;
 mod profile;
+mod reach;
 mod reason;
 mod run;
 mod span;

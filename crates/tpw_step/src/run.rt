@@ -2,14 +2,16 @@
 
 use crate::operand::NamedInstr;
 use crate::prefixes::prefixes_at;
+use crate::reach::{Reach, reach_of};
 use crate::reason::{Reason, Snapshot, instruction_at, why};
 use crate::span::Span;
 use crate::stepper::Stepper;
 use crate::value::{Style, Value};
 use crate::watched::Watched;
-use crate::workspace::{Values, Workspace, Written};
+use crate::workspace::{Change, Values, Workspace, Written};
 use std::alloc::{AllocError, Global};
 use std::io::Write;
+use tp_decode::Instr;
 use tp_image::Image;
 use tp_link::{Link, LinkDevice, LinkFault, Links, Media};
 use tp_step::profile::{self, MEM_START};
@@ -79,8 +81,11 @@ fn taken<D: LinkDevice>(
     device: &mut D,
     kept: &mut Vec<u8>,
 ) -> Result<String, AllocError> {
-    let mut bytes = [0; ROOM];
     let held = device.held().min(ROOM);
+    if held == 0 {
+        return Ok(String::new(alloc));
+    }
+    let mut bytes = [0; ROOM];
     let message = &mut bytes[..held];
     match device.receive(message) {
         Ok(()) => {
@@ -95,17 +100,16 @@ fn taken<D: LinkDevice>(
 fn write_registers<W: Write>(
     writer: &mut W,
     count: u64,
-    code: &[u8],
-    at: i64,
-    before: &Registers,
+    made: &Made,
     after: &Registers,
     style: Style<'_>,
 ) -> Result<(), ShowFault> {
-    let written = match instruction_at(code, at) {
+    let at = made.at;
+    let written = match made.instr {
         Some(instr) => {
             let instr = NamedInstr {
                 instr,
-                wptr: word_of(before),
+                wptr: word_of(&made.before),
                 source: style.source,
             };
             write!(writer, "{count} {at} {instr}:")
@@ -200,62 +204,121 @@ fn left(turn: Option<Turn>, snapshot: Snapshot<'_>) -> Option<End> {
     }
 }
 
-/// Makes one instruction, and writes its line where it is to be shown. How the run is left comes back, if it is; else
-/// `stands` are the words where it is now.
-fn show_one<D: LinkDevice, W: Write>(
-    alloc: Global,
-    stepper: &mut Stepper,
-    links: &mut Links<D>,
-    stands: &mut Workspace,
-    sent: &mut Sent,
-    progress: &mut Progress,
+/// An instruction that was made: its address, what it is, the registers before it, the words that it changed, and a
+/// message that it sent, in hexadecimal.
+#[derive(Drop)]
+struct Made {
+    at: i64,
+    instr: Option<Instr>,
+    before: Registers,
+    changes: Vec<Change>,
+    result: String,
+    trace: String,
+}
+
+/// A run: where it is, the words that stand there, what it has sent, and how far it is.
+#[derive(Drop)]
+struct Run {
+    stepper: Stepper,
+    stands: Workspace,
+    sent: Sent,
+    progress: Progress,
+}
+
+/// What becomes of a run by its next instruction.
+#[derive(Drop)]
+enum Next {
+    Made(Made),
+    Ended(End),
+}
+
+impl Run {
+    /// The start of a packet's run of an image.
+    fn new(alloc: Global, image: Image) -> Result<Run, AllocError> {
+        let stepper = Stepper::new(image);
+        let stands = Workspace::of(alloc, &stepper)?;
+        let progress = Progress {
+            count: 0,
+            last: stepper.registers().iptr,
+            is_shown: false,
+        };
+        Ok(Run {
+            stepper,
+            stands,
+            sent: Sent {
+                result: Vec::new(alloc),
+                trace: Vec::new(alloc),
+            },
+            progress,
+        })
+    }
+
+    /// Makes one instruction.
+    fn make_one<D: LinkDevice>(
+        &mut self,
+        alloc: Global,
+        links: &mut Links<D>,
+    ) -> Result<Next, ShowFault> {
+        let before = self.stepper.registers();
+        let at = before.iptr;
+        let phase = self.stepper.phase();
+        let instr = instruction_at(&self.stepper.image().code, at);
+        let turn = self.stepper.next(links);
+        let snapshot = Snapshot {
+            image: self.stepper.image(),
+            registers: before,
+            phase,
+            workspace: &self.stands,
+        };
+        if let Some(end) = left(turn, snapshot) {
+            return Ok(Next::Ended(end));
+        }
+        let bytes = (prefixes_at(&self.stepper.image().code, at) as u64).saturating_add(1);
+        self.progress.count = self.progress.count.saturating_add(bytes);
+        self.progress.last = at;
+        let reach = match instr {
+            Some(instr) => reach_of(instr, &before),
+            None => Reach::ALL,
+        };
+        let mut changes = Vec::new(alloc);
+        self.stands
+            .refresh(&self.stepper, reach, &mut changes)?;
+        Ok(Next::Made(
+            Made {
+                at,
+                instr,
+                before,
+                changes,
+                result: taken(alloc, &mut links.sink, &mut self.sent.result)?,
+                trace: taken(alloc, &mut links.trace, &mut self.sent.trace)?,
+            },
+        ))
+    }
+}
+
+/// Writes the line of an instruction that was made, where it is to be shown.
+fn write_made<W: Write>(
+    run: &Run,
+    made: &Made,
     shown: Shown<'_>,
     writer: &mut W,
-) -> Result<Option<End>, ShowFault> {
-    let registers = stepper.registers();
-    let at = registers.iptr;
-    let phase = stepper.phase();
-    let turn = stepper.next(links);
-    let snapshot = Snapshot {
-        image: stepper.image(),
-        registers,
-        phase,
-        workspace: stands,
-    };
-    if let Some(end) = left(turn, snapshot) {
-        return Ok(Some(end));
-    }
-    let code = stepper.image().code.as_slice();
-    let bytes = (prefixes_at(code, at) as u64).saturating_add(1);
-    progress.count = progress.count.saturating_add(bytes);
-    progress.last = at;
-    let result = taken(alloc, &mut links.sink, &mut sent.result)?;
-    let trace = taken(alloc, &mut links.trace, &mut sent.trace)?;
-    let after = Workspace::of(alloc, stepper)?;
+) -> Result<(), ShowFault> {
+    let style = shown.style(made.at);
     let written = Written {
-        before: stands,
-        after: &after,
-        style: shown.style(at),
+        changes: &made.changes,
+        style,
     };
-    if progress.is_shown && (shown.watched.is_empty() || written.changes(shown.watched)) {
-        let behind = stepper.registers();
-        write_registers(
-            writer,
-            progress.count,
-            code,
-            at,
-            &registers,
-            &behind,
-            shown.style(at),
-        )?;
-        write!(writer, "{written}").map_err(|_| ShowFault::Write)?;
-        write_message(writer, "result", result.as_str())?;
-        write_message(writer, "trace", trace.as_str())?;
-        write_statement(writer, at, shown.source)?;
-        writeln!(writer).map_err(|_| ShowFault::Write)?;
+    if !run.progress.is_shown || !(shown.watched.is_empty() || written.changes(shown.watched)) {
+        return Ok(());
     }
-    *stands = after;
-    Ok(None)
+    let count = run.progress.count;
+    let behind = run.stepper.registers();
+    write_registers(writer, count, made, &behind, style)?;
+    write!(writer, "{written}").map_err(|_| ShowFault::Write)?;
+    write_message(writer, "result", made.result.as_str())?;
+    write_message(writer, "trace", made.trace.as_str())?;
+    write_statement(writer, made.at, shown.source)?;
+    writeln!(writer).map_err(|_| ShowFault::Write)
 }
 
 /// Writes the state in which a run was left: its registers, and the words that are defined and are not 0.
@@ -327,39 +390,24 @@ pub fn show_run<W: Write>(
     let mut media = Media::with_rooms(alloc, packet.len(), ROOM, ROOM)?;
     let mut links = media.wires();
     let _ = links.source.send(packet);
-    let mut stepper = Stepper::new(image);
-    let mut stands = Workspace::of(alloc, &stepper)?;
-    let mut sent = Sent {
-        result: Vec::new(alloc),
-        trace: Vec::new(alloc),
-    };
-    let mut progress = Progress {
-        count: 0,
-        last: stepper.registers().iptr,
-        is_shown: false,
-    };
+    let mut run = Run::new(alloc, image)?;
     let mut end = End::Unended;
     for _ in 0..MAX_INSTRUCTIONS {
-        if progress.comes_to(shown.span, stepper.registers().iptr) {
+        let at = run.stepper.registers().iptr;
+        if run.progress.comes_to(shown.span, at) {
             end = End::Left;
             break;
         }
-        let left = show_one(
-            alloc,
-            &mut stepper,
-            &mut links,
-            &mut stands,
-            &mut sent,
-            &mut progress,
-            shown,
-            writer,
-        )?;
-        if let Some(how) = left {
-            end = how;
-            break;
+        match run.make_one(alloc, &mut links)? {
+            Next::Made(made) => write_made(&run, &made, shown, writer)?,
+            Next::Ended(how) => {
+                end = how;
+                break;
+            }
         }
     }
-    write_end(alloc, &stepper, &sent, progress.count, end, writer)?;
-    write_state(&stepper, &stands, shown.style(progress.last), writer)?;
+    let style = shown.style(run.progress.last);
+    write_end(alloc, &run.stepper, &run.sent, run.progress.count, end, writer)?;
+    write_state(&run.stepper, &run.stands, style, writer)?;
     Ok(end)
 }

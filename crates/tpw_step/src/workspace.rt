@@ -1,5 +1,6 @@
 //! The words of a workspace, and those that an instruction wrote.
 
+use crate::reach::{Reach, Stretch, WORDS};
 use crate::stepper::Stepper;
 use crate::value::{Style, Value, write_byte};
 use crate::watched::Watched;
@@ -7,9 +8,6 @@ use std::alloc::{AllocError, Global};
 use std::fmt;
 use tp_step::profile::{MEM_START, WORD_BYTES};
 use tpw_debug::Named;
-
-/// The most words of a workspace.
-const WORDS: u32 = 512;
 
 /// The words of a workspace, as they stood once.
 #[derive(Drop)]
@@ -28,6 +26,44 @@ impl Workspace {
         Ok(Workspace { words })
     }
 
+    /// Takes over the words of a stretch where a run is. Those that have changed are appended.
+    fn refresh_stretch(
+        &mut self,
+        stepper: &Stepper,
+        stretch: Stretch,
+        changes: &mut Vec<Change>,
+    ) -> Result<(), AllocError> {
+        let end = stretch.end.clamp(0, i64::from(WORDS)) as u32;
+        let first = stretch.first.clamp(0, i64::from(WORDS)) as u32;
+        for i in first..end {
+            if let Some(word) = self.words.get_mut(i as usize) {
+                let before = *word;
+                let after = stepper.word(i);
+                if before != after {
+                    *word = after;
+                    changes.push(Change {
+                        word: i as usize,
+                        before,
+                        after,
+                    })?;
+                }
+            }
+        }
+        Ok(())
+    }
+
+    /// Takes over the words where a run is, of which an instruction may have written these. Those that have changed are
+    /// appended, in order.
+    pub(crate) fn refresh(
+        &mut self,
+        stepper: &Stepper,
+        reach: Reach,
+        changes: &mut Vec<Change>,
+    ) -> Result<(), AllocError> {
+        self.refresh_stretch(stepper, reach.low, changes)?;
+        self.refresh_stretch(stepper, reach.high, changes)
+    }
+
     /// Whether `bytes` bytes from an address on lie in it.
     pub(crate) fn holds(&self, address: u32, bytes: u32) -> bool {
         let first = u64::from(address);
@@ -44,11 +80,18 @@ impl Workspace {
     }
 }
 
+/// A word that was written, or made undefined: what it was, and what it is.
+#[derive(Clone, Copy, Debug, PartialEq, Eq)]
+pub(crate) struct Change {
+    pub(crate) word: usize,
+    pub(crate) before: Option<u32>,
+    pub(crate) after: Option<u32>,
+}
+
 /// The words that an instruction has changed.
 #[derive(Clone, Copy)]
 pub(crate) struct Written<'a> {
-    pub(crate) before: &'a Workspace,
-    pub(crate) after: &'a Workspace,
+    pub(crate) changes: &'a [Change],
     pub(crate) style: Style<'a>,
 }
 
@@ -142,54 +185,41 @@ impl fmt::Display for Values<'_> {
     }
 }
 
-/// Whether a byte of a word that is watched at an address changes from one value of the word to another.
-fn is_seen(
-    watched: &[Watched],
-    at: Option<usize>,
-    word: usize,
-    old: Option<u32>,
-    new: Option<u32>,
-) -> bool {
-    let first = word.saturating_mul(WORD_BYTES as usize);
-    let mut both = bytes_of(old)
-        .into_iter()
-        .zip(bytes_of(new))
-        .enumerate();
-    both.any(|(i, (old, new))| old != new
-        && watched.iter().any(|one| one.has(first.saturating_add(i), at)))
+impl Change {
+    /// Whether a byte that is watched at an address is another than before.
+    fn is_watched(&self, watched: &[Watched], at: Option<usize>) -> bool {
+        let first = self.word.saturating_mul(WORD_BYTES as usize);
+        let mut both = bytes_of(self.before)
+            .into_iter()
+            .zip(bytes_of(self.after))
+            .enumerate();
+        both.any(|(i, (old, new))| old != new
+            && watched.iter().any(|one| one.has(first.saturating_add(i), at)))
+    }
 }
 
 impl Written<'_> {
     /// Whether a byte of these is among them.
     pub(crate) fn changes(&self, watched: &[Watched]) -> bool {
         let at = self.style.source.at;
-        let mut words = self
-            .before
-            .words
+        self.changes
             .iter()
-            .zip(self.after.words.iter())
-            .enumerate();
-        words.any(|(i, (old, new))| *old != *new && is_seen(watched, at, i, *old, *new))
+            .any(|change| change.is_watched(watched, at))
     }
 }
 
 impl fmt::Display for Written<'_> {
     fn fmt<W: fmt::Write>(&self, f: &mut fmt::Formatter<W>) -> fmt::Result {
-        let before = self.before;
-        let after = self.after;
-        for (i, (old, new)) in before.words.iter().zip(after.words.iter()).enumerate() {
-            if *old != *new {
-                let value = Value {
-                    word: *new,
+        for change in self.changes {
+            let valued = Valued {
+                word: change.word,
+                before: change.before,
+                value: Value {
+                    word: change.after,
                     style: self.style,
-                };
-                let valued = Valued {
-                    word: i,
-                    before: *old,
-                    value,
-                };
-                write!(f, "{valued}")?;
-            }
+                },
+            };
+            write!(f, "{valued}")?;
         }
         Ok(())
     }
