@@ -64,6 +64,9 @@ pub enum Refusal {
     /// It asks for a check of a worker that is not in occam.
     #[error("error: --check is for workers in occam: files named .occ, or those given with --occam\n")]
     NoCheck,
+    /// It asks for the statements of a worker that is not in occam.
+    #[error("error: --statements is for workers in occam: files named .occ, or those given with --occam\n")]
+    NoStatements,
     /// It names standard input twice.
     #[error("error: standard input is read once: name a file for all but one of FILE, --packets and --expect\n")]
     StandardTwice,

@@ -113,10 +113,12 @@ fn named_item(placed: Placed) -> Option<(Place, u32)> {
     }
 }
 
-/// The stretches of code that come from these lines.
+/// The stretches of code that come from the lines in which a declaration is in scope, or from its own line: there a loop
+/// begins and goes on.
 fn stretches(
     alloc: Global,
     code: Sources<'_>,
+    own: u32,
     lines: &BTreeSet<u32>,
 ) -> Result<Vec<Stretch>, AllocError> {
     let mut all = Vec::new(alloc);
@@ -125,7 +127,7 @@ fn stretches(
         let is_in = code
             .lines
             .get(place)
-            .is_some_and(|line| lines.contains(line));
+            .is_some_and(|line| *line == own || lines.contains(line));
         match begun {
             None if is_in => begun = Some(*at),
             Some(from) if !is_in => {
@@ -156,10 +158,11 @@ fn add_names<'t>(
     };
     for one in declared.iter().filter(|one| one.place == place) {
         if let Some(name) = said_at(text, one.name) {
-            for Stretch { from, to } in stretches(alloc, code, &one.lines)? {
+            let line = one.name.line as u32;
+            for Stretch { from, to } in stretches(alloc, code, line, &one.lines)? {
                 let located = Located {
                     name,
-                    line: one.name.line as u32,
+                    line,
                     first: START.saturating_add(placed.local),
                     words,
                     bytes: named_bytes(text, storages, place, one.name),

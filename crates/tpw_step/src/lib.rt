@@ -3,6 +3,7 @@
 //! A [`Stepper`] holds an image and a tested machine. [`Stepper::next`] makes an instruction of the step relation.
 #![tactic(auto)]
 
+mod doing;
 mod operand;
 mod prefixes;
 mod profile;

@@ -1,9 +1,10 @@
 //! A whole run, printed line by line.
 
+use crate::doing::Doing;
 use crate::operand::NamedInstr;
 use crate::prefixes::prefixes_at;
 use crate::reach::{Reach, reach_of};
-use crate::reason::{Reason, Snapshot, instruction_at, why};
+use crate::reason::{Reason, Snapshot, instruction_at, why, words_on};
 use crate::span::Span;
 use crate::stepper::Stepper;
 use crate::value::{Style, Value};
@@ -53,11 +54,13 @@ pub struct Shown<'a> {
     pub source: SourceText<'a>,
     /// Whether each number has its hexadecimal behind it.
     pub hexadecimal: bool,
+    /// Whether a line is a statement of the text, and what it does, in place of an instruction.
+    pub statements: bool,
 }
 
 impl<'a> Shown<'a> {
     /// How values are written at an instruction.
-    fn style(&self, at: i64) -> Style<'a> {
+    pub(crate) fn style(&self, at: i64) -> Style<'a> {
         Style {
             source: match usize::try_from(at) {
                 Ok(at) => self.source.at(at),
@@ -160,7 +163,7 @@ fn write_statement<W: Write>(
 }
 
 /// Writes a word and bytes after it, where there are some.
-fn write_message<W: Write>(writer: &mut W, name: &str, bytes: &str) -> Result<(), ShowFault> {
+pub(crate) fn write_message<W: Write>(writer: &mut W, name: &str, bytes: &str) -> Result<(), ShowFault> {
     if bytes.is_empty() {
         Ok(())
     } else {
@@ -207,18 +210,34 @@ fn left(turn: Option<Turn>, snapshot: Snapshot<'_>) -> Option<End> {
 /// An instruction that was made: its address, what it is, the registers before it, the words that it changed, and a
 /// message that it sent, in hexadecimal.
 #[derive(Drop)]
-struct Made {
-    at: i64,
-    instr: Option<Instr>,
-    before: Registers,
-    changes: Vec<Change>,
-    result: String,
-    trace: String,
+pub(crate) struct Made {
+    pub(crate) at: i64,
+    pub(crate) instr: Option<Instr>,
+    pub(crate) before: Registers,
+    pub(crate) changes: Vec<Change>,
+    pub(crate) result: String,
+    pub(crate) trace: String,
+}
+
+impl Made {
+    /// The word that it stores a value in, by its number, and the first byte in that, if it is no message and no loop's.
+    pub(crate) fn stored(&self) -> Option<(usize, u32)> {
+        let registers = self.before;
+        let address = match self.instr? {
+            Instr::Stl(n) => words_on(registers.wptr, n),
+            Instr::Stnl(n) => words_on(registers.areg?, n),
+            Instr::Sb => registers.areg?,
+            _ => return None,
+        };
+        let bytes = address.checked_sub(MEM_START)?;
+        let word = bytes / profile::WORD_BYTES;
+        Some((word as usize, bytes % profile::WORD_BYTES))
+    }
 }
 
 /// A run: where it is, the words that stand there, what it has sent, and how far it is.
 #[derive(Drop)]
-struct Run {
+pub(crate) struct Run {
     stepper: Stepper,
     stands: Workspace,
     sent: Sent,
@@ -251,6 +270,26 @@ impl Run {
             },
             progress,
         })
+    }
+
+    /// A word where it is, if it is defined.
+    pub(crate) fn word(&self, number: usize) -> Option<u32> {
+        self.stands.word(number)
+    }
+
+    /// The steps made.
+    pub(crate) fn count(&self) -> u64 {
+        self.progress.count
+    }
+
+    /// Whether it has come to where printing begins.
+    pub(crate) fn is_shown(&self) -> bool {
+        self.progress.is_shown
+    }
+
+    /// Whether its error flag is set.
+    pub(crate) fn has_flag(&self) -> bool {
+        self.stepper.registers().error
     }
 
     /// Makes one instruction.
@@ -391,6 +430,7 @@ pub fn show_run<W: Write>(
     let mut links = media.wires();
     let _ = links.source.send(packet);
     let mut run = Run::new(alloc, image)?;
+    let mut doing = Doing::new(alloc);
     let mut end = End::Unended;
     for _ in 0..MAX_INSTRUCTIONS {
         let at = run.stepper.registers().iptr;
@@ -399,6 +439,9 @@ pub fn show_run<W: Write>(
             break;
         }
         match run.make_one(alloc, &mut links)? {
+            Next::Made(made) if shown.statements => {
+                doing.take(alloc, &run, made, shown, writer)?
+            }
             Next::Made(made) => write_made(&run, &made, shown, writer)?,
             Next::Ended(how) => {
                 end = how;
@@ -406,6 +449,7 @@ pub fn show_run<W: Write>(
             }
         }
     }
+    doing.write(shown, writer)?;
     let style = shown.style(run.progress.last);
     write_end(alloc, &run.stepper, &run.sent, run.progress.count, end, writer)?;
     write_state(&run.stepper, &run.stands, style, writer)?;

@@ -73,10 +73,15 @@ impl Workspace {
         MEM_START <= address && first.saturating_add(u64::from(bytes)) <= end
     }
 
+    /// The word of a number, if it is defined.
+    pub(crate) fn word(&self, number: usize) -> Option<u32> {
+        self.words.get(number).copied().flatten()
+    }
+
     /// The word at an address, if it is defined.
     pub(crate) fn at(&self, address: u32) -> Option<u32> {
         let i = address.checked_sub(MEM_START)? / WORD_BYTES;
-        self.words.get(i as usize).copied().flatten()
+        self.word(i as usize)
     }
 }
 

@@ -21,6 +21,7 @@ pub struct Excerpt<'a> {
     watched: Vec<Watched>,
     source: SourceText<'a>,
     hexadecimal: bool,
+    statements: bool,
 }
 
 /// The address of a statement of a text, or of a label.
@@ -294,6 +295,7 @@ pub fn excerpt_of<'a>(
         watched: watched_of(alloc, image, source, &stepping.watch)?,
         source,
         hexadecimal: stepping.hexadecimal,
+        statements: stepping.statements,
     })
 }
 
@@ -320,6 +322,7 @@ pub fn write_step<W: Write>(
         watched: &excerpt.watched,
         source: excerpt.source,
         hexadecimal: excerpt.hexadecimal,
+        statements: excerpt.statements,
     };
     let ran = show_run(alloc, image, packet, shown, writer);
     let flushed = writer.flush();
