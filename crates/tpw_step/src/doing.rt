@@ -1,12 +1,13 @@
 //! A run by statements of its text.
 
+use crate::lines::Lines;
 use crate::run::{Made, Run, Shown, write_message};
 use crate::workspace::{Change, Written};
 use std::alloc::{AllocError, Global};
 use std::io::Write;
 use tp_decode::Instr;
 use tp_step::profile::WORD_BYTES;
-use tpw_debug::{ShowFault, SourceText, Statement};
+use tpw_debug::{ShowFault, Statement};
 
 /// What a statement has done so far: the words under names that it has written, the messages that it has sent, and
 /// whether it has set the error flag.
@@ -22,12 +23,6 @@ pub(crate) struct Doing {
     result: String,
     trace: String,
     sets_flag: bool,
-}
-
-/// The statement that says the instruction at an address.
-fn statement_at<'a>(source: SourceText<'a>, at: i64) -> Option<Statement<'a>> {
-    let at = usize::try_from(at).ok()?;
-    source.statement_at(at)
 }
 
 /// A word that was stored and has the value that it had: as one that had another, in the byte that was stored, or in all
@@ -89,9 +84,10 @@ impl Doing {
     pub(crate) fn write<W: Write>(
         &self,
         shown: Shown<'_>,
+        lines: &Lines<'_>,
         writer: &mut W,
     ) -> Result<(), ShowFault> {
-        let statement = statement_at(shown.source, self.at);
+        let statement = lines.at(self.at);
         let (Some(Statement { line, text, .. }), true) = (statement, self.is_shown(shown)) else {
             return Ok(());
         };
@@ -114,14 +110,15 @@ impl Doing {
         &mut self,
         alloc: Global,
         run: &Run,
-        made: Made,
         shown: Shown<'_>,
+        lines: &Lines<'_>,
         writer: &mut W,
     ) -> Result<(), ShowFault> {
+        let made = &run.made;
         let source = shown.style(made.at).source;
         let mut changes = Vec::new(alloc);
         let again = if made.changes.is_empty() {
-            stored_again(run, &made)
+            stored_again(run, made)
         } else {
             None
         };
@@ -130,29 +127,30 @@ impl Doing {
                 changes.push(*change)?;
             }
         }
-        let line = statement_at(source, made.at).map(|statement| statement.line);
-        if self.is_left_by(line, &made, &changes) {
-            self.write(shown, writer)?;
+        let line = lines.at(made.at).map(|statement| statement.line);
+        if self.is_left_by(line, made, &changes) {
+            self.write(shown, lines, writer)?;
             *self = Doing::new(alloc);
             self.line = line;
         }
         if run.is_shown() {
-            self.add(run, made, &changes)?;
+            self.add(alloc, run, &changes)?;
         }
         Ok(())
     }
 
     /// Adds what an instruction has done.
-    fn add(&mut self, run: &Run, made: Made, changes: &[Change]) -> Result<(), AllocError> {
+    fn add(&mut self, alloc: Global, run: &Run, changes: &[Change]) -> Result<(), AllocError> {
+        let made = &run.made;
         self.at = made.at;
         self.count = run.count();
         self.changes.extend_from_slice(changes)?;
         self.sets_flag = self.sets_flag || (!made.before.error && run.has_flag());
         if !made.result.is_empty() {
-            self.result = made.result;
+            self.result = String::from_str(alloc, made.result.as_str())?;
         }
         if !made.trace.is_empty() {
-            self.trace = made.trace;
+            self.trace = String::from_str(alloc, made.trace.as_str())?;
         }
         Ok(())
     }

@@ -4,6 +4,7 @@
 #![tactic(auto)]
 
 mod doing;
+mod lines;
 mod operand;
 mod prefixes;
 mod profile;

@@ -68,19 +68,29 @@ impl Reach {
     }
 }
 
-/// The words that an instruction may write or make undefined where the registers before it are these.
-pub(crate) fn reach_of(instr: Instr, before: &Registers) -> Reach {
+/// The words below the one that Wptr points at that are undefined where a worker may give way.
+fn below(wptr: i64) -> Stretch {
+    Stretch::new(wptr.saturating_sub(i64::from(FRAME_WORDS)), FRAME_WORDS)
+}
+
+/// The words that an instruction may write or make undefined where the registers before it are these; none of one that
+/// writes none.
+pub(crate) fn reach_of(instr: Instr, before: &Registers) -> Option<Reach> {
     let wptr = word_at(before.wptr);
-    let below = Stretch::new(wptr.saturating_sub(i64::from(FRAME_WORDS)), FRAME_WORDS);
-    let a = word_at(before.areg.unwrap_or(0));
-    let b = word_at(before.breg.unwrap_or(0));
+    let a = before.areg.unwrap_or(0);
     match instr {
-        Instr::Stl(n) => Reach::of(Stretch::new(wptr.saturating_add(i64::from(n)), 1)),
-        Instr::Stnl(n) => Reach::of(Stretch::new(a.saturating_add(i64::from(n)), 1)),
-        Instr::Sb => Reach::of(Stretch::new(a, 1)),
-        Instr::Jump(_) => Reach::of(below),
-        Instr::Lend => Reach::both(below, Stretch::new(b, 2)),
-        Instr::Input | Instr::Output | Instr::MoveBytes => Reach::ALL,
+        Instr::Stl(n) => Some(Reach::of(Stretch::new(wptr.saturating_add(i64::from(n)), 1))),
+        Instr::Stnl(n) => Some(Reach::of(Stretch::new(
+            word_at(a).saturating_add(i64::from(n)),
+            1,
+        ))),
+        Instr::Sb => Some(Reach::of(Stretch::new(word_at(a), 1))),
+        Instr::Jump(_) => Some(Reach::of(below(wptr))),
+        Instr::Lend => {
+            let block = word_at(before.breg.unwrap_or(0));
+            Some(Reach::both(below(wptr), Stretch::new(block, 2)))
+        }
+        Instr::Input | Instr::Output | Instr::MoveBytes => Some(Reach::ALL),
         Instr::Ldlp(_)
         | Instr::Ldnl(_)
         | Instr::Ldc(_)
@@ -112,6 +122,6 @@ pub(crate) fn reach_of(instr: Instr, before: &Registers) -> Reach {
         | Instr::BitAnd
         | Instr::BitOr
         | Instr::Sum
-        | Instr::Mul => Reach::of(Stretch::NONE),
+        | Instr::Mul => None,
     }
 }

@@ -1,6 +1,7 @@
 //! A whole run, printed line by line.
 
 use crate::doing::Doing;
+use crate::lines::Lines;
 use crate::operand::NamedInstr;
 use crate::prefixes::prefixes_at;
 use crate::reach::{Reach, reach_of};
@@ -147,12 +148,9 @@ fn write_values<W: Write>(
 fn write_statement<W: Write>(
     writer: &mut W,
     at: i64,
-    source: SourceText<'_>,
+    lines: &Lines<'_>,
 ) -> Result<(), ShowFault> {
-    let statement = usize::try_from(at)
-        .ok()
-        .and_then(|at| source.statement_at(at));
-    match statement {
+    match lines.at(at) {
         Some(statement) => {
             let line = statement.line;
             let text = statement.text;
@@ -235,20 +233,23 @@ impl Made {
     }
 }
 
-/// A run: where it is, the words that stand there, what it has sent, and how far it is.
+/// A run: where it is, the words that stand there, the instruction that was made last, what it has sent, and how far it
+/// is.
 #[derive(Drop)]
 pub(crate) struct Run {
     stepper: Stepper,
     stands: Workspace,
+    pub(crate) made: Made,
     sent: Sent,
     progress: Progress,
 }
 
-/// What becomes of a run by its next instruction.
-#[derive(Drop)]
-enum Next {
-    Made(Made),
-    Ended(End),
+/// Whether an instruction may send a message.
+fn may_send(instr: Option<Instr>) -> bool {
+    match instr {
+        Some(instr) => instr == Instr::Output,
+        None => true,
+    }
 }
 
 impl Run {
@@ -256,14 +257,23 @@ impl Run {
     fn new(alloc: Global, image: Image) -> Result<Run, AllocError> {
         let stepper = Stepper::new(image);
         let stands = Workspace::of(alloc, &stepper)?;
+        let before = stepper.registers();
         let progress = Progress {
             count: 0,
-            last: stepper.registers().iptr,
+            last: before.iptr,
             is_shown: false,
         };
         Ok(Run {
             stepper,
             stands,
+            made: Made {
+                at: before.iptr,
+                instr: None,
+                before,
+                changes: Vec::new(alloc),
+                result: String::new(alloc),
+                trace: String::new(alloc),
+            },
             sent: Sent {
                 result: Vec::new(alloc),
                 trace: Vec::new(alloc),
@@ -292,62 +302,86 @@ impl Run {
         self.stepper.registers().error
     }
 
-    /// Makes one instruction.
-    fn make_one<D: LinkDevice>(
+    /// Takes what the devices hold, where the instruction that was made may have sent it.
+    fn take_sent<D: LinkDevice>(
         &mut self,
         alloc: Global,
         links: &mut Links<D>,
-    ) -> Result<Next, ShowFault> {
-        let before = self.stepper.registers();
+    ) -> Result<(), AllocError> {
+        self.made.result.clear();
+        self.made.trace.clear();
+        if may_send(self.made.instr) {
+            self.made.result = taken(alloc, &mut links.sink, &mut self.sent.result)?;
+            self.made.trace = taken(alloc, &mut links.trace, &mut self.sent.trace)?;
+        }
+        Ok(())
+    }
+
+    /// Takes over the words that the instruction that was made has changed.
+    fn take_changes(&mut self) -> Result<(), AllocError> {
+        self.made.changes.clear();
+        let reach = match self.made.instr {
+            Some(instr) => reach_of(instr, &self.made.before),
+            None => Some(Reach::ALL),
+        };
+        match reach {
+            Some(reach) => self
+                .stands
+                .refresh(&self.stepper, reach, &mut self.made.changes),
+            None => Ok(()),
+        }
+    }
+
+    /// Makes one instruction, before which the registers are these. How the run is left comes back, if it is.
+    fn make_one<D: LinkDevice>(
+        &mut self,
+        alloc: Global,
+        before: Registers,
+        links: &mut Links<D>,
+    ) -> Result<Option<End>, ShowFault> {
         let at = before.iptr;
         let phase = self.stepper.phase();
-        let instr = instruction_at(&self.stepper.image().code, at);
         let turn = self.stepper.next(links);
-        let snapshot = Snapshot {
-            image: self.stepper.image(),
-            registers: before,
-            phase,
-            workspace: &self.stands,
-        };
-        if let Some(end) = left(turn, snapshot) {
-            return Ok(Next::Ended(end));
+        if !matches!(turn, Some(Turn::Made)) {
+            let snapshot = Snapshot {
+                image: self.stepper.image(),
+                registers: before,
+                phase,
+                workspace: &self.stands,
+            };
+            return Ok(left(turn, snapshot));
         }
-        let bytes = (prefixes_at(&self.stepper.image().code, at) as u64).saturating_add(1);
+        let code = self.stepper.image().code.as_slice();
+        let bytes = (prefixes_at(code, at) as u64).saturating_add(1);
+        self.made.at = at;
+        self.made.instr = instruction_at(code, at);
+        self.made.before = before;
         self.progress.count = self.progress.count.saturating_add(bytes);
         self.progress.last = at;
-        let reach = match instr {
-            Some(instr) => reach_of(instr, &before),
-            None => Reach::ALL,
-        };
-        let mut changes = Vec::new(alloc);
-        self.stands
-            .refresh(&self.stepper, reach, &mut changes)?;
-        Ok(Next::Made(
-            Made {
-                at,
-                instr,
-                before,
-                changes,
-                result: taken(alloc, &mut links.sink, &mut self.sent.result)?,
-                trace: taken(alloc, &mut links.trace, &mut self.sent.trace)?,
-            },
-        ))
+        self.take_changes()?;
+        self.take_sent(alloc, links)?;
+        Ok(None)
     }
 }
 
 /// Writes the line of an instruction that was made, where it is to be shown.
 fn write_made<W: Write>(
     run: &Run,
-    made: &Made,
     shown: Shown<'_>,
+    lines: &Lines<'_>,
     writer: &mut W,
 ) -> Result<(), ShowFault> {
+    let made = &run.made;
+    let is_watched = !shown.watched.is_empty();
+    if !run.progress.is_shown || (is_watched && made.changes.is_empty()) {
+        return Ok(());
+    }
     let style = shown.style(made.at);
     let written = Written {
         changes: &made.changes,
         style,
     };
-    if !run.progress.is_shown || !(shown.watched.is_empty() || written.changes(shown.watched)) {
+    if is_watched && !written.changes(shown.watched) {
         return Ok(());
     }
     let count = run.progress.count;
@@ -356,7 +390,7 @@ fn write_made<W: Write>(
     write!(writer, "{written}").map_err(|_| ShowFault::Write)?;
     write_message(writer, "result", made.result.as_str())?;
     write_message(writer, "trace", made.trace.as_str())?;
-    write_statement(writer, made.at, shown.source)?;
+    write_statement(writer, made.at, lines)?;
     writeln!(writer).map_err(|_| ShowFault::Write)
 }
 
@@ -429,27 +463,27 @@ pub fn show_run<W: Write>(
     let mut media = Media::with_rooms(alloc, packet.len(), ROOM, ROOM)?;
     let mut links = media.wires();
     let _ = links.source.send(packet);
+    let lines = Lines::of(alloc, shown.source, image.code.len())?;
     let mut run = Run::new(alloc, image)?;
     let mut doing = Doing::new(alloc);
     let mut end = End::Unended;
     for _ in 0..MAX_INSTRUCTIONS {
-        let at = run.stepper.registers().iptr;
-        if run.progress.comes_to(shown.span, at) {
+        let before = run.stepper.registers();
+        if run.progress.comes_to(shown.span, before.iptr) {
             end = End::Left;
             break;
         }
-        match run.make_one(alloc, &mut links)? {
-            Next::Made(made) if shown.statements => {
-                doing.take(alloc, &run, made, shown, writer)?
-            }
-            Next::Made(made) => write_made(&run, &made, shown, writer)?,
-            Next::Ended(how) => {
-                end = how;
-                break;
-            }
+        if let Some(how) = run.make_one(alloc, before, &mut links)? {
+            end = how;
+            break;
+        }
+        if shown.statements {
+            doing.take(alloc, &run, shown, &lines, writer)?;
+        } else {
+            write_made(&run, shown, &lines, writer)?;
         }
     }
-    doing.write(shown, writer)?;
+    doing.write(shown, &lines, writer)?;
     let style = shown.style(run.progress.last);
     write_end(alloc, &run.stepper, &run.sent, run.progress.count, end, writer)?;
     write_state(&run.stepper, &run.stands, style, writer)?;
