@@ -9,10 +9,11 @@ use std::thread::Threads;
 use std::time::Clock;
 use tp_accept::{Accepted, accept};
 use tpw_command_line::{OutputOptions, PacketSource, RunOptions};
+use tpw_debug::SourceText;
 use tpw_files::{Input, Language, Outcome, Terminal};
 use tpw_inputs::read_occam;
 use tpw_occam_scoped::Process;
-use tpw_running::{Prepared, write_check};
+use tpw_running::{Prepared, Subject, write_check};
 use tpw_runs::{Notation, Style, packets_of, results_of};
 
 /// As many multiples of a packet are summed and traced as it says.
@@ -102,11 +103,15 @@ packets 4, lost 1, steps 604 to 640 of 1384, differing 3, packets without an exp
 checked 4, 3 differ: a fault of the compiler; please report it, with the text
 ";
 
+/// The image that a text is compiled to.
+fn image_of(rt: &impl Abort, alloc: Global, text: &str) -> Vec<u8> {
+    let read = unwrap(rt, read_occam(alloc, text.as_bytes()));
+    unwrap(rt, read.image_bytes(alloc))
+}
+
 /// The worker that a text is compiled to, accepted.
 fn accepted(rt: &impl Abort, alloc: Global, text: &str) -> Accepted {
-    let read = unwrap(rt, read_occam(alloc, text.as_bytes()));
-    let bytes = unwrap(rt, read.image_bytes(alloc));
-    unwrap(rt, accept(alloc, bytes))
+    unwrap(rt, accept(alloc, image_of(rt, alloc, text)))
 }
 
 /// The core of a text, which has its meaning.
@@ -161,11 +166,18 @@ where
             unwrap(rt, results_of(alloc, results, bytes, Notation::Words))
         }),
     };
+    let built = image_of(rt, alloc, text);
     let mut output = Vec::new(alloc);
     let mut errors = Vec::new(alloc);
     let mut terminal = Terminal {
         errors: &mut errors,
         is_terminal: false,
+    };
+    let subject = Subject {
+        input: &Input::Standard,
+        language: Language::Occam,
+        bytes: &built,
+        source: SourceText::NONE,
     };
     let outcome = write_check(
         rt,
@@ -173,8 +185,7 @@ where
         &prepared,
         &asked(alloc),
         &core,
-        &Input::Standard,
-        Language::Occam,
+        subject,
         &mut output,
         &mut terminal,
     );

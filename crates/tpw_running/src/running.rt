@@ -6,6 +6,7 @@ ghost use Rattle.std.specs.Option.{option_map};
 ghost use Rattle.tpw_running.specs.Checks.{HasChecked, IsChecked, IsFormOf, has_packets};
 
 use crate::checking::{Checking, write_checked};
+use crate::subject::Subject;
 use crate::summary::{is_as_expected, write_summary};
 use std::alloc::Global;
 use std::io::{Eprint, Write};
@@ -14,7 +15,7 @@ use std::thread::Threads;
 use std::time::Clock;
 use tp_accept::Accepted;
 use tpw_command_line::{ReplayHint, RunOptions};
-use tpw_files::{Failure, Input, Language, Outcome, Terminal};
+use tpw_files::{Failure, Outcome, Terminal};
 use tpw_occam_scoped::Process;
 use tpw_runs::{
     Expected, Form, Progress, Report, RunFault, Shown, Style, Tally, members_for, run_on_members,
@@ -38,12 +39,32 @@ pub struct Prepared {
     pub expected: Option<Vec<Expected>>,
 }
 
+/// Writes where a packet sets its error flag first: of what differs the first packet, where results are expected, else
+/// the first whose flag is set.
+fn write_flag<W: Write>(
+    alloc: Global,
+    writer: &mut W,
+    prepared: &Prepared,
+    subject: Subject<'_>,
+    tally: &Tally,
+) -> Result<(), Failure> {
+    let found = match prepared.expected {
+        Some(_) => tally.first,
+        None => tally.flagged,
+    };
+    if let Some(number) = found {
+        if let Some(packet) = prepared.packets.get(number) {
+            subject.write_flag(alloc, number, packet, writer)?;
+        }
+    }
+    Ok(())
+}
+
 /// Writes how to follow the first packet that has another result than the one that is expected, if there is one.
 fn write_following<W: Write>(
     writer: &mut W,
     asked: &RunOptions,
-    input: &Input,
-    language: Language,
+    subject: Subject<'_>,
     tally: &Tally,
 ) -> Result<(), Failure> {
     let Some(number) = tally.first else {
@@ -51,8 +72,8 @@ fn write_following<W: Write>(
     };
     let following = ReplayHint {
         source: &asked.output.source,
-        input,
-        language,
+        input: subject.input,
+        language: subject.language,
         number,
         packets: tally.packets(),
     };
@@ -180,8 +201,7 @@ pub fn write_run<T, W: Write, E: Write>(
     alloc: Global,
     prepared: &Prepared,
     asked: &RunOptions,
-    input: &Input,
-    language: Language,
+    subject: Subject<'_>,
     writer: &mut W,
     terminal: &mut Terminal<'_, E>,
 ) -> Result<Outcome, Failure>
@@ -211,7 +231,8 @@ where
             write_summary(terminal.errors, budget, &tally, form)?
         }
         Form::Lines(_) | Form::Differences(_, _) => {
-            write_following(writer, asked, input, language, &tally)?;
+            write_flag(alloc, writer, prepared, subject, &tally)?;
+            write_following(writer, asked, subject, &tally)?;
             write_summary(writer, budget, &tally, form)?
         }
     }
@@ -226,8 +247,7 @@ pub fn write_check<T, W: Write, E: Write>(
     prepared: &Prepared,
     asked: &RunOptions,
     core: &Process,
-    input: &Input,
-    language: Language,
+    subject: Subject<'_>,
     writer: &mut W,
     terminal: &mut Terminal<'_, E>,
 ) -> Result<Outcome, Failure>
@@ -258,7 +278,10 @@ where
     let packets = prepared.packets.len();
     let others = checking.others.len();
     let unexpected = checking.unexpected.len();
-    write_following(writer, asked, input, language, &checking.tally)?;
+    if prepared.expected.is_some() {
+        write_flag(alloc, writer, prepared, subject, &checking.tally)?;
+    }
+    write_following(writer, asked, subject, &checking.tally)?;
     write_summary(writer, Some(budget), &checking.tally, form)?;
     write_checked(writer, packets, others)?;
     let has_packets = has_packets(&prepared.expected, packets);

@@ -4,6 +4,7 @@
 #![tactic(auto)]
 
 mod doing;
+mod flag;
 mod lines;
 mod operand;
 mod prefixes;
@@ -17,6 +18,7 @@ mod value;
 mod watched;
 mod workspace;
 
+pub use flag::flag_set_at;
 pub use profile::{Profile, RunEnd, count_run};
 pub use reason::Reason;
 pub use run::{End, Shown, show_run};
