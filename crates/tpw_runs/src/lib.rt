@@ -11,6 +11,7 @@ mod packets;
 mod progress;
 mod report;
 mod tally;
+mod values;
 
 pub use batches::run_packets;
 pub use fault::{PacketFault, PacketKind, RunFault};
