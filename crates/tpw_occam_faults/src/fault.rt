@@ -184,7 +184,6 @@ impl FaultKind<'_> {
                 | FaultKind::BoolElements
                 | FaultKind::Arguments { .. }
                 | FaultKind::NotVal { .. }
-                | FaultKind::CaseOfBools
         )
     }
 }

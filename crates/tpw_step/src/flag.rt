@@ -4,7 +4,7 @@ use crate::run::{MAX_INSTRUCTIONS, ROOM};
 use crate::stepper::Stepper;
 use std::alloc::{AllocError, Global};
 use tp_image::Image;
-use tp_link::Media;
+use tp_link::{LinkDevice, Media};
 use tpw_machine::Turn;
 
 /// The address of the instruction by which a packet's run of an image first sets the error flag, if it does.
