@@ -1,11 +1,14 @@
 -- What a step of the passes does, between two edges and between two passes.
 use Rattle.std.specs.Prelude.{◌≡◌, ℕ, ◌^◌, ◌<◌, ◌≤◌, ◌≢◌, Bool, true, false, if◌then◌else◌, List, length, slice_set}
 use Rattle.std.specs.Prelude.{◌⊎◌, Option, Some, None, Result, Ok, Err}
+use Rattle.std.specs.List.{AllByRecursion}
 use Rattle.tp_decode.specs.declared.placed.Placed.{Placed}
-use Rattle.tp_decode.specs.Cutting.{Cut}
+use Rattle.tp_decode.specs.Cutting.{Cut, IsSpelled}
 use Rattle.tp_flow.specs.declared.edge.Edge.{Edge}
+use Rattle.tp_flow.specs.declared.range.LoopRange.{LoopRange}
+use Rattle.tp_flow.specs.NestRanges.{ranges}
 use Rattle.tp_flow.specs.NestKept.{KeepsNest}
-use Rattle.tp_image.specs.Image.{ImageValue}
+use Rattle.tp_image.specs.Image.{ImageValue, InRange}
 use Rattle.tp_state.specs.declared.state.State.{State}
 use Rattle.tp_state.specs.declared.fault.StateFault.{StateFault}
 use Rattle.tp_state.specs.declared.fault.StateFault.TheVariants.{Refused, Memory}
@@ -79,6 +82,18 @@ pub record IsStarted (at : ℕ) (old new : Passes) : Type 0 where
       → (new.carried ≡ old.carried) × ((is_in old.changed.items at ≡ false) ⊎ (table_of old.states.items at ≡ None))
 
 -- ---- between two passes
+
+-- a pass may be made: the code and the nest are an image's, edges join where they are said to, and no state is carried
+pub record MayPass (image : ImageValue) (loops : List LoopRange) (cuts : List Cut) (is_join : ℕ → Bool) (p : Passes)
+    : Type 0 where
+  pub range : InRange image
+  pub kept : KeepsNest image.loops image.workspace cuts
+  pub spelled : AllByRecursion IsSpelled cuts
+  pub nest : loops ≡ ranges image.loops
+  pub join : AreJoins image cuts is_join
+  pub places : HasPlaces cuts (length p.states.items)
+  pub rests : p.is_carried ≡ false
+  pub way : HasWhole image cuts is_join p 0
 
 -- this many passes have been made
 pub record IsAfter (image : ImageValue) (cuts : List Cut) (is_join : ℕ → Bool) (p : Passes) (number : ℕ) : Type 0 where

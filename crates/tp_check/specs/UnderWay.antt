@@ -4,6 +4,7 @@ use Rattle.std.specs.Prelude.{slice_index_or, ◌⊎◌, Some, Ok}
 use Rattle.tp_decode.specs.declared.placed.Placed.{Placed}
 use Rattle.tp_decode.specs.Cutting.{Cut}
 use Rattle.tp_flow.specs.declared.edge.Edge.{Edge}
+use Rattle.tp_flow.specs.declared.range.LoopRange.{LoopRange}
 use Rattle.tp_flow.specs.NestRanges.{ranges}
 use Rattle.tp_flow.specs.LoopsAround.{is_around}
 use Rattle.tp_flow.specs.AroundKept.{KeepsAround}
@@ -43,6 +44,12 @@ pub record MayBeTaken (image : ImageValue) (places : ℕ) (place : Placed) : Typ
 pub record KeepsSound (image : ImageValue) (place : Placed) : Type 0 where
   pub range : InRange image
   pub loads : LoadsWord place.instr
+
+-- an instruction whose edges may be propagated along, in an image with this loop nest
+pub record MayStep (image : ImageValue) (loops : List LoopRange) (places : ℕ) (p : Placed) : Type 0 where
+  pub nest : loops ≡ ranges image.loops
+  pub place : MayBeTaken image places p
+  pub sound : KeepsSound image p
 
 -- the edges of an instruction are those of a code that leave its address
 pub record IsInCode (cuts : List Cut) (place : Placed) : Type 0 where

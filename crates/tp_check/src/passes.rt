@@ -16,9 +16,8 @@ ghost use Rattle.tp_check.specs.Passes.{enter, edges_of, edges_in, IsRefusalOf};
 ghost use Rattle.tp_check.specs.Carried.{over, IsTableOf};
 ghost use Rattle.tp_check.specs.StatesThere.{AreStatesThere};
 ghost use Rattle.tp_check.specs.Joining.{is_join_at};
-ghost use Rattle.tp_check.specs.UnderWay.{is_in, AreJoins, AreLeft, IsApart, MayBeTaken, IsInCode, IsBefore};
-ghost use Rattle.tp_check.specs.UnderWay.{KeepsSound};
-ghost use Rattle.tp_check.specs.Steps.{IsBeginning, Leaves, HasWhole, Carries, TakesEdges, marked, SameButStates};
+ghost use Rattle.tp_check.specs.UnderWay.{is_in, AreJoins, AreLeft, IsApart, MayStep, IsInCode, IsBefore};
+ghost use Rattle.tp_check.specs.Steps.{IsBeginning, MayPass, Leaves, HasWhole, Carries, TakesEdges, marked, SameButStates};
 ghost use Rattle.tp_check.specs.Steps.{IsStarted, IsAfterEdge, IsLedOn, IsSettled};
 ghost use Rattle.tp_check.specs.Rising.{Moves};
 ghost use Rattle.tp_check.specs.Arrivals.{HasPlaces, Gives, ArrivedBefore};
@@ -147,14 +146,7 @@ impl Passes {
         nest: &Nest,
         predecessors: &Predecessors,
     ) -> Result<bool, StateFault>
-        requires range { InRange image.now }
-        requires kept { KeepsNest image.now.loops image.now.workspace listing.now }
-        requires spelled { AllByRecursion IsSpelled listing.now }
-        requires nest { nest.now ≡ ranges image.now.loops }
-        requires join { AreJoins image.now listing.now (is_join_at predecessors.now) }
-        requires places { HasPlaces listing.now (length self.old.states.items) }
-        requires rests { self.old.is_carried ≡ false }
-        requires way { HasWhole image.now listing.now (is_join_at predecessors.now) self.old 0 }
+        requires { MayPass image.now nest.now listing.now (is_join_at predecessors.now) self.old }
         ensures gives { TakesEdges image.now listing.now (is_join_at predecessors.now) (edges_in listing.now)
             self.old 0 result self.new 0 }
         ensures rests { OnOk result (self.new.is_carried ≡ false) }
@@ -176,14 +168,7 @@ impl Passes {
         nest: &Nest,
         predecessors: &Predecessors,
     ) -> Result<bool, StateFault>
-        requires range { InRange image.now }
-        requires kept { KeepsNest image.now.loops image.now.workspace listing.now }
-        requires spelled { AllByRecursion IsSpelled listing.now }
-        requires nest { nest.now ≡ ranges image.now.loops }
-        requires join { AreJoins image.now listing.now (is_join_at predecessors.now) }
-        requires places { HasPlaces listing.now (length self.old.states.items) }
-        requires rests { self.old.is_carried ≡ false }
-        requires way { HasWhole image.now listing.now (is_join_at predecessors.now) self.old 0 }
+        requires { MayPass image.now nest.now listing.now (is_join_at predecessors.now) self.old }
         ensures gives { TakesEdges image.now listing.now (is_join_at predecessors.now) (edges_in listing.now)
             self.old 0 result self.new 0 }
         ensures rests { OnOk result (self.new.is_carried ≡ false) }
@@ -211,9 +196,7 @@ impl Passes {
         predecessors: &Predecessors,
         place: Placed,
     ) -> Result<bool, StateFault>
-        requires nest { nest.now ≡ ranges image.now.loops }
-        requires place { MayBeTaken image.now (length self.old.states.items) place }
-        requires sound { KeepsSound image.now place }
+        requires step { MayStep image.now nest.now (length self.old.states.items) place }
         requires way { (cuts : List Cut) × IsInCode cuts place × AreJoins image.now cuts (is_join_at predecessors.now) ×
             HasWhole image.now cuts (is_join_at predecessors.now) self.old place.at }
         ensures gives { (cuts : List Cut) → IsInCode cuts place →
@@ -270,9 +253,7 @@ impl Passes {
         predecessors: &Predecessors,
         place: Placed,
     ) -> Result<bool, StateFault>
-        requires nest { nest.now ≡ ranges image.now.loops }
-        requires place { MayBeTaken image.now (length self.old.states.items) place }
-        requires sound { KeepsSound image.now place }
+        requires step { MayStep image.now nest.now (length self.old.states.items) place }
         requires rests { self.old.is_carried ≡ false }
         requires way { AreLeft image.now (is_join_at predecessors.now) self.old place (asked place.instr) }
         ensures gives { (way : AreLeft image.now (is_join_at predecessors.now) self.old place (asked place.instr)) →
@@ -299,9 +280,7 @@ impl Passes {
         first: Edge,
         last: Edge,
     ) -> Result<bool, StateFault>
-        requires nest { nest.now ≡ ranges image.now.loops }
-        requires place { MayBeTaken image.now (length self.old.states.items) place }
-        requires sound { KeepsSound image.now place }
+        requires step { MayStep image.now nest.now (length self.old.states.items) place }
         requires edges { asked place.instr ≡ first ∷ last ∷ [] }
         requires rests { self.old.is_carried ≡ false }
         requires way { AreLeft image.now (is_join_at predecessors.now) self.old place (asked place.instr) }
@@ -331,9 +310,7 @@ impl Passes {
         place: Placed,
         edge: Edge,
     ) -> Result<bool, StateFault>
-        requires nest { nest.now ≡ ranges image.now.loops }
-        requires place { MayBeTaken image.now (length self.old.states.items) place }
-        requires sound { KeepsSound image.now place }
+        requires step { MayStep image.now nest.now (length self.old.states.items) place }
         requires way { (later : List AnEdge) × IsApart edge later ×
             AreLeft image.now (is_join_at predecessors.now) self.old place (edge ∷ later) }
         ensures gives { (later : List AnEdge) → IsApart edge later →

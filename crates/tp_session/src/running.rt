@@ -15,12 +15,11 @@ ghost use Rattle.tp_session.specs.Services.{IsResourceFault};
 
 use crate::fault::ServeFault;
 use std::alloc::Global;
-use std::mem;
 use std::sync::Wait;
 use std::thread::Threads;
 use tp_answers::{OpenSession, Outcomes};
 use tp_collect::Collected;
-use tp_farm::{FarmFault, Job, OpenGate, run_batch};
+use tp_farm::{FarmFault, Job, OpenGate, members_for, run_lent};
 use tp_link::{LinkDevice, Links};
 
 /// Why a batch that has begun gives nothing, as a fault of serving.
@@ -52,12 +51,8 @@ fn run_packets<R: Threads + Wait + Sync, D: LinkDevice + Send>(
     ensures fit { AreFit D.state links.old.items → OnOk result (AreFit D.state links.new.items) }
     ensures want { IfErr result IsResourceFault }
 {
-    let lent = mem::replace(links, Vec::new(alloc));
-    match run_batch(rt, alloc, job, lent, &OpenGate) {
-        Ok(batch) => {
-            *links = batch.links;
-            Ok(batch.collected)
-        }
+    match run_lent(rt, alloc, job, links, &OpenGate) {
+        Ok(collected) => Ok(collected),
         Err(fault) => Err(fault_of(fault)),
     }
 }
@@ -79,7 +74,7 @@ fn run_on_enough<R: Threads + Wait + Sync, D: LinkDevice + Send>(
     ensures fit { AreFit D.state links.old.items → OnOk result (AreFit D.state links.new.items) }
     ensures want { IfErr result IsResourceFault }
 {
-    let enough = job.packets.len().max(1).min(links.len());
+    let enough = members_for(links.len(), job.packets.len());
     let mut resting = links.split_off(enough)?;
     let collected = run_packets(rt, alloc, links, job)?;
     links.append(&mut resting)?;

@@ -16,7 +16,7 @@ use tpw_occam_meaning::{
 };
 use tpw_occam_terms::{Name, Primitive, Span};
 use tpw_occam_typing::{
-    Checker, Frame, MOST_POSITIVE, Meaning, Root, count_of, levels_within, recovered, span_of,
+    Checker, Frame, MOST_POSITIVE, Meaning, Root, levels_within, recovered, span_of,
 };
 
 /// Whether the last of this many indices from one on is no INT.
@@ -313,15 +313,8 @@ fn procedure_call<'t, 'a>(
     else {
         return Err(checker.not_a(name, entry, Use::Procedure));
     };
-    if frame.calls == 0 {
-        return Err(checker.limit(frame, name.span, Limit::Calls));
-    }
-    checker.check_count(name, entry, signature, count_of(arguments))?;
-    checker.enter(signature);
-    let bound = checker.bound(frame, signature, arguments, scope, depth)?;
-    let within = frame.in_call(bound.scope, name.span);
-    let depth = levels_within(depth, bound.names);
-    process(checker, within, body, depth)
+    let inlined = checker.inline(frame, name, entry, signature, arguments, scope, depth)?;
+    process(checker, inlined.frame, body, inlined.depth)
 }
 
 /// Declarations, and the process that they are for.

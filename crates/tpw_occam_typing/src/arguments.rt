@@ -1,13 +1,15 @@
 //! Arguments of calls, bound to parameters.
 
+ghost use Rattle.std.specs.Prelude.{◌≤◌, IfOk};
+
 use crate::checker::{Checker, Frame};
 use crate::environment::{Access, Channel, Entry, Meaning, Protocol, Scope, View};
 use crate::limits::levels_within;
 use crate::operators::checked;
 use crate::signatures::{Callee, Form, Signature};
-use crate::trees::{bare, name_alone, span_of};
+use crate::trees::{bare, count_of, name_alone, span_of};
 use crate::value::{Constness, Root, Value};
-use tpw_occam_faults::{FaultKind, Interrupt, Use};
+use tpw_occam_faults::{FaultKind, Interrupt, Limit, Use};
 use tpw_occam_meaning::{Expression as Tree, Expressions};
 use tpw_occam_names::element_type;
 use tpw_occam_terms::{Name, Primitive, Span};
@@ -21,9 +23,20 @@ pub(crate) struct Passed<'t, 'a> {
 
 /// The scope in which the body of a call stands, and how many names are bound around it.
 #[derive(Clone, Copy)]
-pub struct Bound {
-    pub scope: Scope,
-    pub names: usize,
+struct Bound {
+    scope: Scope,
+    names: usize,
+    /// Whether each argument was made, without a fault.
+    is_whole: bool,
+}
+
+/// The place of the body of a call that is inlined, and the levels that are left there.
+#[derive(Clone, Copy)]
+pub struct Inlined {
+    pub frame: Frame,
+    pub depth: u32,
+    /// Whether a name is bound around it.
+    pub is_bound: bool,
     /// Whether each argument was made, without a fault.
     pub is_whole: bool,
 }
@@ -54,7 +67,7 @@ fn passed_value<'t, 'a>(value: Value, fixed: Option<Meaning<'t, 'a>>) -> Passed<
 
 impl<'t, 'a> Checker<'t, 'a> {
     /// Reports a call with another number of arguments than there are parameters.
-    pub fn check_count(
+    fn check_count(
         &mut self,
         name: Name<'a>,
         entry: Entry<'t, 'a>,
@@ -302,7 +315,7 @@ impl<'t, 'a> Checker<'t, 'a> {
 
     /// Binds the parameters of a call to its arguments, of which there are as many.
     #[cycle(expressions)]
-    pub fn bound(
+    fn bound(
         &mut self,
         frame: Frame,
         signature: Signature,
@@ -329,5 +342,32 @@ impl<'t, 'a> Checker<'t, 'a> {
             rest = more;
         }
         Ok(bound)
+    }
+    /// Inlines a call: the body stands where the parameters are bound to the arguments.
+    #[cycle(expressions)]
+    pub fn inline(
+        &mut self,
+        frame: Frame,
+        name: Name<'a>,
+        entry: Entry<'t, 'a>,
+        signature: Signature,
+        arguments: &'t Expressions<'a>,
+        scope: Scope,
+        depth: u32,
+    ) -> Result<Inlined, Interrupt>
+        ensures { IfOk result (λ inlined. inlined.depth ≤ depth) }
+    {
+        if frame.calls == 0 {
+            return Err(self.limit(frame, name.span, Limit::Calls));
+        }
+        self.check_count(name, entry, signature, count_of(arguments))?;
+        self.enter(signature);
+        let bound = self.bound(frame, signature, arguments, scope, depth)?;
+        Ok(Inlined {
+            frame: frame.in_call(bound.scope, name.span),
+            depth: levels_within(depth, bound.names),
+            is_bound: bound.names > 0,
+            is_whole: bound.is_whole,
+        })
     }
 }

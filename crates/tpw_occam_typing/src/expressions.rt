@@ -5,10 +5,9 @@
 use crate::checker::{Checker, Frame};
 use crate::environment::{Meaning, Scope, Storage, View};
 use crate::flags::decides;
-use crate::limits::levels_within;
 use crate::operators::{is_order, low_byte, of_one, of_two, operand_of, operands_of};
 use crate::subscripts::Subscript;
-use crate::trees::{bare, count_of, is_number, name_of, span_of};
+use crate::trees::{bare, is_number, name_of, span_of};
 use crate::value::{Constness, Root, Value, answered, computed, constant};
 use crate::words::{MOST_NEGATIVE, MOST_POSITIVE};
 use tpw_occam_faults::{FaultKind, Interrupt, Limit, Use};
@@ -283,19 +282,12 @@ impl<'t, 'a> Checker<'t, 'a> {
         else {
             return Err(self.not_a(name, entry, Use::Function));
         };
-        if frame.calls == 0 {
-            return Err(self.limit(frame, name.span, Limit::Calls));
-        }
-        self.check_count(name, entry, signature, count_of(arguments))?;
-        self.enter(signature);
-        let bound = self.bound(frame, signature, arguments, scope, depth)?;
-        let within = frame.in_call(bound.scope, name.span);
-        let depth = levels_within(depth, bound.names);
-        let value = self.expression(within, value, Some(of), depth)?;
-        if !bound.is_whole {
+        let inlined = self.inline(frame, name, entry, signature, arguments, scope, depth)?;
+        let value = self.expression(inlined.frame, value, Some(of), inlined.depth)?;
+        if !inlined.is_whole {
             return Err(Interrupt::Reported);
         }
-        if bound.names > 0 {
+        if inlined.is_bound {
             return Ok(computed(value.of, Root::Made));
         }
         Ok(value)

@@ -14,12 +14,12 @@ use std::sync::Wait;
 use std::thread::Threads;
 use std::time::Clock;
 use tp_accept::Accepted;
+use tp_farm::members_for;
 use tpw_command_line::{ReplayHint, RunOptions};
 use tpw_files::{Failure, Outcome, Terminal};
 use tpw_occam_scoped::Process;
 use tpw_runs::{
-    Expected, Form, Progress, Report, RunFault, Shown, Style, Tally, members_for, run_on_members,
-    write_loss,
+    Expected, Form, Progress, Report, RunFault, Shown, Style, Tally, run_on_members, write_loss,
 };
 
 /// Why a batch of runs fails.

@@ -10,12 +10,11 @@ use crate::fault::RunFault;
 use crate::report::Report;
 use std::alloc::{AllocError, Global};
 use std::io::Write;
-use std::mem;
 use std::sync::Wait;
 use std::thread::Threads;
 use tp_accept::Accepted;
 use tp_collect::{Collected, Entry};
-use tp_farm::{FarmFault, Gate, Job, run_batch};
+use tp_farm::{FarmFault, Gate, Job, run_lent};
 use tp_link::{LinkDevice, Links};
 use tp_stream::{MAX_PACKETS, Packet};
 
@@ -46,12 +45,8 @@ fn run_one<R: Threads + Wait + Sync, D: LinkDevice + Send, G: Gate>(
         (map (λ p. p.items) job.now.packets.now)) }
     ensures ready { OnOk result (AreReady D.state job.now.image.now.image links.new.items) }
 {
-    let lent = mem::replace(links, Vec::new(alloc));
-    match run_batch(rt, alloc, job, lent, gate) {
-        Ok(batch) => {
-            *links = batch.links;
-            Ok(batch.collected)
-        }
+    match run_lent(rt, alloc, job, links, gate) {
+        Ok(collected) => Ok(collected),
         Err(fault) => Err(fault_of(fault)),
     }
 }

@@ -20,7 +20,7 @@ pub use lines::{
     cause_text, is_other, write_expected, write_message, write_trace, write_whole_line,
 };
 pub use losses::{LONG_TRACE, write_loss};
-pub use members::{members_for, run_on_members};
+pub use members::run_on_members;
 pub use packets::{Field, Notation, fields_of, packet_of, packets_of, results_of};
 pub use progress::Progress;
 pub use report::{Loss, Report, Shown};

@@ -15,17 +15,6 @@ use tp_collect::limits::MAX_MESSAGE;
 use tp_farm::Gate;
 use tp_link::{boxed, media_of};
 
-/// The most members.
-const MAX_MEMBERS: usize = 64;
-
-/// The number of members that run a number of packets: no more than there are packets, and 1 to 64.
-pub fn members_for(members: usize, packets: usize) -> usize
-    ensures least { 1 ≤ result }
-    ensures most { result ≤ 64 }
-{
-    packets.min(members).min(MAX_MEMBERS).max(1)
-}
-
 /// Runs packets as [`run_packets`] does, on members of its own: 1 to 64.
 pub fn run_on_members<R: Threads + Wait + Sync, G: Gate, S: Report, W: Write>(
     rt: &R,

@@ -11,10 +11,11 @@ use std::thread;
 use std::thread::Threads;
 use std::time::Clock;
 use tp_collect::LostCause;
+use tp_farm::members_for;
 use tp_image::{Image, ImageFault, read_image};
 use tpw_debug::SourceText;
 use tpw_files::{Failure, Outcome, Terminal};
-use tpw_runs::{LONG_TRACE, Progress, members_for, write_loss};
+use tpw_runs::{LONG_TRACE, Progress, write_loss};
 use tpw_step::{Profile, RunEnd, Stepper, count_run};
 
 /// A profile, prepared: packets of an image, whose runs are counted.

@@ -9,6 +9,20 @@ loop-is_left-init c =
     none_between c.args.image.now c.args.listing.now c.begin.ensures.in_range c.law_is_spelled.ensures c.requires.kept (is_join_at c.args.predecessors.now) c.requires.join c.in_ok-passes.passes
     (c.in_ok-passes.ensures.begins c.args.listing.now (is_join_at c.args.predecessors.now) c.requires.all c.requires.kept c.requires.join)
 
+pub pass-requires : goal.pass-requires
+pass-requires c =
+    let on = c.loop-is_left.invariant.after in
+    record {
+      range = c.begin.ensures.in_range;
+      kept = c.requires.kept;
+      spelled = c.law_is_spelled.ensures;
+      nest = c.requires.nest;
+      join = c.requires.join;
+      places = on.places;
+      rests = on.rests;
+      way = (on.whole, on.before);
+    }
+
 pub returns-in_err-is_left-clause-refused : goal.returns-in_err-is_left-clause-refused
 returns-in_err-is_left-clause-refused c =
     let on = c.loop-is_left.invariant in

@@ -13,13 +13,13 @@ pub returns-then-not-self-clause-gives : goal.returns-then-not-self-clause-gives
 returns-then-not-self-clause-gives c cuts stands join whole before =
     passed_by c.args.image.now cuts (is_join_at c.args.predecessors.now) c.args.self.now c.start.new.self c.args.place stands whole before
     (ready c.args.image.now cuts (is_join_at c.args.predecessors.now) c.args.self.now c.start.new.self c.args.place.at
-    whole before c.requires.place.inside c.start.ensures.started c.start.ensures.other) c.if-not-self.true
+    whole before c.requires.step.place.inside c.start.ensures.started c.start.ensures.other) c.if-not-self.true
 
 pub take_edges-requires-clause-way : goal.take_edges-requires-clause-way
 take_edges-requires-clause-way c =
     begins c.args.image.now c.requires.way.0 (is_join_at c.args.predecessors.now) c.args.self.now c.start.new.self c.args.place c.requires.way.1 c.requires.way.3.0 c.requires.way.3.1
     (ready c.args.image.now c.requires.way.0 (is_join_at c.args.predecessors.now) c.args.self.now c.start.new.self
-    c.args.place.at c.requires.way.3.0 c.requires.way.3.1 c.requires.place.inside c.start.ensures.started
+    c.args.place.at c.requires.way.3.0 c.requires.way.3.1 c.requires.step.place.inside c.start.ensures.started
     c.start.ensures.other)
     _ refl refl refl refl refl refl c.if-not-self.false c.requires.way.2
 
@@ -28,5 +28,5 @@ returns-clause-gives c cuts stands join whole before =
     c.take_edges.ensures.gives
     (begins c.args.image.now cuts (is_join_at c.args.predecessors.now) c.args.self.now c.start.new.self c.args.place stands whole before
     (ready c.args.image.now cuts (is_join_at c.args.predecessors.now) c.args.self.now c.start.new.self c.args.place.at
-    whole before c.requires.place.inside c.start.ensures.started c.start.ensures.other)
+    whole before c.requires.step.place.inside c.start.ensures.started c.start.ensures.other)
     _ refl refl refl refl refl refl c.if-not-self.false join)

@@ -16,17 +16,14 @@ loop-i-init c = record {
   moves = moves_none c.args.image.now c.args.self.now.states.items;
 }
 
-pub take-requires-clause-place : goal.take-requires-clause-place
-take-requires-clause-place c =
-    may_be_taken c.args.image.now c.args.listing.now _ c.in-Some.place c.requires.kept (λ at starts. rw c.loop-i.invariant.moves.sized (c.requires.places at starts))
-    (stands_at c.args.listing.now c.loop-i.i c.in-Some.place c.requires.kept.spelled (sym c.in-Some.ensures))
-
-pub take-requires-clause-sound : goal.take-requires-clause-sound
-take-requires-clause-sound c =
+pub take-requires-clause-step : goal.take-requires-clause-step
+take-requires-clause-step c =
+    let stands = stands_at c.args.listing.now c.loop-i.i c.in-Some.place c.requires.kept.spelled (sym c.in-Some.ensures) in
     record {
-      range = c.requires.range;
-      loads = loads_word c.args.listing.now c.requires.spelled c.in-Some.place
-          (stands_at c.args.listing.now c.loop-i.i c.in-Some.place c.requires.kept.spelled (sym c.in-Some.ensures));
+      nest = c.requires.nest;
+      place = may_be_taken c.args.image.now c.args.listing.now _ c.in-Some.place c.requires.kept
+          (λ at starts. rw c.loop-i.invariant.moves.sized (c.requires.places at starts)) stands;
+      sound = record { range = c.requires.range; loads = loads_word c.args.listing.now c.requires.spelled c.in-Some.place stands };
     }
 
 pub take-requires-clause-way : goal.take-requires-clause-way

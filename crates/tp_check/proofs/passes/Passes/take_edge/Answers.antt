@@ -21,7 +21,7 @@ arrive-requires-clause-sized c is =
 pub arrive-requires-clause-again : goal.arrive-requires-clause-again
 arrive-requires-clause-again c =
     came_led c.args.image.now (is_join_at c.args.predecessors.now) c.args.self.now c.args.place c.args.edge
-    c.requires.way.0 c.requires.way.1 c.requires.way.2 c.requires.place c.requires.sound c.transfer.new.self goes
+    c.requires.way.0 c.requires.way.1 c.requires.way.2 c.requires.step.place c.requires.step.sound c.transfer.new.self goes
     c.transfer.ensures.placed c.in-Some.to leads
     c.lead_on.new.self c.lead_on.new.self c.lead_on.ensures
   where
@@ -29,16 +29,16 @@ arrive-requires-clause-again c =
     goes = left c.transfer.result c.in_default.field-0 c.transfer.new.self _ c.in_default.is c.transfer.ensures.value
 
     leads : target (ranges c.args.image.now.loops) c.args.place.at c.args.place.next c.args.place.instr c.args.edge ≡ Some c.in-Some.to
-    leads = sym (c.target.ensures ∙ ap (λ nest. target nest c.args.place.at c.args.place.next c.args.place.instr c.args.edge) c.requires.nest) ∙ c.in-Some.is
+    leads = sym (c.target.ensures ∙ ap (λ nest. target nest c.args.place.at c.args.place.next c.args.place.instr c.args.edge) c.requires.step.nest) ∙ c.in-Some.is
 
 pub returns-in-Some-clause-gives : goal.returns-in-Some-clause-gives
 returns-in-Some-clause-gives c later apart way =
     arrived c.args.image.now (is_join_at c.args.predecessors.now) c.args.self.now c.args.place c.args.edge later apart
-    way c.requires.place c.requires.sound c.transfer.new.self goes c.transfer.ensures.placed c.in-Some.to leads
+    way c.requires.step.place c.requires.step.sound c.transfer.new.self goes c.transfer.ensures.placed c.in-Some.to leads
     c.lead_on.new.self c.arrive.new.self c.lead_on.ensures c.arrive.result c.arrive.ensures.rest
     c.arrive.ensures.is_join c.arrive.ensures.marks c.arrive.ensures.alone
     (moves_led c.args.image.now (is_join_at c.args.predecessors.now) c.args.self.now c.args.place c.args.edge
-    c.requires.way.0 c.requires.way.1 c.requires.way.2 c.requires.place c.requires.sound c.transfer.new.self goes
+    c.requires.way.0 c.requires.way.1 c.requires.way.2 c.requires.step.place c.requires.step.sound c.transfer.new.self goes
     c.transfer.ensures.placed c.in-Some.to leads
     c.lead_on.new.self c.arrive.new.self c.lead_on.ensures c.arrive.result c.arrive.ensures.is_join c.arrive.ensures.reports c.arrive.ensures.alone c.arrive.ensures.sized)
   where
@@ -46,13 +46,13 @@ returns-in-Some-clause-gives c later apart way =
     goes = left c.transfer.result c.in_default.field-0 c.transfer.new.self _ c.in_default.is c.transfer.ensures.value
 
     leads : target (ranges c.args.image.now.loops) c.args.place.at c.args.place.next c.args.place.instr c.args.edge ≡ Some c.in-Some.to
-    leads = sym (c.target.ensures ∙ ap (λ nest. target nest c.args.place.at c.args.place.next c.args.place.instr c.args.edge) c.requires.nest) ∙ c.in-Some.is
+    leads = sym (c.target.ensures ∙ ap (λ nest. target nest c.args.place.at c.args.place.next c.args.place.instr c.args.edge) c.requires.step.nest) ∙ c.in-Some.is
 
 pub returns-in-Some-clause-moves : goal.returns-in-Some-clause-moves
 returns-in-Some-clause-moves c =
     subst (λ items. IfOk c.arrive.result (λ moved. Moves c.args.image.now moved items c.arrive.new.self.states.items)) (ap (λ (p : Passes). p.states.items) c.lead_on.ensures.same)
     (moves_led c.args.image.now (is_join_at c.args.predecessors.now) c.args.self.now c.args.place c.args.edge
-    c.requires.way.0 c.requires.way.1 c.requires.way.2 c.requires.place c.requires.sound c.transfer.new.self goes
+    c.requires.way.0 c.requires.way.1 c.requires.way.2 c.requires.step.place c.requires.step.sound c.transfer.new.self goes
     c.transfer.ensures.placed c.in-Some.to leads
     c.lead_on.new.self c.arrive.new.self c.lead_on.ensures c.arrive.result c.arrive.ensures.is_join c.arrive.ensures.reports c.arrive.ensures.alone c.arrive.ensures.sized)
   where
@@ -60,16 +60,16 @@ returns-in-Some-clause-moves c =
     goes = left c.transfer.result c.in_default.field-0 c.transfer.new.self _ c.in_default.is c.transfer.ensures.value
 
     leads : target (ranges c.args.image.now.loops) c.args.place.at c.args.place.next c.args.place.instr c.args.edge ≡ Some c.in-Some.to
-    leads = sym (c.target.ensures ∙ ap (λ nest. target nest c.args.place.at c.args.place.next c.args.place.instr c.args.edge) c.requires.nest) ∙ c.in-Some.is
+    leads = sym (c.target.ensures ∙ ap (λ nest. target nest c.args.place.at c.args.place.next c.args.place.instr c.args.edge) c.requires.step.nest) ∙ c.in-Some.is
 
 pub returns-in-None-clause-gives : goal.returns-in-None-clause-gives
 returns-in-None-clause-gives c later apart way =
     nowhere c.args.image.now (is_join_at c.args.predecessors.now) c.args.self.now c.args.place c.args.edge later apart
-    way c.requires.place c.requires.sound c.transfer.new.self goes c.transfer.ensures.placed
+    way c.requires.step.place c.requires.step.sound c.transfer.new.self goes c.transfer.ensures.placed
     _ refl refl (record { carried = refl; is_again = refl; taken = refl }) refl leads
   where
     goes : after c.args.image.now c.args.place.at c.args.place.next c.args.place.instr c.args.edge c.args.self.now.carried ≡ Ok c.transfer.new.self
     goes = left c.transfer.result c.in_default.field-0 c.transfer.new.self _ c.in_default.is c.transfer.ensures.value
 
     leads : target (ranges c.args.image.now.loops) c.args.place.at c.args.place.next c.args.place.instr c.args.edge ≡ None
-    leads = sym (c.target.ensures ∙ ap (λ nest. target nest c.args.place.at c.args.place.next c.args.place.instr c.args.edge) c.requires.nest) ∙ c.in-None.is
+    leads = sym (c.target.ensures ∙ ap (λ nest. target nest c.args.place.at c.args.place.next c.args.place.instr c.args.edge) c.requires.step.nest) ∙ c.in-None.is

@@ -1,9 +1,12 @@
 use Rattle.std.proofs.Common.{◌≡◌, ◌+◌, ◌*◌, ◌∙◌, ap, subst, refl}
 use Rattle.std.specs.Prelude.{flat_map}
 use Rattle.std.specs.Int.{w32, to_le_bytes}
+use Rattle.std.specs.Coded.{le_prop}
+use Rattle.std.proofs.Math.Logic.{∥∥₁_elim}
 use Rattle.tp_step.specs.Memory.{with_bytes, nothing_defined}
 use Rattle.tp_step.specs.State.{mem_start}
 use Rattle.tp_step.specs.Runs.{first_words}
+use Rattle.tp_accept.proofs.NeverWrong.{never_goes_wrong_of}
 use Rattle.tp_outcome.specs.Devices.{devices_of}
 use Rattle.tp_machine.specs.Representation.{Holds}
 use Rattle.tp_machine.proofs.Kept.{begins, ends}
@@ -22,12 +25,15 @@ go-answer-requires-clause-starts g c =
 pub go-answer-requires-clause-promise : goal.go-answer-requires-clause-promise
 go-answer-requires-clause-promise g c =
     let before = devices_of g.D.LinkDevice.state c.args.links.now in
-    ends c.args.accepted.now.image c.args.accepted.now.budget before (rw c.budget-budget.ensures.value at c.budget-budget.ensures.ends) c.held-held.ensures.bytes
+    ends c.args.accepted.now.image c.args.accepted.now.budget before (never_goes_wrong_of c.args.accepted.now.image c.args.accepted.now.budget c.args.accepted.now.acceptable) c.held-held.ensures.bytes
+
+pub go-answer-requires-clause-budget : goal.go-answer-requires-clause-budget
+go-answer-requires-clause-budget g c = ∥∥₁_elim c.args.accepted.now.acceptable le_prop (λ a. a.within)
 
 pub returns-clause-answered : goal.returns-clause-answered
 returns-clause-answered g c = answered_alone c.args.accepted.now.image c.args.accepted.now.budget _ _ c.go-answer.result.1 c.go-answer.ensures
 
 pub returns-clause-promise : goal.returns-clause-promise
 returns-clause-promise g c =
-    keeps_promise c.args.accepted.now.image c.args.accepted.now.budget _ _ c.go-answer.result.1 (rw c.budget-budget.ensures.value at c.budget-budget.ensures.ends) c.held-held.ensures.bytes
+    keeps_promise c.args.accepted.now.image c.args.accepted.now.budget _ _ c.go-answer.result.1 (never_goes_wrong_of c.args.accepted.now.image c.args.accepted.now.budget c.args.accepted.now.acceptable) c.held-held.ensures.bytes
     (answered_alone c.args.accepted.now.image c.args.accepted.now.budget _ _ c.go-answer.result.1 c.go-answer.ensures)
