@@ -201,6 +201,10 @@ def spellings():
                declared=[f'VAL []BYTE t IS "{spelled}":'])
     for name, spelled in (('capital N', "'*N'"), ('capital C', "'*C'"), ('a DEL as a character', "'\x7f'")):
         worker(name, [f'r := (INT {spelled}) PLUS p[0]'], [packet(a, 0) for a in ENDS])
+    text('INT by its other name', [
+        'PROC worker (CHAN OF [2]INT32 packet, CHAN OF INT result)', '  PROC add (VAL []INT32 a, INT sum)', '    INT32 x:', '    SEQ',
+        '      x := a[0] PLUS (INT32 (BYTE (a[1] /\\ 255)))', '      sum := x PLUS (MOSTNEG INT32)', '  :', '  [2]INT p:', '  INT32 r:', '  SEQ',
+        '    packet ? p', '    add (p, r)', '    result ! r', ':'], pairs()[::7])
     for number in (123456789, 999999999, 1000000000, 2147483647):
         worker(f'the number {number}', [f'r := p[0] >< {number}'], [packet(a, 0) for a in ENDS])
 
@@ -223,6 +227,12 @@ def stops():
     """STOP wherever it stands, and what stops."""
     worker('an IF without guards', ['IF', 'r := p[0]'], pairs()[:3])
     worker('an IF without guards behind a guard', ['IF', '  p[0] = 1', '    IF', '  TRUE', '    SKIP', 'r := p[1]'], pairs()[::14])
+    for selector, declared in (('p[0] < p[1]', []), ('b', ['BOOL b:']), ('TRUE', [])):
+        body = ['b := p[0] = 7'] if declared else []
+        worker(f'a CASE of the BOOL {selector}', [*body, f'CASE {selector}', '  TRUE', '    r := p[0]', '  FALSE', '    r := p[1] + 1'], pairs()[::3],
+               declared=declared)
+    worker('a CASE of a BOOL with ELSE', ['CASE (p[0] /\\ 1) = 0', '  FALSE', '    r := 3', '  ELSE', '    r := 4'], pairs()[::7])
+    worker('a CASE of a BOOL without a choice for it', ['CASE p[0] = p[1]', '  FALSE', '    r := 3'], pairs()[::7])
     worker('a CASE without choices', ['CASE p[0]', 'r := p[1]'], pairs()[:3])
     worker('a CASE without a choice for it', ['CASE p[0]', '  1', '    r := 5'], pairs()[::14])
     worker('STOP in a PROC', ['stop (p[0])', 'r := p[1]'], pairs()[::14],

@@ -14,7 +14,7 @@ BITS = 0xFFFFFFFF
 LEAST, MOST = -0x80000000, 0x7FFFFFFF
 MAX_TRACED = 256
 CHAINED = {'+', '*', 'PLUS', 'TIMES', '/\\', '\\/', '><', 'AND', 'OR'}
-SAME = {'REM': '\\', 'BITAND': '/\\', 'BITOR': '\\/', 'BITNOT': '~'}
+SAME = {'REM': '\\', 'BITAND': '/\\', 'BITOR': '\\/', 'BITNOT': '~', 'INT32': 'INT'}
 DYADIC = CHAINED | {'-', '/', '\\', 'MINUS', '<<', '>>', '=', '<>', '<', '>', '<=', '>=', 'AFTER'}
 ESCAPES = {'n': 10, 'c': 13, 't': 9, 's': 32, "'": 39, '"': 34, '*': 42}
 TOKEN = re.compile(

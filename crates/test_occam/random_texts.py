@@ -1,7 +1,7 @@
 #!/usr/bin/env python3
 """Random workers in occam: texts of every construct, which keep the rules of types and scopes.
 
-    random_texts.py FIRST COUNT     writes the workers of so many seeds, with four packets each
+    random_texts.py FIRST COUNT     writes the workers of COUNT seeds from FIRST on, with four packets each
 """
 
 import random
@@ -37,6 +37,9 @@ class Entry:
 class Maker:
     def __init__(self, seed):
         self.random = random.Random(seed)
+        # Whether INT has its other name, and whether BOOLs have a CASE.
+        self.is_long = seed % 8 == 5
+        self.has_truth_cases = seed % 4 == 2
         self.scope = {}
         self.out = []
         self.indent = 0
@@ -531,7 +534,18 @@ class Maker:
         self.block(depth - 1)
         self.indent -= 1
 
+    def truth_case(self, depth):
+        self.line(f'CASE {self.whole(BOOL, 2)}')
+        self.indent += 1
+        choices = ['TRUE', 'FALSE'] if self.chance(0.5) else ['FALSE', 'ELSE'] if self.chance(0.5) else ['FALSE, TRUE']
+        for choice in choices:
+            self.guarded(choice, depth)
+        self.indent -= 1
+
     def case(self, depth):
+        if self.has_truth_cases and self.chance(0.3):
+            self.truth_case(depth)
+            return
         of = self.of(INT, INT, BYTE)
         self.line(f'CASE {self.whole(of, 2)}')
         if self.chance(0.03):
@@ -601,7 +615,8 @@ class Maker:
         self.gives(result_of, result_size)
         self.indent -= 2
         self.line(':')
-        return '\n'.join(self.out) + '\n'
+        text = '\n'.join(self.out) + '\n'
+        return re.sub(r'\bINT\b', 'INT32', text) if self.is_long else text
 
     def takes(self, packet_size):
         """Receives the packet, now and then in an element; the traces of some are too many."""

@@ -9,11 +9,12 @@ use std::thread::Threads;
 use std::time::Clock;
 use tp_accept::{Accepted, accept};
 use tpw_command_line::{OutputOptions, PacketSource, RunOptions};
-use tpw_files::{Outcome, Terminal};
+use tpw_debug::SourceText;
+use tpw_files::{Input, Language, Outcome, Terminal};
 use tpw_inputs::read_occam;
 use tpw_occam_scoped::Process;
-use tpw_running::{Prepared, write_check};
-use tpw_runs::{Notation, Style, packets_of};
+use tpw_running::{Prepared, Subject, write_check};
+use tpw_runs::{Notation, Style, packets_of, results_of};
 
 /// As many multiples of a packet are summed and traced as it says.
 const SUMS: &str = "\
@@ -76,11 +77,41 @@ packets 4, lost 1, steps 604 to 640 of 1384
 checked 4, each is what the text means
 ";
 
+/// The output of the same where some results are expected: another one of 0 and of 3, and none of 65.
+const UNEXPECTED: &str = "\
+0  flag 0  604 of 1384  2147483640
+  trace
+  expected  flag 0  1
+1  flag 0  628 of 1384  2147483642
+  trace 0 2
+  the text means
+1  flag 0  2147483642
+  trace
+2  flag 1  640 of 1384  -2147483647
+  trace 0 3 9
+  the text means
+2  flag 0  2147483643
+  trace 0
+  expected  flag 0  0
+3  LOST  its trace has more than 256 bytes
+  the text means
+3  flag 1  -2147483591
+  trace
+  expected nothing
+follow packet 0 by: tpw step --occam
+packets 4, lost 1, steps 604 to 640 of 1384, differing 3, packets without an expected result 1
+checked 4, 3 differ: a fault of the compiler; please report it, with the text
+";
+
+/// The image that a text is compiled to.
+fn image_of(rt: &impl Abort, alloc: Global, text: &str) -> Vec<u8> {
+    let read = unwrap(rt, read_occam(alloc, text.as_bytes()));
+    unwrap(rt, read.image_bytes(alloc))
+}
+
 /// The worker that a text is compiled to, accepted.
 fn accepted(rt: &impl Abort, alloc: Global, text: &str) -> Accepted {
-    let read = unwrap(rt, read_occam(alloc, text.as_bytes()));
-    let bytes = unwrap(rt, read.image_bytes(alloc));
-    unwrap(rt, accept(alloc, bytes))
+    unwrap(rt, accept(alloc, image_of(rt, alloc, text)))
 }
 
 /// The core of a text, which has its meaning.
@@ -112,8 +143,15 @@ fn asked(alloc: Global) -> RunOptions {
     }
 }
 
-/// The output of a check of the runs of a text's worker by another text's meaning, and its outcome.
-fn checked<T>(rt: &T, alloc: Global, text: &str, other: &str) -> (Vec<u8>, Outcome)
+/// The output of a check of the runs of a text's worker by another text's meaning, and by the results that are expected
+/// where there are such, and its outcome.
+fn checked<T>(
+    rt: &T,
+    alloc: Global,
+    text: &str,
+    other: &str,
+    expected: Option<&str>,
+) -> (Vec<u8>, Outcome)
 where
     T: Threads + Wait + Clock + Eprint + Sync + Abort,
 {
@@ -124,13 +162,22 @@ where
     let prepared = Prepared {
         image,
         packets: unwrap(rt, packets),
-        expected: None,
+        expected: expected.map(|results| {
+            unwrap(rt, results_of(alloc, results, bytes, Notation::Words))
+        }),
     };
+    let built = image_of(rt, alloc, text);
     let mut output = Vec::new(alloc);
     let mut errors = Vec::new(alloc);
     let mut terminal = Terminal {
         errors: &mut errors,
         is_terminal: false,
+    };
+    let subject = Subject {
+        input: &Input::Standard,
+        language: Language::Occam,
+        bytes: &built,
+        source: SourceText::NONE,
     };
     let outcome = write_check(
         rt,
@@ -138,6 +185,7 @@ where
         &prepared,
         &asked(alloc),
         &core,
+        subject,
         &mut output,
         &mut terminal,
     );
@@ -148,8 +196,12 @@ where
 #[test]
 fn check_finds_others(rt: HostRuntime) {
     let alloc = rt.alloc();
-    for (other, written, outcome) in [(OTHER, OTHERS, Outcome::Bad), (SUMS, NONE, Outcome::Good)] {
-        let (output, found) = checked(&rt, alloc, SUMS, other);
+    for (other, expected, written, outcome) in [
+        (OTHER, None, OTHERS, Outcome::Bad),
+        (SUMS, None, NONE, Outcome::Good),
+        (OTHER, Some("1\n2147483642\n0\n"), UNEXPECTED, Outcome::Bad),
+    ] {
+        let (output, found) = checked(&rt, alloc, SUMS, other, expected);
         assert_same(&rt, &unwrap(&rt, str::from_utf8(&output)), &written);
         assert_same(&rt, &found, &outcome);
     }

@@ -31,7 +31,7 @@ use Rattle.tp_state.specs.Rules.{truth_value, are_shift_counts}
 use Rattle.tp_state.specs.Fits.{InRange, KindFits, FitsAmong}
 use Rattle.tp_state.proofs.Passing.{through, bound, held, past_is}
 use Rattle.tp_state.proofs.Products.{between_corners, mul_up, div_more, quotient_up, remainder_low, remainder_high, remainder_sign}
-use Rattle.tp_state.proofs.WordLemmas.{low_word_lt, low_word_alike, signed_low_word, unsigned_is, signed_low, signed_natural, signed_complement, signed_above, signed_below}
+use Rattle.tp_state.proofs.WordLemmas.{low_word_lt, signed_low_word, unsigned_sum, unsigned_difference, signed_low, signed_natural, signed_complement, signed_above, signed_below}
 use Rattle.tp_state.proofs.KindLemmas.{full_fits, within_fits, range_fits, hull_fits, number_is, two_numbers_are}
 use Rattle.tp_state.proofs.Makes.{Makes, registers_made, operated, replaced, both_there}
 
@@ -52,27 +52,6 @@ difference_fits image a b x y in_a in_b =
     let b_low = in_b.above in
     let b_high = in_b.below in
     hull_fits image _ _ _ _ (signed y -ℤ signed x) (omega (arith, ints, clamps)) (omega (arith, ints, clamps))
-
--- wrapping sums and differences of unsigned words
-unsigned_sum : (x y : ℕ) → x < 2 ^ 32 → y < 2 ^ 32 → low_word (pos y +ℤ pos x) ≡ low_word (signed y +ℤ signed x)
-unsigned_sum x y hx hy =
-    let ux = unsigned_is x hx in
-    let uy = unsigned_is y hy in
-    let j = ux.0 in
-    let k = uy.0 in
-    let x_is : pos x ≡ signed x +ℤ (j *ℤ pos (2 ^ 32)) = ux.1 in
-    let y_is : pos y ≡ signed y +ℤ (k *ℤ pos (2 ^ 32)) = uy.1 in
-    low_word_alike (pos y +ℤ pos x) (signed y +ℤ signed x) (j +ℤ k) (omega (arith, ints))
-
-unsigned_difference : (x y : ℕ) → x < 2 ^ 32 → y < 2 ^ 32 → low_word (pos y -ℤ pos x) ≡ low_word (signed y -ℤ signed x)
-unsigned_difference x y hx hy =
-    let ux = unsigned_is x hx in
-    let uy = unsigned_is y hy in
-    let j = ux.0 in
-    let k = uy.0 in
-    let x_is : pos x ≡ signed x +ℤ (j *ℤ pos (2 ^ 32)) = ux.1 in
-    let y_is : pos y ≡ signed y +ℤ (k *ℤ pos (2 ^ 32)) = uy.1 in
-    low_word_alike (pos y -ℤ pos x) (signed y -ℤ signed x) (k -ℤ j) (omega (arith, ints))
 
 truth_fits : (image : ImageValue) (b : Bool) → KindFits image truth_value (Some (truth b))
 truth_fits image true = within_fits image (pos 0) (pos 1) 1 (omega arith) (omega (arith, ints)) (omega (arith, ints))

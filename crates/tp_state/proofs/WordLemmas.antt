@@ -105,6 +105,27 @@ unsigned_is v h = by_sign (cases_lt v (2 ^ 31))
         let e : v + suc (2 ^ 32 - suc v) ≡ 2 ^ 32 = omega arith in
         (pos 1, omega (arith, ints))
 
+-- wrapping sums and differences of unsigned words
+pub unsigned_sum : (x y : ℕ) → x < 2 ^ 32 → y < 2 ^ 32 → low_word (pos y +ℤ pos x) ≡ low_word (signed y +ℤ signed x)
+unsigned_sum x y hx hy =
+    let ux = unsigned_is x hx in
+    let uy = unsigned_is y hy in
+    let j = ux.0 in
+    let k = uy.0 in
+    let x_is : pos x ≡ signed x +ℤ (j *ℤ pos (2 ^ 32)) = ux.1 in
+    let y_is : pos y ≡ signed y +ℤ (k *ℤ pos (2 ^ 32)) = uy.1 in
+    low_word_alike (pos y +ℤ pos x) (signed y +ℤ signed x) (j +ℤ k) (omega (arith, ints))
+
+pub unsigned_difference : (x y : ℕ) → x < 2 ^ 32 → y < 2 ^ 32 → low_word (pos y -ℤ pos x) ≡ low_word (signed y -ℤ signed x)
+unsigned_difference x y hx hy =
+    let ux = unsigned_is x hx in
+    let uy = unsigned_is y hy in
+    let j = ux.0 in
+    let k = uy.0 in
+    let x_is : pos x ≡ signed x +ℤ (j *ℤ pos (2 ^ 32)) = ux.1 in
+    let y_is : pos y ≡ signed y +ℤ (k *ℤ pos (2 ^ 32)) = uy.1 in
+    low_word_alike (pos y -ℤ pos x) (signed y -ℤ signed x) (k -ℤ j) (omega (arith, ints))
+
 -- ---- addresses
 
 pub word_address_lt : (x : ℕ) → x < 512 → word_address x < 2 ^ 32

@@ -23,11 +23,11 @@ module _ (image : ImageValue) (s : State) (a b : ℕ) (running : s.stopped ≡ f
   byte_here : code_byte image.code s.iptr ≡ Some b
   byte_here = rw place here
 
-  pfix_step : is_pfix b ≡ true → step image s ≡ Some (at s (a + 1) (shifted (s.oreg + digit_of b)))
+  pub pfix_step : is_pfix b ≡ true → step image s ≡ Some (at s (a + 1) (shifted (s.oreg + digit_of b)))
   unfolding step
   pfix_step is = rw (running, byte_here, is, place)
 
-  nfix_step : is_pfix b ≡ false → is_nfix b ≡ true → step image s ≡ Some (at s (a + 1) (shifted_complement (s.oreg + digit_of b)))
+  pub nfix_step : is_pfix b ≡ false → is_nfix b ≡ true → step image s ≡ Some (at s (a + 1) (shifted_complement (s.oreg + digit_of b)))
   unfolding step
   nfix_step no_pfix is = rw (running, byte_here, no_pfix, is, place)
 
@@ -90,7 +90,8 @@ front [] a h = absurd (omega arith)
 front (b ∷ code) zero h = (b, refl, refl)
 front (b ∷ code) (suc a) h = front code a (omega arith)
 
-stand_range : (n : ℕ) (code : List ℕ) (a : ℕ) → a + n ≤ length code → HasBytesAt code a (take n (drop a code))
+-- a range of a code stands where it was taken
+pub stand_range : (n : ℕ) (code : List ℕ) (a : ℕ) → a + n ≤ length code → HasBytesAt code a (take n (drop a code))
 stand_range zero code a h = tt
 stand_range (suc n) code a h =
     let x = front code a (omega arith) in
@@ -98,7 +99,7 @@ stand_range (suc n) code a h =
     let rest : drop a code ≡ x.0 ∷ drop (a + 1) code = x.2 ∙ ap (λ m. x.0 ∷ drop m code) next in
     rw rest (x.1, stand_range n code (a + 1) (omega arith))
 
-length-range : (n : ℕ) (code : List ℕ) (a : ℕ) → a + n ≤ length code → length (take n (drop a code)) ≡ n
+pub length-range : (n : ℕ) (code : List ℕ) (a : ℕ) → a + n ≤ length code → length (take n (drop a code)) ≡ n
 length-range n code a h = rw (length-take, length-drop) (omega arith)
 
 -- a spelling that stands in the code runs through

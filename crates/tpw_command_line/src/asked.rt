@@ -99,11 +99,14 @@ fn check_standard(task: &Task, input: &Input) -> Result<(), Refusal> {
     Ok(())
 }
 
-/// Refuses a check of a worker that is not in occam.
+/// Refuses a check, or a view by statements, of a worker that is not in occam.
 fn check_language(task: &Task, language: Language) -> Result<(), Refusal> {
     match task {
         Task::Work(Work::Run(running)) if running.check && language != Language::Occam => {
             Err(Refusal::NoCheck)
+        }
+        Task::Work(Work::Step(stepping)) if stepping.statements && language != Language::Occam => {
+            Err(Refusal::NoStatements)
         }
         _ => Ok(()),
     }

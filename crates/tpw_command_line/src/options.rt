@@ -51,5 +51,8 @@ pub const FROM: &str = "from";
 /// The place at which a run is left.
 pub const UNTIL: &str = "until";
 
+/// A run is shown by statements.
+pub(crate) const STATEMENTS: &str = "statements";
+
 /// The words whose changes are shown.
 pub(crate) const WATCH: &str = "watch";

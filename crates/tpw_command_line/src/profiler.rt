@@ -21,7 +21,7 @@ pub(crate) const PROFILE_COMMAND: Subcommand = Subcommand {
     lines: "\
 Reads a worker in occam or as assembly text, or an image as hexadecimal, accepted by the verifier or not, and runs packets on
 it. It writes how many steps they made, each an instruction byte; the share of each line of the text, or of each instruction
-of an image, the most first; and the share of each loop.
+of an image, and how often it was run, the most steps first; and the share of each loop, and its turns.
 A packet whose traces have more than 256 bytes is lost, as it is on a farm.
 Status 0: each worker stopped. Status 1: not so, or what is read says no worker.",
     arguments: &[

@@ -21,8 +21,12 @@ pub enum PlaceKind {
 pub enum WatchKind {
     #[error("no local has this name")]
     NoLocal,
+    #[error("no local of this name is declared on this line")]
+    NotDeclared,
     #[error("the local has {0} words, from 0 on")]
     NoIndex(usize),
+    #[error("the local has {0} bytes, from 0 on")]
+    NoByte(usize),
     #[error("the workspace has {0} words, from 0 on")]
     NoWord(u32),
 }
@@ -60,6 +64,9 @@ pub enum Refusal {
     /// It asks for a check of a worker that is not in occam.
     #[error("error: --check is for workers in occam: files named .occ, or those given with --occam\n")]
     NoCheck,
+    /// It asks for the statements of a worker that is not in occam.
+    #[error("error: --statements is for workers in occam: files named .occ, or those given with --occam\n")]
+    NoStatements,
     /// It names standard input twice.
     #[error("error: standard input is read once: name a file for all but one of FILE, --packets and --expect\n")]
     StandardTwice,

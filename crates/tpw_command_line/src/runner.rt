@@ -3,7 +3,7 @@
 use crate::argument::{Argument, Kind};
 use crate::arguments::{members, output_options};
 use crate::ending::Ending;
-use crate::options::{CHECK, EXPECT, RAW};
+use crate::options::{CHECK, RAW};
 use crate::output_options::OutputOptions;
 use crate::shared::{
     DENY_ARGUMENT, EXPECT_ARGUMENT, FILE_ARGUMENT, HEX_ARGUMENT, HEX_EXPECT_ARGUMENT,
@@ -20,7 +20,7 @@ pub(crate) const RUN: &str = "run";
 /// Whether runs are compared with what a text means.
 const CHECK_ARGUMENT: Argument = Argument {
     name: CHECK,
-    kind: Kind::FlagConflicting(&[EXPECT, RAW]),
+    kind: Kind::FlagConflicting(&[RAW]),
     help: "Compare results, flags and traces with what the text in occam means: what differs alone is written",
 };
 

@@ -5,7 +5,7 @@ ghost use Rattle.std.specs.Prelude.{◌≤◌};
 use crate::argument::{Argument, Kind};
 use crate::arguments::{has_packets, packet_source, text_given};
 use crate::ending::Ending;
-use crate::options::{FROM, HEX, NUMBER, UNTIL, WATCH};
+use crate::options::{FROM, HEX, NUMBER, STATEMENTS, UNTIL, WATCH};
 use crate::packet_source::PacketSource;
 use crate::refusal::Refusal;
 use crate::shared::{
@@ -50,6 +50,13 @@ const WATCH_ARGUMENT: Argument = Argument {
     help: "Show only instructions that change one of these words, as k,buf",
 };
 
+/// Whether a run is shown by statements.
+const STATEMENTS_ARGUMENT: Argument = Argument {
+    name: STATEMENTS,
+    kind: Kind::Flag,
+    help: "A line for each statement in occam that assigns or sends, in place of instructions",
+};
+
 /// How numbers are written.
 const HEX_ARGUMENT: Argument = Argument {
     name: HEX,
@@ -64,7 +71,8 @@ pub(crate) const STEP_COMMAND: Subcommand = Subcommand {
     lines: "\
 Reads an image as hexadecimal, one line, or a worker in occam or as assembly text. Packets are as those of `run`.
 A PLACE is an address, as 36 or 0x24, or a count of steps, as +100; in a text also a label, or a line, as line:37.
-WORDS are names of words or variables, buf[2] for one word of a name, or w5 for a word by its number, with commas between.
+WORDS are names of variables, each of that name, or k@12 for the one that line 12 declares; buf[2] for one word of a name, or
+w5 for a word by its number; with commas between.
 Status 0: the worker stopped, or was left at --until. Status 1: it is stuck, or does not end, or what is read is no image.
 docs/WORKERS.md reads a run.",
     arguments: &[
@@ -78,6 +86,7 @@ docs/WORKERS.md reads a run.",
         FROM_ARGUMENT,
         UNTIL_ARGUMENT,
         WATCH_ARGUMENT,
+        STATEMENTS_ARGUMENT,
         HEX_ARGUMENT,
     ],
 };
@@ -108,7 +117,7 @@ impl Picked {
 }
 
 /// The view of `step`: a packet's run, from the place that a word names and as far as another, and of it the
-/// changes of some words.
+/// changes of some words; by instructions, or by statements.
 #[derive(Drop)]
 pub struct StepOptions {
     /// The packet, where one is given.
@@ -116,6 +125,7 @@ pub struct StepOptions {
     pub from: Option<String>,
     pub until: Option<String>,
     pub watch: Option<String>,
+    pub statements: bool,
     pub hexadecimal: bool,
 }
 
@@ -162,6 +172,7 @@ pub fn stepping_of(alloc: Global, matches: &ArgMatches<'_>) -> Result<StepOption
         from: text_given(alloc, matches, FROM)?,
         until: text_given(alloc, matches, UNTIL)?,
         watch: text_given(alloc, matches, WATCH)?,
+        statements: matches.get_flag(STATEMENTS),
         hexadecimal: matches.get_flag(HEX),
     })
 }

@@ -20,7 +20,7 @@ use tpw_command_line::{
 use tpw_files::{Failure, Inputs, Outcome, Terminal};
 use tpw_inputs::{Built, Occam};
 use tpw_judging::{write_list, write_why};
-use tpw_running::{Prepared, evaluate_packets, write_check, write_run};
+use tpw_running::{Prepared, Subject, evaluate_packets, write_check, write_run};
 use tpw_stepping::{Counted, excerpt_of, write_profile, write_step};
 use tpw_why::Verdict;
 
@@ -92,6 +92,12 @@ where
         return Ok(Outcome::Bad);
     };
     let prepared = prepare_run(alloc, inputs, image, &running.output)?;
+    let subject = Subject {
+        input: &asked.input,
+        language: asked.language,
+        bytes: &worker.bytes,
+        source: worker.source_text(),
+    };
     match &worker.occam {
         Some(occam) if running.check => Ok(write_check(
             rt,
@@ -99,6 +105,7 @@ where
             &prepared,
             running,
             &occam.compiled.core,
+            subject,
             writer,
             terminal,
         )?),
@@ -107,8 +114,7 @@ where
             alloc,
             &prepared,
             running,
-            &asked.input,
-            asked.language,
+            subject,
             writer,
             terminal,
         )?),

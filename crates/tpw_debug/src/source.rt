@@ -6,6 +6,7 @@ ghost use Rattle.tpw_debug.specs.Said.{statement_at, line_before, is_word_of, is
 use crate::printable::Printable;
 use std::fmt;
 use tp_image::LoopRow;
+use tp_image::layout::WORD_BYTES;
 
 /// A statement of a text, at the address of an instruction that it says.
 #[derive(Clone, Copy, Debug, PartialEq, Eq)]
@@ -33,6 +34,10 @@ pub struct Named<'a> {
     pub name: &'a str,
     pub from: usize,
     pub to: usize,
+    /// The line that declares it, counted from 1; 0 where no text does.
+    pub line: usize,
+    /// How many bytes it names, where they have a number each.
+    pub bytes: Option<usize>,
 }
 
 impl<'a> Named<'a> {
@@ -53,26 +58,41 @@ impl<'a> Named<'a> {
         }
     }
 
-    /// A word of the name, as a text writes it.
+    /// The number that the first byte of a word has in an array of bytes.
+    pub fn first_byte(&self, word: usize) -> usize {
+        word.saturating_sub(self.first)
+            .saturating_mul(WORD_BYTES)
+    }
+
+    /// A word of the name, as a text writes it: of an array of bytes the first of its bytes.
     pub fn of(self, word: usize) -> Indexed<'a> {
-        Indexed { named: self, word }
+        let index = match self.bytes {
+            Some(_) => self.first_byte(word),
+            None => word.saturating_sub(self.first),
+        };
+        Indexed { named: self, index }
+    }
+
+    /// The byte that has a number in an array of bytes, as a text writes it.
+    pub fn of_byte(self, index: usize) -> Indexed<'a> {
+        Indexed { named: self, index }
     }
 }
 
-/// A word of a name: `k` where the name has one word, else `buf[2]`.
+/// An element of a name: `k` where the name has one word, else `buf[2]`.
 #[derive(Clone, Copy)]
 pub struct Indexed<'a> {
     named: Named<'a>,
-    word: usize,
+    index: usize,
 }
 
 impl fmt::Display for Indexed<'_> {
     fn fmt<W: fmt::Write>(&self, f: &mut fmt::Formatter<W>) -> fmt::Result {
-        f.write_str(self.named.name)?;
-        if self.named.words == 1 {
+        let Indexed { named, index } = *self;
+        f.write_str(named.name)?;
+        if named.words == 1 && named.bytes.is_none() {
             return Ok(());
         }
-        let index = self.word.saturating_sub(self.named.first);
         write!(f, "[{index}]")
     }
 }

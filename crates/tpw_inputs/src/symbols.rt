@@ -39,6 +39,8 @@ fn words_of<'a>(alloc: Global, located: &[Located<'a>]) -> Result<Vec<Named<'a>>
             name: name.name,
             from: name.from as usize,
             to: name.to as usize,
+            line: name.line as usize,
+            bytes: name.bytes.map(|bytes| bytes as usize),
         })?;
     }
     Ok(words)

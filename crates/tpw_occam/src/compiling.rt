@@ -173,7 +173,7 @@ fn compiled<'t>(
                 lines: &sources,
                 addresses: &assembled.addresses,
             };
-            let located = located_in(alloc, text, &placed, &declared, code)?;
+            let located = located_in(alloc, text, &placed, &declared, &worker.arrays, code)?;
             let warnings = warnings_of(alloc, text, notes)?;
             Ok(CompiledText {
                 core,

@@ -2,19 +2,23 @@
 
 use std::alloc::{AllocError, Global};
 use std::collections::BTreeSet;
-use tpw_occam_core::Place;
+use tpw_occam_core::{Place, Storage};
 use tpw_occam_placing::Declared;
 use tpw_occam_symbolic::{Item, Placed, START};
 use tpw_occam_terms::Span;
 
 /// A name of a variable or of an array, its words of the workspace, and a stretch of the code in which it names them.
-/// A name with its words. Names that are never in scope together may have the same ones.
+/// Names that are never in scope together may have the same words.
 #[derive(Clone, Copy, Debug, PartialEq, Eq)]
 pub struct Located<'t> {
     pub name: &'t str,
+    /// The line that declares it.
+    pub line: u32,
     /// The first word, by its number in the workspace.
     pub first: u32,
     pub words: u32,
+    /// How many bytes an array of BYTE has.
+    pub bytes: Option<u32>,
     /// The address at which the stretch begins, and the one behind it.
     pub from: u32,
     pub to: u32,
@@ -41,6 +45,65 @@ pub(crate) fn said_at<'t>(lines: &[&'t str], span: Span) -> Option<&'t str> {
     line.get(first..first.saturating_add(span.width))
 }
 
+/// Whether the last type that a text names is BYTE, if it names one.
+fn last_type(text: &str) -> Option<bool> {
+    let mut last = None;
+    for word in text.split(|c: char| !c.is_ascii_alphanumeric() && c != '.') {
+        match word {
+            "BYTE" => last = Some(true),
+            "INT" | "BOOL" => last = Some(false),
+            _ => {}
+        }
+    }
+    last
+}
+
+/// What a line has before its comment.
+fn uncommented(line: &str) -> &str {
+    match line.split_once("--") {
+        Some((said, _)) => said,
+        None => line,
+    }
+}
+
+/// Whether an array is one of BYTE whose name stands at a span: its type is the last before that, on its line or above.
+fn is_of_bytes(lines: &[&str], name: Span) -> bool {
+    let above = name.line.saturating_sub(1);
+    let on = lines
+        .get(above)
+        .and_then(|line| line.get(..name.column.saturating_sub(1)));
+    if let Some(found) = on.and_then(|said| last_type(said)) {
+        return found;
+    }
+    for line in lines.iter().take(above).rev() {
+        if let Some(found) = last_type(uncommented(*line)) {
+            return found;
+        }
+    }
+    false
+}
+
+/// How many bytes an array of zeros has, if it is there.
+fn bytes_of(storages: &[Storage], array: usize) -> Option<u32> {
+    match storages.get(array) {
+        Some(Storage::Zeros(bytes)) => Some(*bytes),
+        _ => None,
+    }
+}
+
+/// How many bytes a place has under a name, where they have a number each.
+fn named_bytes(
+    lines: &[&str],
+    storages: &[Storage],
+    place: Place,
+    name: Span,
+) -> Option<u32> {
+    match place {
+        Place::Array(array) if is_of_bytes(lines, name) => bytes_of(storages, array),
+        _ => None,
+    }
+}
+
 /// Where an item lies in a worker, and how many words have its name. The word behind a loop's index has none.
 fn named_item(placed: Placed) -> Option<(Place, u32)> {
     match placed.item {
@@ -50,10 +113,12 @@ fn named_item(placed: Placed) -> Option<(Place, u32)> {
     }
 }
 
-/// The stretches of code that come from these lines.
+/// The stretches of code that come from the lines in which a declaration is in scope, or from its own line: there a loop
+/// begins and goes on.
 fn stretches(
     alloc: Global,
     code: Sources<'_>,
+    own: u32,
     lines: &BTreeSet<u32>,
 ) -> Result<Vec<Stretch>, AllocError> {
     let mut all = Vec::new(alloc);
@@ -62,7 +127,7 @@ fn stretches(
         let is_in = code
             .lines
             .get(place)
-            .is_some_and(|line| lines.contains(line));
+            .is_some_and(|line| *line == own || lines.contains(line));
         match begun {
             None if is_in => begun = Some(*at),
             Some(from) if !is_in => {
@@ -85,6 +150,7 @@ fn add_names<'t>(
     text: &[&'t str],
     placed: Placed,
     declared: &[Declared],
+    storages: &[Storage],
     code: Sources<'_>,
 ) -> Result<(), AllocError> {
     let Some((place, words)) = named_item(placed) else {
@@ -92,11 +158,14 @@ fn add_names<'t>(
     };
     for one in declared.iter().filter(|one| one.place == place) {
         if let Some(name) = said_at(text, one.name) {
-            for Stretch { from, to } in stretches(alloc, code, &one.lines)? {
+            let line = one.name.line as u32;
+            for Stretch { from, to } in stretches(alloc, code, line, &one.lines)? {
                 let located = Located {
                     name,
+                    line,
                     first: START.saturating_add(placed.local),
                     words,
+                    bytes: named_bytes(text, storages, place, one.name),
                     from,
                     to,
                 };
@@ -115,12 +184,15 @@ pub(crate) fn located_in<'t>(
     text: &'t str,
     all: &[Placed],
     declared: &[Declared],
+    storages: &[Storage],
     code: Sources<'_>,
 ) -> Result<Vec<Located<'t>>, AllocError> {
     let lines: Vec<&'t str> = text.lines().collect(alloc)?;
     let mut names = Vec::new(alloc);
     for placed in all {
-        add_names(alloc, &mut names, &lines, *placed, declared, code)?;
+        add_names(
+            alloc, &mut names, &lines, *placed, declared, storages, code,
+        )?;
     }
     Ok(names)
 }

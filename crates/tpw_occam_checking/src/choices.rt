@@ -72,9 +72,6 @@ pub(crate) fn chosen_by<'t, 'a>(
 ) -> Result<Selector, Interrupt> {
     let value = checker.expression(frame, e, None, depth)?;
     let of = value.of;
-    if of == Primitive::Bool {
-        return Err(checker.fault(span_of(e), FaultKind::CaseOfBools));
-    }
     let is_bound = match (value.constness, value.root) {
         (Constness::Constant(_), _) => false,
         (_, Root::Named) => false,

@@ -1,5 +1,5 @@
 -- The code of IF.
-use Rattle.std.proofs.Common.{◌≡◌, ◌+◌, ◌<◌, [], ◌∷◌, ◌++◌, ℕ, zero, suc, List, length, Some, Bool, false, true, nat_eq, refl, ap, sym, subst, ◌∙◌, arith, append_assoc, length-append}
+use Rattle.std.proofs.Common.{◌≡◌, ◌+◌, ◌<◌, [], ◌∷◌, ◌++◌, ℕ, zero, suc, List, length, Option, None, Some, Bool, false, true, nat_eq, refl, ap, sym, subst, ◌∙◌, arith, append_assoc, length-append}
 use Rattle.std.specs.Prelude.{slice_get, ◌||◌, ◌&&◌, ◌≢◌, if◌then◌else◌}
 use Rattle.std.proofs.Math.Bool.{or-false}
 use Rattle.std.proofs.lemmas.Bool.{eq-eqb}
@@ -22,14 +22,14 @@ use Rattle.tpw_occam_symbolic.specs.Symbolic.{Machine, nowhere, onward, performe
 use Rattle.tpw_occam_symbolic.specs.Leading.{Does, IsBefore, Arrives, HasLines}
 use Rattle.tpw_occam_expressions.specs.Agreement.{Knowledge, constant_in}
 use Rattle.tpw_occam_expressions.specs.Computing.{MayStand, reads, Decided, Decides}
-use Rattle.tpw_occam_code.specs.Executing.{MayRun, Matches, LeavesCounts, Executes, Chooses, is_skip, first_use, then_first, either_first, is_nothing, unset_after}
+use Rattle.tpw_occam_code.specs.Executing.{MayRun, KnowsState, none_unset, holds_of_chosen, Matches, LeavesCounts, Executes, Chooses, is_skip, first_use, then_first, either_first, is_nothing, unset_after}
 use Rattle.tpw_occam_symbolic.proofs.Leading.{does_less, step_is, leads_then, has_first, does_kept}
 use Rattle.tpw_occam_expressions.proofs.Constructs.{constant_value}
 use Rattle.tpw_occam_expressions.proofs.Conditions.{get_behind, does_branch, has_behind, jump_stands, cj_jumps, cj_passes, suc_not_zero}
 use Rattle.tpw_occam_expressions.proofs.Standing.{Place}
 use Rattle.tpw_occam_symbolic.proofs.Sizes.{and_first, and_second}
 use Rattle.tpw_occam_code.proofs.Knowing.{knows_fewer, knows_flagged, matches_fewer, counts_of_items}
-use Rattle.tpw_occam_code.proofs.Executing.{matches_leaves, false_true, and_true, not_read}
+use Rattle.tpw_occam_code.proofs.Executing.{matches_leaves, false_true, not_read}
 
 -- ---- IF
 
@@ -367,18 +367,93 @@ choose_executes k old between some none new_code source e guarded rest decides o
       );
     })
 
+-- a guard that is one constant
+pub guard_is : (k : Knowledge) (stores : List Storage) (scope : List Entry) (e : Expression) (c : ℕ) (s : Store) → constant_in k e ≡ Some c
+    → IsTrue (is_sound_expression (length k.kinds) stores scope e) → KnowsState k scope s → value_of e s ≡ pure c
+guard_is k stores scope e c s is sound known =
+    constant_value k stores scope none_unset s e c (record { sound = sound; assigned = λ y h. absurd (false_true h) }) known.knows is
+
 -- where the rest does nothing
-pub skip_runs : (kinds : List Kind) (p : Process) (s : Store) → is_skip p ≡ true → run kinds p s ≡ s
-skip_runs kinds process.Skip s h = refl
-skip_runs kinds (process.At' line p body) s h = skip_runs kinds body s h
-skip_runs kinds p s h = cc
+stays_if : (z : Bool) (c : ℕ) (one other s : Store) (some none : Bool) → nat_eq c 0 ≡ z → (if z then none else some) ≡ true
+    → (some ≡ true → one ≡ s) → (none ≡ true → other ≡ s) → chosen c one other ≡ s
+stays_if true c one other s some none is h first second = chosen_none c one other is ∙ second h
+stays_if false c one other s some none is h first second = chosen_some c one other is ∙ first h
 
-skip_first : (p : Process) (x : ℕ) → is_skip p ≡ true → first_use p x ≡ Nothing
-skip_first process.Skip x h = refl
-skip_first (process.At' line p body) x h = skip_first body x h
-skip_first p x h = cc
+chosen_stays : (k : Knowledge) (stores : List Storage) (scope : List Entry) (e : Expression) (s one other : Store) (some none : Bool) (c : Option ℕ)
+    → constant_in k e ≡ c → IsTrue (is_sound_expression (length k.kinds) stores scope e) → KnowsState k scope s → holds_of_chosen c some none ≡ true
+    → (some ≡ true → one ≡ flagged (value_of e s).flag s) → (none ≡ true → other ≡ flagged (value_of e s).flag s)
+    → chosen (value_of e s).word one other ≡ s
+chosen_stays k stores scope e s one other some none None is sound known h first second = absurd (false_true h)
+chosen_stays k stores scope e s one other some none (Some c) is sound known h first second =
+    let value : value_of e s ≡ pure c = guard_is k stores scope e c s is sound known in
+    let same : flagged (value_of e s).flag s ≡ s = ap (λ v. flagged v.flag s) value ∙ ap (λ f. record s { flag = f }) (or-false s.flag) in
+    ap (λ v. chosen v.word one other) value
+    ∙ stays_if (nat_eq c 0) c one other s some none refl h (λ yes. first yes ∙ same) (λ no. second no ∙ same)
 
-pub branch_executes : (k : Knowledge) (old between more new_code : Lines) (source : ℕ) (e : Expression) (guarded rest : Process) → is_skip rest ≡ true
+pub skip_runs : (k : Knowledge) (stores : List Storage) (scope : List Entry) (p : Process) (s : Store)
+    → IsTrue (is_sound_process (length k.kinds) stores scope p) → KnowsState k scope s → is_skip k p ≡ true → run k.kinds p s ≡ s
+skip_runs k stores scope process.Skip s sound known h = refl
+skip_runs k stores scope (process.At' line p body) s sound known h = skip_runs k stores scope body s sound known h
+skip_runs k stores scope (process.If' e p guarded q rest) s sound known h =
+    let g = value_of e s in
+    let t = flagged g.flag s in
+    let known2 = knows_flagged k scope g.flag s known in
+    chosen_stays k stores scope e s (run k.kinds guarded t) (run k.kinds rest t) (is_skip k guarded) (is_skip k rest) (constant_in k e) refl
+    (and_first _ _ (and_first _ _ sound)) known h
+    (skip_runs k stores scope guarded t (and_second (is_sound_expression (length k.kinds) stores scope e) _ (and_first _ _ sound)) known2)
+    (skip_runs k stores scope rest t
+    (and_second (is_sound_expression (length k.kinds) stores scope e && is_sound_process (length k.kinds) stores scope guarded) _ sound) known2)
+skip_runs k stores scope p s sound known h = cc
+
+-- .. it does nothing first to a variable that it does not read
+nothing_guarded : (r : Bool) (a b : First) → then_first (if r then Read else Nothing) (either_first a b) ≢ Read → a ≡ Nothing
+    → then_first (if r then Read else Nothing) (either_first a b) ≡ Nothing
+nothing_guarded true a b n is = absurd (n refl)
+nothing_guarded false Nothing Nothing n is = refl
+nothing_guarded false Nothing Assigned n is = absurd (n refl)
+nothing_guarded false Nothing Read n is = absurd (n refl)
+nothing_guarded false Assigned b n is = cc
+nothing_guarded false Read b n is = cc
+
+nothing_rest : (r : Bool) (a b : First) → then_first (if r then Read else Nothing) (either_first a b) ≢ Read → b ≡ Nothing
+    → then_first (if r then Read else Nothing) (either_first a b) ≡ Nothing
+nothing_rest true a b n is = absurd (n refl)
+nothing_rest false Nothing Nothing n is = refl
+nothing_rest false Assigned Nothing n is = absurd (n refl)
+nothing_rest false Read Nothing n is = absurd (n refl)
+nothing_rest false a Assigned n is = cc
+nothing_rest false a Read n is = cc
+
+nothing_if : (z r some none : Bool) (a b : First) → (if z then none else some) ≡ true
+    → then_first (if r then Read else Nothing) (either_first a b) ≢ Read → (some ≡ true → a ≢ Read → a ≡ Nothing)
+    → (none ≡ true → b ≢ Read → b ≡ Nothing) → then_first (if r then Read else Nothing) (either_first a b) ≡ Nothing
+nothing_if true r some none a b h n one other = nothing_rest r a b n (other h (rest_read r a b n))
+nothing_if false r some none a b h n one other = nothing_guarded r a b n (one h (guarded_read r a b n))
+
+nothing_chosen : (c : Option ℕ) (r some none : Bool) (a b : First) → holds_of_chosen c some none ≡ true
+    → then_first (if r then Read else Nothing) (either_first a b) ≢ Read → (some ≡ true → a ≢ Read → a ≡ Nothing)
+    → (none ≡ true → b ≢ Read → b ≡ Nothing) → then_first (if r then Read else Nothing) (either_first a b) ≡ Nothing
+nothing_chosen None r some none a b h n one other = absurd (false_true h)
+nothing_chosen (Some c) r some none a b h n one other = nothing_if (nat_eq c 0) r some none a b h n one other
+
+skip_first : (k : Knowledge) (p : Process) (x : ℕ) → is_skip k p ≡ true → first_use p x ≢ Read → first_use p x ≡ Nothing
+skip_first k process.Skip x h n = refl
+skip_first k (process.At' line p body) x h n = skip_first k body x h n
+skip_first k (process.If' e p guarded q rest) x h n =
+    nothing_chosen (constant_in k e) (reads e x) (is_skip k guarded) (is_skip k rest) (first_use guarded x) (first_use rest x) h n
+    (skip_first k guarded x) (skip_first k rest x)
+skip_first k p x h n = cc
+
+-- .. and leaves what is not assigned
+still_unset : (u : Bool) (first : First) → (u ≡ true → first ≡ Nothing) → (u && is_nothing first) ≡ false → u ≡ false
+still_unset false first none h = refl
+still_unset true first none h = absurd (false_true (sym h ∙ ap is_nothing (none refl)))
+
+skip_unset : (k : Knowledge) (scope : List Entry) (unset : ℕ → Bool) (sound : Bool) (p : Process) → MayRun scope unset sound (first_use p)
+    → is_skip k p ≡ true → (y : ℕ) → unset_after (first_use p) unset y ≡ false → unset y ≡ false
+skip_unset k scope unset sound p may h y set = still_unset (unset y) (first_use p y) (λ is. skip_first k p y h (may.assigned y is)) set
+
+pub branch_executes : (k : Knowledge) (old between more new_code : Lines) (source : ℕ) (e : Expression) (guarded rest : Process) → is_skip k rest ≡ true
     → Decides k old between e 3 0 → Executes k (none_at (place_behind between + 1)) more guarded
     → new_code ≡ joined (followed_by between (line_of source (CjTo (place_behind more)) ∷ [])) more
     → Chooses k old new_code e guarded rest
@@ -389,7 +464,8 @@ branch_executes k old between more new_code source e guarded rest skips decides 
     let t = flagged g.flag s in
     let known2 = knows_flagged k scope g.flag s known in
     let fewer : (y : ℕ) → unset_after (first_use whole) unset y ≡ false → unset y ≡ false =
-    λ y h. and_true (unset y) (ap (λ f. unset y && is_nothing f) (sym (skip_first rest y skips)) ∙ parts.after_none y h) in
+    λ y h. skip_unset k scope unset _ rest parts.none skips y (parts.after_none y h) in
+    let stays = skip_runs k storages scope rest t parts.none.sound known2 skips in
     does_branch k.arrays old between more new_code source (Matches k storages scope unset s) _ (Matches k storages scope unset t)
     _ (λ m end. Matches k storages scope (unset_after (first_use whole) unset) (run k.kinds whole s) end × LeavesCounts scope m end) is
     (does_kept k.arrays old between (Matches k storages scope unset s) (Decided g scope 0)
@@ -407,7 +483,7 @@ branch_executes k old between more new_code source e guarded rest skips decides 
       zero = λ w. (
         matches_moved k storages scope (unset_after (first_use whole) unset) (run k.kinds whole s) (place_behind new_code) middle
             (matches_state k storages scope (unset_after (first_use whole) unset) t (run k.kinds whole s) middle
-            (sym (chosen_none g.word (run k.kinds guarded t) (run k.kinds rest t) (word_zero d.word g.word d.same w) ∙ skip_runs k.kinds rest t skips))
+            (sym (chosen_none g.word (run k.kinds guarded t) (run k.kinds rest t) (word_zero d.word g.word d.same w) ∙ stays))
             (matches_fewer k storages scope unset (unset_after (first_use whole) unset) t middle fewer there)),
         record { counts = counts.counts; to_come = counts.to_come; sent = counts.sent },
       );

@@ -1,5 +1,5 @@
 -- Assignments that are made one by one.
-use Rattle.std.proofs.Common.{take, drop, ◌≡◌, ◌+◌, ◌<◌, [], ◌∷◌, ◌++◌, ℕ, zero, suc, List, length, Option, Some, None, IfSome, Bool, false, true, nat_eq, nat_lt, refl, ap, sym, subst, ◌∙◌, arith}
+use Rattle.std.proofs.Common.{take, drop, ◌≡◌, ◌+◌, ◌<◌, ◌≤◌, [], ◌∷◌, ◌++◌, ℕ, zero, suc, List, length, Option, Some, None, IfSome, Bool, false, true, nat_eq, nat_lt, refl, ap, sym, subst, ◌∙◌, arith}
 use Rattle.std.specs.Prelude.{slice_index, slice_set, slice_index_or, ◌||◌, if◌then◌else◌}
 use Rattle.std.proofs.lemmas.Bool.{eqb-true, le-ltb, lt-ltb}
 use Rattle.std.proofs.lemmas.Bool.Decides.{nat_tests}
@@ -21,9 +21,10 @@ use Rattle.tpw_occam_code.specs.declared.order.Move.TheVariants.{Keep, Make}
 use Rattle.tpw_occam_expressions.specs.Computing.{reads}
 use Rattle.tpw_occam_code.specs.Assigning.{reads_array, reads_target, are_near}
 use Rattle.tpw_occam_code.specs.Ordering.{target_reads, Precedes, PrecedesIn, assignment_at, waits, waiting_at, MayGo, IsAlone, IsMove, Picks, picked, before, Marks, marked, behind, pending_one, pending}
+use Rattle.tpw_occam_code.specs.Ordering.{Settles, AreAll, SettleAll, IsNumbered, AreNumbered}
 use Rattle.tpw_occam_expressions.proofs.Naming.{slice_other, slice_length}
 use Rattle.tpw_occam_code.proofs.Reading.{value_same, value_flagged, subscript_flagged, stored_flagged, flagged_both}
-use Rattle.tpw_occam_code.proofs.Matching.{sizes_at, with_element-length}
+use Rattle.tpw_occam_code.proofs.Matching.{sizes_at, with_element-length, rest_of, more_of}
 use Rattle.tpw_occam_code.proofs.KeptParts.{sizes_set}
 
 true_false : ◌≡◌ {A = Bool} true false → ⊥
@@ -235,3 +236,52 @@ picks_assigned kinds _ words _ _ _ s (before all one first rest less precedes ot
 pub some_weaker : {A : Type 0} (o : Option A) (P Q : A → Type 0) → ((x : A) → P x → Q x) → IfSome o P → IfSome o Q
 some_weaker None P Q f h = tt
 some_weaker (Some x) P Q f h = f x h
+
+-- ---- moves are of assignments that are there
+
+abbrev AreBelow : (count : ℕ) → List Waiting → Type 0
+AreBelow count [] = Unit {0}
+AreBelow count (w ∷ more) = (w.number < count) × AreBelow count more
+
+picks_below : (all : List Assignment) (one : Waiting) (waiting left : List Waiting) (count : ℕ) → Picks all one waiting left → AreBelow count waiting
+    → (one.number < count) × AreBelow count left
+picks_below _ _ _ _ count (picked all one rest precede) below = below
+picks_below _ _ _ _ count (before all one first rest left precedes others) below =
+    let deeper = picks_below all one rest left count others below.1 in
+    (deeper.0, (below.0, deeper.1))
+
+marks_below : (i : ℕ) (waiting left : List Waiting) (count : ℕ) → Marks i waiting left → AreBelow count waiting → (i < count) × AreBelow count left
+marks_below _ _ _ count (marked i rest differ) below = (below.0, (below.0, below.1))
+marks_below _ _ _ count (behind i first rest left differs others) below =
+    let deeper = marks_below i rest left count others below.1 in
+    (deeper.0, (below.0, deeper.1))
+
+settles_numbered : (all : List Assignment) (count : ℕ) (moves : List Move) (waiting : List Waiting) → AreBelow count waiting → Settles all waiting moves
+    → AreNumbered count moves
+settles_numbered all count [] waiting below settles = tt
+settles_numbered all count (Keep i ∷ more) waiting below settles =
+    let next = marks_below i waiting settles.0 count settles.1.0 below in
+    (next.0, settles_numbered all count more settles.0 next.1 settles.1.1)
+settles_numbered all count (Make i is_kept ∷ more) waiting below settles =
+    let next = picks_below all (waits i is_kept) waiting settles.0 count settles.1.0 below in
+    (next.0, settles_numbered all count more settles.0 next.1 settles.1.1)
+
+below_each : (count : ℕ) (waiting : List Waiting) → ((k : ℕ) → k < length waiting → (waiting_at waiting k).number < count) → AreBelow count waiting
+below_each count [] each = tt
+below_each count (w ∷ more) each = (each 0 (omega arith), below_each count more (λ k less. each (suc k) (omega (arith, less))))
+
+pub settled_numbered : (all : List Assignment) (moves : List Move) → SettleAll all moves → AreNumbered (length all) moves
+settled_numbered all moves settle =
+    let are : AreAll (length all) settle.0 = settle.1.0 in
+    settles_numbered all (length all) moves settle.0
+    (below_each (length all) settle.0 (λ k less.
+    let long = are.long in
+    let there : k < length all = omega (arith, less, long) in
+    subst (λ (w : Waiting). w.number < length all) (sym (are.each k there)) there))
+    settle.1.1
+
+pub numbered_parts : (count : ℕ) (moves : List Move) → 1 ≤ length moves → AreNumbered count moves
+    → IsNumbered count (slice_index_or moves 0 (Keep 0)) × AreNumbered count (rest_of moves)
+numbered_parts count moves some are =
+    let next = slice_index_or moves 0 (Keep 0) in
+    subst (AreNumbered count) (more_of moves next some (get_same moves 0 (Keep 0) next (omega (arith, some)))) are

@@ -34,13 +34,12 @@ use Rattle.tpw_occam_expressions.specs.Computing.{Binds}
 use Rattle.tpw_occam_code.specs.Executing.{IsProcessPlace, none_unset, KnowsState, Follows, Remains, ChoosesKnown, RepeatsKnown, cleared, is_skip}
 use Rattle.tpw_occam_symbolic.proofs.Words.{applied_small}
 use Rattle.tpw_occam_expressions.proofs.Ranges.{full_contains, byte_contains}
-use Rattle.tpw_occam_expressions.proofs.Constructs.{constant_value}
 use Rattle.tpw_occam_expressions.proofs.Naming.{new_name, slice_same, slice_other, slice_length, constant_fits}
 use Rattle.tpw_occam_expressions.proofs.Standing.{Place}
 use Rattle.tpw_occam_symbolic.proofs.Sizes.{and_first, and_second}
 use Rattle.tpw_occam_code.proofs.Knowing.{knows_flagged, in_longer, same_any, name_either, Takes, value_takes, variable_takes, place_taken, knows_taken, knows_outside, zero_fits, length_at, knows_bytes, knows_array, place_array, value_declares, set_holds}
 use Rattle.tpw_occam_code.proofs.Executing.{false_true}
-use Rattle.tpw_occam_code.proofs.Choosing.{chosen_some, chosen_none, not_zero, skip_runs}
+use Rattle.tpw_occam_code.proofs.Choosing.{chosen_some, chosen_none, not_zero, guard_is, skip_runs}
 use Rattle.tpw_occam_code.proofs.Looping.{index_of, index_first, counted}
 
 none_some : {c : ℕ} → ◌≡◌ {A = Option ℕ} None (Some c) → ⊥
@@ -379,17 +378,12 @@ choose_remains k e guarded rest one two p q storages scope s place sound known =
     (two storages scope t place (and_second (is_sound_expression (length k.kinds) storages scope e && is_sound_process (length k.kinds) storages scope guarded) _ sound) known2))
 
 -- .. by a guard that is one constant
-guard_is : (k : Knowledge) (stores : List Storage) (scope : List Entry) (e : Expression) (c : ℕ) (s : Store) → constant_in k e ≡ Some c
-    → IsTrue (is_sound_expression (length k.kinds) stores scope e) → KnowsState k scope s → (value_of e s).word ≡ c
-guard_is k stores scope e c s is sound known =
-    ap (λ v. v.word) (constant_value k stores scope none_unset s e c (record { sound = sound; assigned = λ y h. absurd (false_true h) }) known.knows is)
-
 pub never_remains : (k : Knowledge) (e : Expression) (guarded rest : Process) (c : ℕ) → constant_in k e ≡ Some c → c ≡ 0 → Remains k rest
     → ChoosesKnown k e guarded rest
 never_remains k e guarded rest c is low one p q storages scope s place sound known =
     let g = value_of e s in
     let t = flagged g.flag s in
-    let word = guard_is k storages scope e c s is (and_first _ _ (and_first _ _ sound)) known in
+    let word = ap (λ v. v.word) (guard_is k storages scope e c s is (and_first _ _ (and_first _ _ sound)) known) in
     subst (Follows k scope s) (sym (chosen_none g.word (run k.kinds guarded t) (run k.kinds rest t) (eq-eqb g.word 0 (word ∙ low))))
     (follows_flagged k scope g.flag s (run k.kinds rest t)
     (one storages scope t place (and_second (is_sound_expression (length k.kinds) storages scope e && is_sound_process (length k.kinds) storages scope guarded) _ sound)
@@ -400,14 +394,15 @@ pub always_remains : (k : Knowledge) (e : Expression) (guarded rest : Process) (
 always_remains k e guarded rest c is some one p q storages scope s place sound known =
     let g = value_of e s in
     let t = flagged g.flag s in
-    let word = guard_is k storages scope e c s is (and_first _ _ (and_first _ _ sound)) known in
+    let word = ap (λ v. v.word) (guard_is k storages scope e c s is (and_first _ _ (and_first _ _ sound)) known) in
     subst (Follows k scope s) (sym (chosen_some g.word (run k.kinds guarded t) (run k.kinds rest t) (rw word (not_zero c some))))
     (follows_flagged k scope g.flag s (run k.kinds guarded t)
     (one storages scope t place (and_second (is_sound_expression (length k.kinds) storages scope e) _ (and_first _ _ sound)) (knows_flagged k scope g.flag s known)))
 
 -- a rest that does nothing
-pub skipped_remains : (k : Knowledge) (p : Process) → is_skip p ≡ true → Remains k p
-skipped_remains k p skips storages scope s place sound known = subst (Follows k scope s) (sym (skip_runs k.kinds p s skips)) (follows_same k scope s known)
+pub skipped_remains : (k : Knowledge) (p : Process) → is_skip k p ≡ true → Remains k p
+skipped_remains k p skips storages scope s place sound known =
+    subst (Follows k scope s) (sym (skip_runs k storages scope p s sound known skips)) (follows_same k scope s known)
 
 -- ---- loops
 

@@ -1,6 +1,6 @@
 -- What the code of a process does.
 use Rattle.std.specs.Prelude.{◌≡◌, ◌≢◌, ℕ, ◌+◌, ◌*◌, ◌<◌, ◌≤◌, Bool, true, false, ◌||◌, ◌&&◌, ◌==◌, if◌then◌else◌}
-use Rattle.std.specs.Prelude.{List, [], ◌∷◌, ◌++◌, length, map, replicate, slice_index, slice_get, Some, IsTrue, Box}
+use Rattle.std.specs.Prelude.{List, [], ◌∷◌, ◌++◌, length, map, replicate, slice_index, slice_get, Option, None, Some, IsTrue, Box}
 use Rattle.std.specs.Global.{Global}
 use Rattle.std.specs.List.{list_all, list_any}
 use Rattle.tpw_occam_core.specs.declared.worker.Storage.{Storage}
@@ -28,7 +28,7 @@ use Rattle.tpw_occam_symbolic.specs.Code.{Lines, place_behind}
 use Rattle.tpw_occam_symbolic.specs.Blocks.{with_word}
 use Rattle.tpw_occam_symbolic.specs.Symbolic.{Machine, number, push, pop, with_blocks, at_place}
 use Rattle.tpw_occam_symbolic.specs.Leading.{Does, Makes, HasConstants, cleared_bytes}
-use Rattle.tpw_occam_expressions.specs.Agreement.{Knowledge, fact_at, fact_of_kind, Knows, Agrees}
+use Rattle.tpw_occam_expressions.specs.Agreement.{Knowledge, fact_at, fact_of_kind, constant_in, Knows, Agrees}
 use Rattle.tpw_occam_expressions.specs.Computing.{IsPlace, reads}
 
 -- ---- what happens first to a variable
@@ -181,11 +181,17 @@ Executes k old new p =
 abbrev pub with_item_word : Item → ℕ → ℕ → Machine → Machine
 with_item_word i word value m = pop (with_blocks (with_word i (4 * word) value m.blocks) (push (number value) m))
 
--- a process that does nothing
-abbrev pub is_skip : Process → Bool
-is_skip process.Skip = true
-is_skip (process.At' line p body) = is_skip body
-is_skip p = false
+-- what holds of the process that a guard chooses, where the guard is one constant
+abbrev pub holds_of_chosen : Option ℕ → (some none : Bool) → Bool
+holds_of_chosen None some none = false
+holds_of_chosen (Some c) some none = if c == 0 then none else some
+
+-- a process that does nothing, whatever the guards in it that are no constants
+abbrev pub is_skip : Knowledge → Process → Bool
+is_skip k process.Skip = true
+is_skip k (process.At' line p body) = is_skip k body
+is_skip k (process.If' e p guarded q rest) = holds_of_chosen (constant_in k e) (is_skip k guarded) (is_skip k rest)
+is_skip k p = false
 
 -- a variable is made 0 where a process may read it first
 abbrev pub Starts : First → (old new : Lines) → ℕ → Type 0

@@ -95,6 +95,15 @@ pub record AreAll (count : ℕ) (waiting : List Waiting) : Type 0 where
 abbrev pub SettleAll : List Assignment → List Move → Type 0
 SettleAll all moves = (waiting : List Waiting) × (AreAll (length all) waiting × Settles all waiting moves)
 
+-- each move is of an assignment that is there
+abbrev pub IsNumbered : (count : ℕ) → Move → Type 0
+IsNumbered count (Keep i) = i < count
+IsNumbered count (Make i is_kept) = i < count
+
+abbrev pub AreNumbered : (count : ℕ) → List Move → Type 0
+AreNumbered count [] = Unit {0}
+AreNumbered count (move ∷ more) = IsNumbered count move × AreNumbered count more
+
 -- ---- what is still to be made
 
 -- the assignment of one that waits; one of which the value is kept assigns that word

@@ -15,7 +15,8 @@ ghost use Rattle.tpw_occam_code.specs.Assigning.{element_bytes, IsToStore, Write
 ghost use Rattle.tpw_occam_code.specs.Assigning.{ComputesAbove, StoresIn, MakesOne, taken_value, HasSmallValue};
 ghost use Rattle.tpw_occam_code.specs.Assigning.{AssignsAbove, KeepsParts, KeepsSubscript, StoresParts, StoresKept};
 ghost use Rattle.tpw_occam_code.specs.Registers.{IsWordTarget, FitAll, StoresWord, AssignsBelow};
-ghost use Rattle.tpw_occam_code.specs.Ordering.{SettleAll, MakesMoves, MakesMove, KeepsValue, assignment_at};
+ghost use Rattle.tpw_occam_code.specs.Ordering.{SettleAll, IsNumbered, AreNumbered};
+ghost use Rattle.tpw_occam_code.specs.Ordering.{MakesMoves, MakesMove, KeepsValue, assignment_at};
 
 use crate::order::{Move, keep_any, moves};
 use tp_decode::Instr;
@@ -104,8 +105,9 @@ fn by_moves(
     moves: &[Move],
     line: u32,
 ) -> Result<(), CodeFault>
+    requires { SettleAll all.now moves.now }
     ensures knowledge { OnOk result (emitter.new ≡ emitter.old) }
-    ensures assigns { OnOk result (SettleAll all.now moves.now → Assigns emitter.old code.old code.new all.now) }
+    ensures assigns { OnOk result (Assigns emitter.old code.old code.new all.now) }
 {
     if !keep_any(moves) {
         return make_moves(emitter, code, all, moves, Allocation::from_word(0, line));
@@ -130,6 +132,7 @@ fn make_moves(
     moves: &[Move],
     room: Allocation,
 ) -> Result<(), CodeFault>
+    requires { AreNumbered (length all.now) moves.now }
     ensures knowledge { OnOk result (emitter.new ≡ emitter.old) }
     ensures makes { OnOk result (room.registers ≡ 3
         → MakesMoves emitter.old code.old code.new all.now moves.now room.next_temporary) }
@@ -149,18 +152,13 @@ fn make_move(
     next: Move,
     room: Allocation,
 ) -> Result<(), CodeFault>
+    requires { IsNumbered (length all.now) next }
     ensures knowledge { OnOk result (emitter.new ≡ emitter.old) }
     ensures makes { OnOk result (room.registers ≡ 3 → MakesMove emitter.old code.old code.new all.now next room.next_temporary) }
 {
     match next {
         Move::Keep(i) => keep(emitter, code, all, i, room),
-        Move::Make(i, is_kept) => {
-            // each number is that of an assignment
-            if i >= all.len() {
-                return Err(CodeFault::Workspace { line: room.line });
-            }
-            make(emitter, code, &all[i], i, is_kept, room)
-        }
+        Move::Make(i, is_kept) => make(emitter, code, &all[i], i, is_kept, room),
     }
 }
 
@@ -172,14 +170,15 @@ fn keep(
     i: usize,
     room: Allocation,
 ) -> Result<(), CodeFault>
+    requires { i < length all.now }
     ensures knowledge { OnOk result (emitter.new ≡ emitter.old) }
     ensures small { OnOk result (HasSmallValue emitter.old (assignment_at all.now i).value) }
     ensures there { OnOk result (i < room.next_temporary) }
     ensures keeps { OnOk result (room.registers ≡ 3
         → KeepsValue emitter.old code.old code.new (assignment_at all.now i) i room.next_temporary) }
 {
-    // each number is that of an assignment, for which there is a word
-    if i >= all.len() || i >= room.next_temporary {
+    // for each assignment there is a word
+    if i >= room.next_temporary {
         return Err(CodeFault::Workspace { line: room.line });
     }
     value(emitter, code, &all[i], room)?;
@@ -239,26 +238,20 @@ fn store(
     ensures knowledge { OnOk result (emitter.new ≡ emitter.old) }
     ensures stores { OnOk result (room.registers ≡ 3 → StoresIn emitter.old code.old code.new target.now room.next_temporary) }
 {
-    let line = room.line;
-    match target {
-        Target::Variable(x) => store_variable(code, line, *x),
-        Target::Element {
-            array,
-            kind,
-            subscript,
-        } => {
-            if let Some(word) = fixed_word(emitter, *array, *kind, subscript) {
-                return store_word(code, line, *array, word);
-            }
-            if let Some(offset) = emitter.offset_subscript(*array, *kind, subscript) {
-                return store_offset(code, line, *array, offset);
-            }
-            store_element(emitter, code, *array, *kind, subscript, room)
+    if let Target::Element {
+        array,
+        kind,
+        subscript,
+    } = target
+    {
+        if fixed_word(emitter, *array, *kind, subscript).is_none() {
+            return store_element(emitter, code, *array, *kind, subscript, room);
         }
     }
+    store_in_word(emitter, code, target, room)
 }
 
-/// Stores Areg in an element.
+/// Stores Areg in an element whose place is computed.
 fn store_element(
     emitter: &mut Emitter<'_>,
     code: &mut Code,
@@ -271,6 +264,9 @@ fn store_element(
     ensures stores { OnOk result (room.registers ≡ 3
         → StoresIn emitter.old code.old code.new (target.Element array kind subscript.now) room.next_temporary) }
 {
+    if let Some(offset) = emitter.offset_subscript(array, kind, subscript) {
+        return store_offset(code, room.line, array, offset);
+    }
     let size = emitter.elements(array, kind);
     subscript_over(emitter, code, subscript, size, room)?;
     indexed(code, room.line, array, kind)?;
@@ -383,20 +379,23 @@ fn assign_by_registers(
     };
     emitter.expression(code, &one.value, room)?;
     assign_by_registers(emitter, code, rest, room.above())?;
-    store_in_word(emitter, code, &one.target, room.line)
+    store_in_word(emitter, code, &one.target, room)
 }
 
-/// Stores Areg in a target that is a word.
+/// Stores Areg in a target whose place is fixed: a variable, or a word of an array.
 fn store_in_word(
     emitter: &mut Emitter<'_>,
     code: &mut Code,
     target: &Target,
-    line: u32,
+    room: Allocation,
 ) -> Result<(), CodeFault>
     ensures knowledge { OnOk result (emitter.new ≡ emitter.old) }
     ensures stores { OnOk result (IsWordTarget emitter.old target.now
         → StoresWord emitter.old code.old code.new target.now) }
+    ensures alone { OnOk result (room.registers ≡ 3
+        → StoresIn emitter.old code.old code.new target.now room.next_temporary) }
 {
+    let line = room.line;
     match target {
         Target::Variable(x) => store_variable(code, line, *x),
         Target::Element {
@@ -407,7 +406,7 @@ fn store_in_word(
             if let Some(word) = fixed_word(emitter, *array, *kind, subscript) {
                 return store_word(code, line, *array, word);
             }
-            // the target is no such word
+            // the place is not fixed
             Err(CodeFault::Code { line })
         }
     }

@@ -25,13 +25,22 @@ use tpw_occam_symbolic::{Code, CodeFault, Item, MAX_CLEARED, Step, Turns};
 /// The most words that are cleared one by one.
 const FEW_WORDS: u32 = 2;
 
-/// Whether a process does nothing.
-fn is_skip(p: &Process) -> bool
-    ensures { result ≡ is_skip p.now }
+/// Whether a process does nothing, whatever the guards in it that are no constants.
+fn is_skip(emitter: &Emitter<'_>, p: &Process) -> bool
+    ensures { result ≡ is_skip emitter.now p.now }
 {
     match p {
         Process::Skip => true,
-        Process::At { line: _, body } => is_skip(body),
+        Process::At { line: _, body } => is_skip(emitter, body),
+        Process::If {
+            guard,
+            guarded,
+            rest,
+        } => match emitter.constant_of(guard) {
+            Some(0) => is_skip(emitter, rest),
+            Some(_) => is_skip(emitter, guarded),
+            None => false,
+        },
         _ => false,
     }
 }
@@ -251,7 +260,7 @@ fn choice(
     emitter.condition(code, guard, Allocation::from_word(0, line))?;
     let mut yes = code.behind_one(emitter.alloc, line)?;
     process(emitter, &mut yes, guarded, line)?;
-    if is_skip(rest) {
+    if is_skip(emitter, rest) {
         return code.branch(emitter.alloc, line, &yes);
     }
     let mut no = yes.behind_one(emitter.alloc, line)?;

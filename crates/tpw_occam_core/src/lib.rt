@@ -5,6 +5,7 @@
 #![tactic(auto)]
 
 mod arithmetic;
+mod environment;
 mod expression;
 mod kind;
 mod process;

@@ -2,7 +2,7 @@
 
 ghost use Rattle.std.specs.Prelude.{◌≡◌};
 ghost use Rattle.std.specs.List.{list_any};
-ghost use Rattle.tpw_occam_core.specs.Sound.{is_variable, is_name, is_array, is_new_name};
+ghost use Rattle.tpw_occam_core.specs.Sound.{is_variable, is_name, is_array};
 
 /// A name in scope.
 #[derive(Clone, Copy, Debug, PartialEq, Eq)]
@@ -62,11 +62,4 @@ pub(crate) fn has_array(scope: &[Entry], a: usize) -> bool
     ensures { result ≡ list_any (is_array a) scope.now }
 {
     scope.iter().any(|entry| is_array(a, *entry))
-}
-
-/// Whether a name, one of this many, is new.
-pub(crate) fn is_new_name(count: usize, scope: &[Entry], x: usize) -> bool
-    ensures { result ≡ is_new_name count scope.now x }
-{
-    x < count && !has_name(scope, x)
 }

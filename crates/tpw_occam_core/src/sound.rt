@@ -2,58 +2,18 @@
 
 ghost use Rattle.std.specs.Prelude.{◌≡◌, ◌&&◌, ◌++◌, ◌∷◌, [], nat_lt, nat_le, length, IfOk, OnOk};
 ghost use Rattle.std.specs.List.{list_all};
-ghost use Rattle.tpw_occam_core.specs.Sound.{storage_of, bytes_of, is_table, is_seen, is_written, is_new_array};
 ghost use Rattle.tpw_occam_core.specs.Sound.{is_message, is_sized, are_turns, is_word, is_sound_expression};
 ghost use Rattle.tpw_occam_core.specs.Sound.{is_sound_target, is_sound_assignment, is_sound_message, is_sound_process};
-ghost use Rattle.tpw_occam_core.specs.Sound.{is_sound_place, globals, are_declared, is_sound};
+ghost use Rattle.tpw_occam_core.specs.Sound.{is_sound_place, are_declared, is_sound};
+ghost use Rattle.tpw_occam_core.specs.Environment.{environment_of};
 
+use crate::environment::Environment;
 use crate::expression::Expression;
 use crate::kind::Kind;
 use crate::process::{Assignment, Message, Process, Target};
-use crate::scope::{Entry, has_array, has_name, has_variable, is_new_name};
+use crate::scope::{Entry, has_array, has_name, has_variable};
 use crate::worker::{Place, Storage, Worker};
 use std::alloc::{AllocError, Global};
-
-/// The bytes of an array; 0 where there is no such array.
-fn bytes_of(storages: &[Storage], a: usize) -> u64
-    ensures { result ≡ bytes_of (storage_of storages.now a) }
-{
-    match storages.get(a) {
-        Some(Storage::Zeros(count)) => u64::from(*count),
-        Some(Storage::Table(bytes)) => bytes.len() as u64,
-        None => 0,
-    }
-}
-
-fn is_table(storages: &[Storage], a: usize) -> bool
-    ensures { result ≡ is_table (storage_of storages.now a) }
-{
-    match storages.get(a) {
-        Some(Storage::Table(_)) => true,
-        _ => false,
-    }
-}
-
-fn is_seen(storages: &[Storage], scope: &[Entry], a: usize, kind: Kind) -> bool
-    ensures { result ≡ is_seen storages.now scope.now a kind }
-{
-    match kind {
-        Kind::Byte => has_array(scope, a),
-        Kind::Word => has_array(scope, a) && bytes_of(storages, a) % 4 == 0,
-    }
-}
-
-fn is_written(storages: &[Storage], scope: &[Entry], a: usize) -> bool
-    ensures { result ≡ is_written storages.now scope.now a }
-{
-    has_array(scope, a) && !is_table(storages, a)
-}
-
-fn is_new_array(storages: &[Storage], scope: &[Entry], a: usize) -> bool
-    ensures { result ≡ is_new_array storages.now scope.now a }
-{
-    a < storages.len() && !is_table(storages, a) && !has_array(scope, a)
-}
 
 fn is_message(bytes: u64) -> bool
     ensures { result ≡ is_message bytes }
@@ -68,14 +28,9 @@ fn are_turns(start: u32, count: u32) -> bool
 }
 
 /// Whether an expression is sound.
-fn is_sound_expression(
-    count: usize,
-    storages: &[Storage],
-    scope: &mut Vec<Entry>,
-    e: &Expression,
-) -> Result<bool, AllocError>
-    ensures sound { IfOk result (λ sound. sound ≡ is_sound_expression count storages.now scope.old.items e.now) }
-    ensures same { OnOk result (scope.new.items ≡ scope.old.items) }
+fn is_sound_expression(env: &mut Environment<'_>, e: &Expression) -> Result<bool, AllocError>
+    ensures sound { IfOk result (λ sound. sound ≡ is_sound_expression env.old.count env.old.storages env.old.scope e.now) }
+    ensures same { OnOk result (env.new ≡ env.old) }
 {
     match e {
         Expression::Constant(c) => {
@@ -83,171 +38,127 @@ fn is_sound_expression(
             let _word = *c;
             Ok(true)
         }
-        Expression::Variable(x) => Ok(has_name(scope, *x)),
+        Expression::Variable(x) => Ok(has_name(&env.scope, *x)),
         Expression::Element {
             array,
             kind,
             subscript,
-        } => Ok(
-            is_seen(storages, scope, *array, *kind)
-                && is_sound_expression(count, storages, scope, subscript)?,
-        ),
+        } => Ok(env.is_seen(*array, *kind) && is_sound_expression(env, subscript)?),
         Expression::Checked { below, subscript } => Ok(
-            *below > 0
-                && *below <= 0x8000_0000
-                && is_sound_expression(count, storages, scope, subscript)?,
+            *below > 0 && *below <= 0x8000_0000 && is_sound_expression(env, subscript)?,
         ),
         Expression::Binary {
             operator: _,
             left,
             right,
-        } => Ok(
-            is_sound_expression(count, storages, scope, left)?
-                && is_sound_expression(count, storages, scope, right)?,
-        ),
-        Expression::Complement(e) => is_sound_expression(count, storages, scope, e),
-        Expression::Not(e) => is_sound_expression(count, storages, scope, e),
-        Expression::LowByte(e) => is_sound_expression(count, storages, scope, e),
+        } => Ok(is_sound_expression(env, left)? && is_sound_expression(env, right)?),
+        Expression::Complement(e) => is_sound_expression(env, e),
+        Expression::Not(e) => is_sound_expression(env, e),
+        Expression::LowByte(e) => is_sound_expression(env, e),
         Expression::And(left, right) => Ok(
-            is_sound_expression(count, storages, scope, left)?
-                && is_sound_expression(count, storages, scope, right)?,
+            is_sound_expression(env, left)? && is_sound_expression(env, right)?,
         ),
         Expression::Or(left, right) => Ok(
-            is_sound_expression(count, storages, scope, left)?
-                && is_sound_expression(count, storages, scope, right)?,
+            is_sound_expression(env, left)? && is_sound_expression(env, right)?,
         ),
         Expression::Let {
             name,
             value,
             within,
         } => {
-            if !is_sound_expression(count, storages, scope, value)?
-                || !is_new_name(count, scope, *name)
-            {
+            if !is_sound_expression(env, value)? || !env.is_new_name(*name) {
                 return Ok(false);
             }
-            scope.push(Entry::Value(*name))?;
-            let sound = is_sound_expression(count, storages, scope, within)?;
-            scope.pop();
+            env.scope.push(Entry::Value(*name))?;
+            let sound = is_sound_expression(env, within)?;
+            env.scope.pop();
             Ok(sound)
         }
     }
 }
 
-fn is_sound_target(
-    count: usize,
-    storages: &[Storage],
-    scope: &mut Vec<Entry>,
-    target: &Target,
-) -> Result<bool, AllocError>
-    ensures sound { IfOk result (λ sound. sound ≡ is_sound_target count storages.now scope.old.items target.now) }
-    ensures same { OnOk result (scope.new.items ≡ scope.old.items) }
+fn is_sound_target(env: &mut Environment<'_>, target: &Target) -> Result<bool, AllocError>
+    ensures sound { IfOk result (λ sound. sound ≡ is_sound_target env.old.count env.old.storages env.old.scope target.now) }
+    ensures same { OnOk result (env.new ≡ env.old) }
 {
     match target {
-        Target::Variable(x) => Ok(has_variable(scope, *x)),
+        Target::Variable(x) => Ok(has_variable(&env.scope, *x)),
         Target::Element {
             array,
             kind,
             subscript,
         } => Ok(
-            is_seen(storages, scope, *array, *kind)
-                && is_written(storages, scope, *array)
-                && is_sound_expression(count, storages, scope, subscript)?,
+            env.is_seen(*array, *kind)
+                && env.is_written(*array)
+                && is_sound_expression(env, subscript)?,
         ),
     }
 }
 
-fn is_sound_assignment(
-    count: usize,
-    storages: &[Storage],
-    scope: &mut Vec<Entry>,
-    a: &Assignment,
-) -> Result<bool, AllocError>
-    ensures sound { IfOk result (λ sound. sound ≡ is_sound_assignment count storages.now scope.old.items a.now) }
-    ensures same { OnOk result (scope.new.items ≡ scope.old.items) }
+fn is_sound_assignment(env: &mut Environment<'_>, a: &Assignment) -> Result<bool, AllocError>
+    ensures sound { IfOk result (λ sound. sound ≡ is_sound_assignment env.old.count env.old.storages env.old.scope a.now) }
+    ensures same { OnOk result (env.new ≡ env.old) }
 {
-    Ok(
-        is_sound_target(count, storages, scope, &a.target)?
-            && is_sound_expression(count, storages, scope, &a.value)?,
-    )
+    Ok(is_sound_target(env, &a.target)? && is_sound_expression(env, &a.value)?)
 }
 
-fn are_sound_assignments(
-    count: usize,
-    storages: &[Storage],
-    scope: &mut Vec<Entry>,
-    list: &[Assignment],
-) -> Result<bool, AllocError>
-    ensures sound { IfOk result (λ sound. sound ≡ list_all (is_sound_assignment count storages.now scope.old.items)
+fn are_sound_assignments(env: &mut Environment<'_>, list: &[Assignment]) -> Result<bool, AllocError>
+    ensures sound { IfOk result (λ sound. sound ≡ list_all (is_sound_assignment env.old.count env.old.storages env.old.scope)
         list.now) }
-    ensures same { OnOk result (scope.new.items ≡ scope.old.items) }
+    ensures same { OnOk result (env.new ≡ env.old) }
 {
     match list {
         [] => Ok(true),
         [first, more @ ..] => Ok(
-            is_sound_assignment(count, storages, scope, first)?
-                && are_sound_assignments(count, storages, scope, more)?,
+            is_sound_assignment(env, first)? && are_sound_assignments(env, more)?,
         ),
     }
 }
 
-fn is_sound_message(
-    count: usize,
-    storages: &[Storage],
-    scope: &mut Vec<Entry>,
-    m: &Message,
-) -> Result<bool, AllocError>
-    ensures sound { IfOk result (λ sound. sound ≡ is_sound_message count storages.now scope.old.items m.now) }
-    ensures same { OnOk result (scope.new.items ≡ scope.old.items) }
+fn is_sound_message(env: &mut Environment<'_>, m: &Message) -> Result<bool, AllocError>
+    ensures sound { IfOk result (λ sound. sound ≡ is_sound_message env.old.count env.old.storages env.old.scope m.now) }
+    ensures same { OnOk result (env.new ≡ env.old) }
 {
     match m {
-        Message::Value(e) => is_sound_expression(count, storages, scope, e),
-        Message::Array(a) => Ok(has_array(scope, *a) && is_message(bytes_of(storages, *a))),
+        Message::Value(e) => is_sound_expression(env, e),
+        Message::Array(a) => Ok(has_array(&env.scope, *a) && is_message(env.bytes_of(*a))),
     }
 }
 
 /// Whether a process is sound with one more name in scope.
 #[cycle(sound)]
 fn is_sound_within(
-    count: usize,
-    storages: &[Storage],
-    scope: &mut Vec<Entry>,
+    env: &mut Environment<'_>,
     entry: Entry,
     body: &Process,
 ) -> Result<bool, AllocError>
-    ensures sound { IfOk result (λ sound. sound ≡ is_sound_process count storages.now (scope.old.items ++ entry ∷ [])
+    ensures sound { IfOk result (λ sound. sound ≡ is_sound_process env.old.count env.old.storages (env.old.scope ++ entry ∷ [])
         body.now) }
-    ensures same { OnOk result (scope.new.items ≡ scope.old.items) }
+    ensures same { OnOk result (env.new ≡ env.old) }
 {
-    scope.push(entry)?;
-    let sound = is_sound_process(count, storages, scope, body)?;
-    scope.pop();
+    env.scope.push(entry)?;
+    let sound = is_sound_process(env, body)?;
+    env.scope.pop();
     Ok(sound)
 }
 
 /// Whether a process is sound.
 #[cycle(sound)]
-fn is_sound_process(
-    count: usize,
-    storages: &[Storage],
-    scope: &mut Vec<Entry>,
-    p: &Process,
-) -> Result<bool, AllocError>
-    ensures sound { IfOk result (λ sound. sound ≡ is_sound_process count storages.now scope.old.items p.now) }
-    ensures same { OnOk result (scope.new.items ≡ scope.old.items) }
+fn is_sound_process(env: &mut Environment<'_>, p: &Process) -> Result<bool, AllocError>
+    ensures sound { IfOk result (λ sound. sound ≡ is_sound_process env.old.count env.old.storages env.old.scope p.now) }
+    ensures same { OnOk result (env.new ≡ env.old) }
 {
     match p {
         Process::Skip => Ok(true),
         Process::Stop => Ok(true),
-        Process::Assign(list) => are_sound_assignments(count, storages, scope, list),
+        Process::Assign(list) => are_sound_assignments(env, list),
         Process::Copy { to, from } => Ok(
-            is_written(storages, scope, *to)
-                && has_array(scope, *from)
-                && bytes_of(storages, *to) == bytes_of(storages, *from),
+            env.is_written(*to)
+                && has_array(&env.scope, *from)
+                && env.bytes_of(*to) == env.bytes_of(*from),
         ),
         Process::Sequence(first, second) => Ok(
-            is_sound_process(count, storages, scope, first)?
-                && is_sound_process(count, storages, scope, second)?,
+            is_sound_process(env, first)? && is_sound_process(env, second)?,
         ),
         Process::Repeat {
             index,
@@ -256,50 +167,34 @@ fn is_sound_process(
             body,
         } => Ok(
             are_turns(*start, *turns)
-                && is_new_name(count, scope, *index)
-                && is_sound_within(count, storages, scope, Entry::Value(*index), body)?,
+                && env.is_new_name(*index)
+                && is_sound_within(env, Entry::Value(*index), body)?,
         ),
         Process::If {
             guard,
             guarded,
             rest,
         } => Ok(
-            is_sound_expression(count, storages, scope, guard)?
-                && is_sound_process(count, storages, scope, guarded)?
-                && is_sound_process(count, storages, scope, rest)?,
+            is_sound_expression(env, guard)?
+                && is_sound_process(env, guarded)?
+                && is_sound_process(env, rest)?,
         ),
         Process::Variable { name, body } => Ok(
-            is_new_name(count, scope, *name)
-                && is_sound_within(count, storages, scope, Entry::Variable(*name), body)?,
+            env.is_new_name(*name) && is_sound_within(env, Entry::Variable(*name), body)?,
         ),
         Process::Value { name, value, body } => {
             Ok(
-                is_sound_expression(count, storages, scope, value)?
-                    && is_new_name(count, scope, *name)
-                    && is_sound_within(count, storages, scope, Entry::Value(*name), body)?,
+                is_sound_expression(env, value)?
+                    && env.is_new_name(*name)
+                    && is_sound_within(env, Entry::Value(*name), body)?,
             )
         }
         Process::Array { name, body } => Ok(
-            is_new_array(storages, scope, *name)
-                && is_sound_within(count, storages, scope, Entry::Array(*name), body)?,
+            env.is_new_array(*name) && is_sound_within(env, Entry::Array(*name), body)?,
         ),
-        Process::Trace(m) => is_sound_message(count, storages, scope, m),
-        Process::At { line: _, body } => is_sound_process(count, storages, scope, body),
+        Process::Trace(m) => is_sound_message(env, m),
+        Process::At { line: _, body } => is_sound_process(env, body),
     }
-}
-
-/// The names that are declared for the whole worker.
-fn globals(alloc: Global, worker: &Worker) -> Result<Vec<Entry>, AllocError>
-    ensures { IfOk result (λ scope. scope.items ≡ globals worker.now) }
-{
-    let mut scope = Vec::new(alloc);
-    for x in &worker.global_variables {
-        scope.push(Entry::Variable(*x))?;
-    }
-    for a in &worker.global_arrays {
-        scope.push(Entry::Array(*a))?;
-    }
-    Ok(scope)
 }
 
 fn is_word(kind: Kind) -> bool
@@ -328,18 +223,16 @@ fn is_sized(storage: &Storage) -> bool
     }
 }
 
-fn is_sound_place(worker: &Worker, scope: &[Entry]) -> bool
-    requires { scope.now ≡ globals worker.now }
+fn is_sound_place(worker: &Worker, env: &Environment<'_>) -> bool
+    requires { env.now ≡ environment_of worker.now }
     ensures { result ≡ is_sound_place worker.now worker.now.receive }
 {
     match worker.receive {
         Place::Variable(x) => {
-            has_variable(scope, x)
+            has_variable(&env.scope, x)
                 && is_word(worker.variables.get(x).copied().unwrap_or(Kind::Word))
         }
-        Place::Array(a) => {
-            is_written(&worker.arrays, scope, a) && is_message(bytes_of(&worker.arrays, a))
-        }
+        Place::Array(a) => env.is_written(a) && is_message(env.bytes_of(a)),
     }
 }
 
@@ -369,12 +262,11 @@ fn are_declared(worker: &Worker) -> bool
 pub fn is_sound(alloc: Global, worker: &Worker) -> Result<bool, AllocError>
     ensures { IfOk result (λ sound. sound ≡ is_sound worker.now) }
 {
-    let mut scope = globals(alloc, worker)?;
-    let count = worker.variables.len();
+    let mut env = Environment::of(alloc, worker)?;
     Ok(
         are_declared(worker)
-            && is_sound_place(worker, &scope)
-            && is_sound_process(count, &worker.arrays, &mut scope, &worker.body)?
-            && is_sound_message(count, &worker.arrays, &mut scope, &worker.send)?,
+            && is_sound_place(worker, &env)
+            && is_sound_process(&mut env, &worker.body)?
+            && is_sound_message(&mut env, &worker.send)?,
     )
 }

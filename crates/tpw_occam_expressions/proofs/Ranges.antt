@@ -12,7 +12,7 @@ use Rattle.std.proofs.Math.Nat.{div-le_self, pow-le-pow_right}
 use Rattle.tp_words.specs.Words.{signed, low_word}
 use Rattle.tp_words.specs.Numbers.{overflows, least_integer, greatest_integer, minus_one, truth}
 use Rattle.tp_state.proofs.WordLemmas.{signed_above, signed_below, signed_low, signed_natural, natural_signed, signed_same, signed_low_word}
-use Rattle.tp_state.proofs.WordLemmas.{low_word_lt, low_word_alike, unsigned_is}
+use Rattle.tp_state.proofs.WordLemmas.{low_word_lt, unsigned_sum, unsigned_difference}
 use Rattle.tp_state.proofs.Products.{between_corners, mul_up, div_more, quotient_up, remainder_low, remainder_high, remainder_sign}
 use Rattle.tpw_occam_core.specs.Arithmetic.{applied, divided, quotient_answer, subscript}
 use Rattle.tpw_occam_core.specs.declared.expression.Operator.{Operator}
@@ -79,27 +79,6 @@ between_made e f g = rw (← f, ← g) e
 
 -- ---- sums and differences
 
--- wrapping sums and differences of unsigned words
-unsigned_sum : (y x : ℕ) → y < 2 ^ 32 → x < 2 ^ 32 → low_word (pos y +ℤ pos x) ≡ low_word (signed y +ℤ signed x)
-unsigned_sum y x hy hx =
-    let ux = unsigned_is x hx in
-    let uy = unsigned_is y hy in
-    let j = ux.0 in
-    let k = uy.0 in
-    let x_is : pos x ≡ signed x +ℤ (j *ℤ pos (2 ^ 32)) = ux.1 in
-    let y_is : pos y ≡ signed y +ℤ (k *ℤ pos (2 ^ 32)) = uy.1 in
-    low_word_alike (pos y +ℤ pos x) (signed y +ℤ signed x) (j +ℤ k) (omega (arith, ints))
-
-unsigned_difference : (y x : ℕ) → y < 2 ^ 32 → x < 2 ^ 32 → low_word (pos y -ℤ pos x) ≡ low_word (signed y -ℤ signed x)
-unsigned_difference y x hy hx =
-    let ux = unsigned_is x hx in
-    let uy = unsigned_is y hy in
-    let j = ux.0 in
-    let k = uy.0 in
-    let x_is : pos x ≡ signed x +ℤ (j *ℤ pos (2 ^ 32)) = ux.1 in
-    let y_is : pos y ≡ signed y +ℤ (k *ℤ pos (2 ^ 32)) = uy.1 in
-    low_word_alike (pos y -ℤ pos x) (signed y -ℤ signed x) (k -ℤ j) (omega (arith, ints))
-
 -- each sum of two lies between those of the ends
 sum_low : (b a : Range) → HoldsOfEach b a (λ vb va. (b.low +ℤ a.low) ≤ℤ (signed vb +ℤ signed va))
 sum_low b a vb va hb ha in_b in_a =
@@ -122,7 +101,7 @@ sums_checked b a vb va hb ha in_b in_a =
 
 pub sums_wrapped : (b a : Range) → ContainsResults operator.Plus b a (sums b a)
 sums_wrapped b a vb va hb ha in_b in_a =
-    rw (unsigned_sum vb va hb ha) (sums_checked b a vb va hb ha in_b in_a)
+    rw (unsigned_sum va vb ha hb) (sums_checked b a vb va hb ha in_b in_a)
 
 pub sums_fit : (b a : Range) → sums b a ≢ full → AreWords ◌+ℤ◌ b a
 sums_fit b a some vb va hb ha in_b in_a =
@@ -150,7 +129,7 @@ differences_checked b a vb va hb ha in_b in_a =
 
 pub differences_wrapped : (b a : Range) → ContainsResults operator.Minus b a (differences b a)
 differences_wrapped b a vb va hb ha in_b in_a =
-    rw (unsigned_difference vb va hb ha) (differences_checked b a vb va hb ha in_b in_a)
+    rw (unsigned_difference va vb ha hb) (differences_checked b a vb va hb ha in_b in_a)
 
 pub differences_fit : (b a : Range) → differences b a ≢ full → AreWords ◌-ℤ◌ b a
 differences_fit b a some vb va hb ha in_b in_a =

@@ -109,8 +109,6 @@ pub enum FaultKind<'a> {
     NotVal {
         name: &'a str,
     },
-    /// A CASE of BOOLs.
-    CaseOfBools,
     /// A constant of a CASE that stands in it before.
     CaseTwice {
         first: Span,
@@ -186,7 +184,6 @@ impl FaultKind<'_> {
                 | FaultKind::BoolElements
                 | FaultKind::Arguments { .. }
                 | FaultKind::NotVal { .. }
-                | FaultKind::CaseOfBools
         )
     }
 }
@@ -387,7 +384,6 @@ fn text_of(kind: FaultKind<'_>) -> &'static str {
         FaultKind::VariableWanted => "a variable or an element is wanted here",
         FaultKind::NoSize => "an array that is declared has a size, as in [16]INT",
         FaultKind::BoolElements => "elements are INTs or BYTEs",
-        FaultKind::CaseOfBools => "CASE is of an INT or a BYTE: use IF for a BOOL",
         FaultKind::LastIndex => "the last index is beyond 2147483647",
         FaultKind::Protocol =>
             "a channel carries INT, [n]INT or [n]BYTE, of 4 to 256 bytes, four or a multiple of it",

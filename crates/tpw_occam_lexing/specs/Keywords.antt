@@ -46,7 +46,6 @@ spelling keyword.Data = codes "DATA"
 spelling keyword.From = codes "FROM"
 spelling keyword.Inline = codes "INLINE"
 spelling keyword.Int16 = codes "INT16"
-spelling keyword.Int32 = codes "INT32"
 spelling keyword.Int64 = codes "INT64"
 spelling keyword.OffsetOf = codes "OFFSETOF"
 spelling keyword.Packed = codes "PACKED"
@@ -77,9 +76,9 @@ abbrev pub listed : List Keyword → List ℕ → Option Keyword
 listed [] word = None
 listed (keyword ∷ more) word = if bytes_eq (spelling keyword) word then Some keyword else listed more word
 
--- the keyword of a spelling
+-- the keyword that a word is: by its spelling; INT has another name
 unfoldable pub keyword_of : List ℕ → Option Keyword
-keyword_of word = listed KEYWORDS word
+keyword_of word = if bytes_eq word (codes "INT32") then Some keyword.Int else listed KEYWORDS word
 
 -- a line may go on behind operators, and behind IS
 abbrev pub is_open_word : Keyword → Bool

@@ -48,7 +48,6 @@ pub enum Keyword {
     From,
     Inline,
     Int16,
-    Int32,
     Int64,
     OffsetOf,
     Packed,
@@ -75,7 +74,7 @@ pub enum Keyword {
     Workspace,
 }
 
-const KEYWORDS: [Keyword; 65] = [
+const KEYWORDS: [Keyword; 64] = [
     Keyword::After,
     Keyword::And,
     Keyword::BitAnd,
@@ -116,7 +115,6 @@ const KEYWORDS: [Keyword; 65] = [
     Keyword::From,
     Keyword::Inline,
     Keyword::Int16,
-    Keyword::Int32,
     Keyword::Int64,
     Keyword::OffsetOf,
     Keyword::Packed,
@@ -201,7 +199,6 @@ impl Keyword {
             Keyword::From => "FROM",
             Keyword::Inline => "INLINE",
             Keyword::Int16 => "INT16",
-            Keyword::Int32 => "INT32",
             Keyword::Int64 => "INT64",
             Keyword::OffsetOf => "OFFSETOF",
             Keyword::Packed => "PACKED",
@@ -229,11 +226,14 @@ impl Keyword {
         }
     }
 
-    /// The keyword of a spelling.
+    /// The keyword that a word is. `INT32` is another name of `INT`, which has 32 bits.
     #[tactic(auto, unfolding(crate::specs::Keywords::keyword_of))]
     pub fn of(word: &str) -> Option<Keyword>
         ensures { result ≡ keyword_of word.now }
     {
+        if word == "INT32" {
+            return Some(Keyword::Int);
+        }
         listed(&KEYWORDS, word)
     }
 
@@ -265,7 +265,7 @@ impl Keyword {
             | Keyword::Type => Some(Unsupported::Type),
             Keyword::From => Some(Unsupported::Slice),
             Keyword::Inline => Some(Unsupported::Inline),
-            Keyword::Int16 | Keyword::Int32 | Keyword::Int64 => Some(Unsupported::Width),
+            Keyword::Int16 | Keyword::Int64 => Some(Unsupported::Width),
             Keyword::Par => Some(Unsupported::Par),
             Keyword::Real32 | Keyword::Real64 | Keyword::Round | Keyword::Trunc => Some(
                 Unsupported::Real,

@@ -29,11 +29,6 @@ use Rattle.tpw_occam_meaning.specs.Types.{shape_of, by_sizes}
 
 -- ---- CASE
 
--- of an INT or a BYTE
-abbrev pub is_cased : Primitive → Bool
-is_cased Truth = false
-is_cased other = true
-
 abbrev pub constants_of : Expressions → Primitive → Names → Option (List ℕ)
 constants_of End of names = Some []
 constants_of (More' p e q more) of names =
@@ -72,9 +67,9 @@ abbrev mutual
       (repeated d from n (all_run steps (with_name index (Is (Fixed Int (Kept d))) names) (d + 1)))))
   run (process.If' p list span) names d = first_true list names d
   run (process.Case' e p list span) names d =
-      and_then (type_of e names) (λ of. where_true (is_cased of) (and_then (all_constants list of names) (λ words.
+      and_then (type_of e names) (λ of. and_then (all_constants list of names) (λ words.
       where_true (are_distinct words) (and_then (value_of e of names d) (λ v. given d v (λ word n.
-      selected list of word (otherwise list names n) names n))))))
+      selected list of word (otherwise list names n) names n)))))
   run (process.Call name arguments span) names d = called (found name names) arguments names d
   run (process.Receive channel target span) names d = None
   run (process.Send channel e span) names d =

@@ -33,7 +33,7 @@ use Rattle.tpw_occam_meaning.specs.Expressions.{value_of, type_of, constant}
 use Rattle.tpw_occam_meaning.specs.Maybe.{and_then, where_true}
 use Rattle.tpw_occam_meaning.specs.Messages.{carried, message_of}
 use Rattle.tpw_occam_meaning.specs.Names.{Word, Kept, Channel, Protocol, Traces, Fixed, Variable, Whole, Form, Entry, Is, Procedure, Function, Names, found, with_name, taking}
-use Rattle.tpw_occam_meaning.specs.Processes.{run, all_run, first_true, selected, otherwise, declared, all_constants, are_distinct, constants_of, elses, is_cased}
+use Rattle.tpw_occam_meaning.specs.Processes.{run, all_run, first_true, selected, otherwise, declared, all_constants, are_distinct, constants_of, elses}
 use Rattle.tpw_occam_meaning.specs.Types.{shape_of, forms_of, is_value, bytes_of}
 use Rattle.tpw_occam_reading.specs.Spelled.{spelled}
 use Rattle.tpw_occam_reading_laws.proofs.Plain.{plain, all_plain, name_of}
@@ -286,10 +286,10 @@ mutual
       let c = agree_cases a b h.1 in
       record {
         at = λ m n j d.
-            agree_then (agree_type e f h.0 m n j) (λ of. agree_where (is_cased of) (is_cased of)
-            (agree_any (all_constants a of m) (all_constants b of n) (λ words others. agree_where (are_distinct words) (are_distinct others)
+            agree_then (agree_type e f h.0 m n j) (λ of.
+            agree_any (all_constants a of m) (all_constants b of n) (λ words others. agree_where (are_distinct words) (are_distinct others)
             (agree_then (agree_value e f h.0 of m n d j) (λ v. agree_given d v _ _ (λ word k.
-            c.selects of word (otherwise a m k) (otherwise b n k) (c.otherwise_does m n j k) m n j k))))));
+            c.selects of word (otherwise a m k) (otherwise b n k) (c.otherwise_does m n j k) m n j k)))));
       }
   agree_run (process.Call x a s) (process.Call y b t) h = record { at = λ m n j d. agree_called x y h.0 a b h.1 m n j d }
   agree_run (process.Receive x e s) (process.Receive y f t) h = record { at = λ m n j d. agree_left_none }

@@ -5,7 +5,6 @@ ghost use Rattle.std.specs.List.{list_any};
 ghost use Rattle.tp_words.specs.Numbers.{truth};
 ghost use Rattle.tpw_occam_core.specs.Arithmetic.{pure};
 ghost use Rattle.tpw_occam_meaning.specs.Effects.{selected_by};
-ghost use Rattle.tpw_occam_meaning.specs.Expressions.{type_of};
 ghost use Rattle.tpw_occam_meaning.specs.Names.{word_in};
 ghost use Rattle.tpw_occam_meaning.specs.Processes as text;
 ghost use Rattle.tpw_occam_names.specs.Scopes.{names_of, word_of};
@@ -16,21 +15,9 @@ use crate::types::constant;
 use std::alloc::{AllocError, Global};
 use tpw_occam_core::Operator;
 use tpw_occam_meaning::{Cases, Expression, Expressions};
-use tpw_occam_names::{Fault, Scope, Word, type_of};
+use tpw_occam_names::{Fault, Scope, Word};
 use tpw_occam_scoped::{Expression as Made, Process, Value};
 use tpw_occam_terms::Primitive;
-
-/// The type of what is selected by: an INT or a BYTE.
-pub(crate) fn cased_type(scope: &Scope<'_, '_, '_>, e: &Expression<'_>) -> Result<Primitive, Fault>
-    ensures of { IfOk result (λ of. type_of e.now (names_of scope.now) ≡ Some of) }
-    ensures cased { IfOk result (λ of. text.is_cased of ≡ true) }
-{
-    match type_of(scope, e) {
-        Some(Primitive::Int) => Ok(Primitive::Int),
-        Some(Primitive::Byte) => Ok(Primitive::Byte),
-        _ => Err(Fault::Wrong),
-    }
-}
 
 /// Constants of a type.
 pub(crate) fn constants_of<'t, 'a>(

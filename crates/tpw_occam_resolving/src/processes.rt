@@ -14,7 +14,7 @@ ghost use Rattle.tpw_occam_scoped.specs.Made.{effect_of};
 
 use crate::arrays::{Array, view};
 use crate::calls::{meaning_of, referred, same_protocol, traces_of};
-use crate::cases::{all_constants, are_distinct, cased_type, constants_of, has_else, selection};
+use crate::cases::{all_constants, are_distinct, constants_of, has_else, selection};
 use crate::declarations::{
     are_values, forms_of, is_table, may_be_declared, retyped, table_declared, type_of_value,
 };
@@ -31,7 +31,7 @@ use tpw_occam_meaning::{
     Cases, Choices, Declaration, Expression, Expressions, Names, Parameters, Process as Tree,
     Processes,
 };
-use tpw_occam_names::{Channel, Fault, Form, Meaning, Scope, Storage, View, Word, look_up};
+use tpw_occam_names::{Channel, Fault, Form, Meaning, Scope, Storage, View, Word, look_up, type_of};
 use tpw_occam_scoped::Process;
 use tpw_occam_terms::{Name, Primitive};
 
@@ -541,7 +541,7 @@ fn case<'t, 'a>(
     if room == 0 {
         return Err(Fault::Deep);
     }
-    let of = cased_type(scope, selector)?;
+    let of = type_of(scope, selector).ok_or(Fault::Wrong)?;
     let words = all_constants(alloc, scope, cases, of, room)?;
     if !are_distinct(&words) {
         return Err(Fault::Wrong);

@@ -1,16 +1,15 @@
 -- Runs carry over: what the symbolic machine gets to, a worker gets to whose run ends.
-use Rattle.std.proofs.Common.{◌≡◌, ℕ, zero, suc, ◌+◌, ◌-◌, ◌<◌, ◌≤◌, Bool, true, false, not, if◌then◌else◌, ℤ, pos}
-use Rattle.std.proofs.Common.{List, [], ◌∷◌, length, take, drop, slice_get, slice_range, Option, Some, None, refl, ap, sym, subst, ◌∙◌, arith, length-drop}
+use Rattle.std.proofs.Common.{◌≡◌, ℕ, zero, suc, ◌+◌, ◌-◌, ◌≤◌, Bool, true, false, not, if◌then◌else◌, ℤ, pos}
+use Rattle.std.proofs.Common.{List, [], ◌∷◌, length, slice_get, slice_range, Option, Some, None, refl, ap, sym, subst, ◌∙◌, arith}
 use Rattle.std.proofs.lemmas.Option.{same_Some}
-use Rattle.std.proofs.lemmas.List.{length-take}
 use Rattle.tp_decode.specs.Spelling.{digit_of, is_pfix, is_nfix, shifted, shifted_complement, spelled}
 use Rattle.tp_decode.specs.Table.{entry}
 use Rattle.tp_image.specs.Image.{ImageValue}
 use Rattle.tp_step.specs.Maybe.{◌>>=◌, ◌>>◌, only_if}
 use Rattle.tp_step.specs.State.{State}
-use Rattle.tp_step.specs.Steps.{code_byte, step as step_in, steps}
+use Rattle.tp_step.specs.Steps.{step as step_in, steps}
 use Rattle.tp_step.proofs.StepLemmas.{steps_add, stopped_stays}
-use Rattle.tp_step.proofs.SpellingLemmas.{at, HasBytesAt, instruction_runs}
+use Rattle.tp_step.proofs.SpellingLemmas.{at, HasBytesAt, pfix_step, nfix_step, stand_range, length-range, instruction_runs}
 use Rattle.tpw_occam_symbolic.specs.declared.code.CodeLine.{CodeLine}
 use Rattle.tpw_occam_symbolic.specs.Symbolic.{Machine, performed, at_place, step, Leads, nowhere, onward}
 use Rattle.tpw_occam_symbolic.specs.MatchStates.{Site, address_of, instr_of, LiesIn, MatchStates}
@@ -21,38 +20,6 @@ true_false : ◌≡◌ {A = Bool} true false → ⊥
 true_false e = cc
 
 -- ---- spellings
-
--- what stands at the front of the rest of a code
-front : (code : List ℕ) (a : ℕ) → a < length code → (b : ℕ) × (slice_get code a ≡ Some b) × (drop a code ≡ b ∷ drop (suc a) code)
-front [] a h = absurd (omega arith)
-front (b ∷ code) zero h = (b, refl, refl)
-front (b ∷ code) (suc a) h = front code a (omega arith)
-
-stand_range : (n : ℕ) (code : List ℕ) (a : ℕ) → a + n ≤ length code → HasBytesAt code a (take n (drop a code))
-stand_range zero code a h = tt
-stand_range (suc n) code a h =
-    let x = front code a (omega arith) in
-    let next : suc a ≡ a + 1 = omega arith in
-    let rest : drop a code ≡ x.0 ∷ drop (a + 1) code = x.2 ∙ ap (λ m. x.0 ∷ drop m code) next in
-    rw rest (x.1, stand_range n code (a + 1) (omega arith))
-
-length-range : (n : ℕ) (code : List ℕ) (a : ℕ) → a + n ≤ length code → length (take n (drop a code)) ≡ n
-length-range n code a h = rw (length-take, length-drop) (omega arith)
-
--- a prefix does not stop
-prefix_step : (image : ImageValue) (s : State) (a b : ℕ) → s.stopped ≡ false → s.iptr ≡ pos a → slice_get image.code a ≡ Some b
-    → is_pfix b ≡ true → step_in image s ≡ Some (at s (a + 1) (shifted (s.oreg + digit_of b)))
-unfolding step_in
-prefix_step image s a b running place here is =
-    let byte : code_byte image.code s.iptr ≡ Some b = ap (code_byte image.code) place ∙ here in
-    rw (running, byte, is, place)
-
-complement_step : (image : ImageValue) (s : State) (a b : ℕ) → s.stopped ≡ false → s.iptr ≡ pos a → slice_get image.code a ≡ Some b
-    → is_pfix b ≡ false → is_nfix b ≡ true → step_in image s ≡ Some (at s (a + 1) (shifted_complement (s.oreg + digit_of b)))
-unfolding step_in
-complement_step image s a b running place here other is =
-    let byte : code_byte image.code s.iptr ≡ Some b = ap (code_byte image.code) place ∙ here in
-    rw (running, byte, other, is, place)
 
 after_step : (image : ImageValue) (s t end : State) (n : ℕ) → step_in image s ≡ Some t → steps image (suc n) s ≡ Some end → steps image n t ≡ Some end
 unfolding steps
@@ -87,9 +54,9 @@ spelled_within image (b ∷ c ∷ rest) s a fn (suc n) end running place stand e
         (if p then spelled (shifted (s.oreg + digit_of b)) (c ∷ rest) else if q then spelled
         (shifted_complement (s.oreg + digit_of b)) (c ∷ rest) else None) (Some fn) → length (b ∷ c ∷ rest) ≤ suc n
     by_test go true p q q' e =
-        omega (arith, go _ e (after_step image s _ end n (prefix_step image s a b running place stand.0 p) is))
+        omega (arith, go _ e (after_step image s _ end n (pfix_step image s a b running place stand.0 p) is))
     by_test go false p true q e =
-        omega (arith, go _ e (after_step image s _ end n (complement_step image s a b running place stand.0 p q) is))
+        omega (arith, go _ e (after_step image s _ end n (nfix_step image s a b running place stand.0 p q) is))
     by_test go false p false q e = absurd cc
 
 -- what comes after some of the steps of a run

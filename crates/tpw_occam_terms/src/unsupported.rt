@@ -17,7 +17,7 @@ pub enum Unsupported {
     Hardware,
     /// `REAL32`, `REAL64`, `ROUND`, `TRUNC`
     Real,
-    /// `INT16`, `INT32`, `INT64`
+    /// `INT16`, `INT64`
     Width,
     /// `PROTOCOL`, `RECORD`, `DATA`, `TYPE`, `PACKED`, `BYTESIN`, `OFFSETOF`
     Type,

@@ -1,7 +1,7 @@
 -- What packets' runs give, beside what the text in occam means by the packets.
 use Rattle.std.specs.Prelude.{◌≡◌, ℕ, ◌+◌, nat_eq, ◌&&◌, ◌==◌, Bool, true, false, if◌then◌else◌, List, [], ◌∷◌, ◌++◌}
-use Rattle.std.specs.Prelude.{length, codes}
-use Rattle.std.specs.Prelude.{Option, Some, None}
+use Rattle.std.specs.Prelude.{length, codes, not, nat_le, ⊤, ⊥}
+use Rattle.std.specs.Prelude.{Option, Some, None, slice_get}
 use Rattle.std.specs.Fmt.{decimal}
 use Rattle.std.specs.Str.{bytes_eq}
 use Rattle.std.specs.Io.KnownBytes.{Appends}
@@ -21,8 +21,10 @@ use Rattle.tpw_occam_scoped.specs.Meaning.{meaning}
 use Rattle.tpw_files.specs.declared.outcome.Outcome.{Outcome}
 use Rattle.tpw_files.specs.declared.outcome.Outcome.TheVariants.{Good, Bad}
 use Rattle.tpw_runs.specs.declared.form.Style.{Style}
-use Rattle.tpw_runs.specs.declared.form.Form.TheVariants.{Lines}
-use Rattle.tpw_runs.specs.Lines.{flag, message_text, trace_text, whole_line}
+use Rattle.tpw_runs.specs.declared.form.Expected.{Expected}
+use Rattle.tpw_runs.specs.declared.form.Form.{Form}
+use Rattle.tpw_runs.specs.declared.form.Form.TheVariants.{Lines, Differences}
+use Rattle.tpw_runs.specs.Lines.{flag, message_text, trace_text, whole_line, is_other, expected_text}
 use Rattle.tpw_runs.specs.Results.{AreResults}
 use Rattle.tpw_runs.specs.Tallies.{counted, nothing_counted, with_entry, with_entries}
 use Rattle.tpw_running.specs.declared.checking.Checking.{Checking}
@@ -65,21 +67,38 @@ is_meant (entry.Done done) (Some meant) =
 is_meant (entry.Lost cause) None = is_for_trace cause
 is_meant e meant = false
 
--- of a packet that has something else than the text means: both
-abbrev pub other_text : Style → (budget number : ℕ) → Entry → Option Meant → List ℕ
-other_text style budget number e meant =
-    if is_meant e meant then []
-    else whole_line style budget number e ++ codes "  the text means\n" ++ meant_text style number meant
+-- what the text means by a packet that has something else
+abbrev pub meaning_text : Style → ℕ → Entry → Option Meant → List ℕ
+meaning_text style number e meant =
+    if is_meant e meant then [] else codes "  the text means\n" ++ meant_text style number meant
+
+-- what is expected of a packet, where a form says that
+abbrev pub expected_of : Form → (number : ℕ) → List ℕ
+expected_of (Differences style expected) number = expected_text style (slice_get expected.now number)
+expected_of form number = []
+
+-- what is expected of a packet that has something else
+abbrev pub wanted_text : Form → (number : ℕ) → Entry → List ℕ
+wanted_text form number e = if is_other form number e then expected_of form number else []
+
+-- of a packet that has something else than the text means, or than is expected: what it has, and that
+abbrev pub other_text : Style → Form → (budget number : ℕ) → Entry → Option Meant → List ℕ
+other_text style form budget number e meant =
+    if is_meant e meant && not (is_other form number e) then []
+    else whole_line style budget number e ++ meaning_text style number e meant ++ wanted_text form number e
 
 abbrev pub other_numbers : (number : ℕ) → Entry → Option Meant → List ℕ
 other_numbers number e meant = if is_meant e meant then [] else number ∷ []
 
+abbrev pub unexpected_numbers : Form → (number : ℕ) → Entry → List ℕ
+unexpected_numbers form number e = if is_other form number e then number ∷ [] else []
+
 -- of packets, the first of which has a number
-abbrev pub others_text : Process → Style → (budget number : ℕ) → List (List ℕ) → List Entry → List ℕ
-others_text core style budget number (packet ∷ packets) (e ∷ entries) =
-    other_text style budget number e (meaning core packet)
-    ++ others_text core style budget (number + 1) packets entries
-others_text core style budget number packets entries = []
+abbrev pub others_text : Process → Style → Form → (budget number : ℕ) → List (List ℕ) → List Entry → List ℕ
+others_text core style form budget number (packet ∷ packets) (e ∷ entries) =
+    other_text style form budget number e (meaning core packet)
+    ++ others_text core style form budget (number + 1) packets entries
+others_text core style form budget number packets entries = []
 
 -- the numbers of those that have something else than the text means
 abbrev pub all_others : Process → (number : ℕ) → List (List ℕ) → List Entry → List ℕ
@@ -87,41 +106,67 @@ all_others core number (packet ∷ packets) (e ∷ entries) =
     other_numbers number e (meaning core packet) ++ all_others core (number + 1) packets entries
 all_others core number packets entries = []
 
+-- the numbers of those that have something else than is expected
+abbrev pub all_unexpected : Form → (number : ℕ) → List Entry → List ℕ
+all_unexpected form number [] = []
+all_unexpected form number (e ∷ entries) =
+    unexpected_numbers form number e ++ all_unexpected form (number + 1) entries
+
 -- ---- the check, packet by packet
 
-pub record IsNothingChecked (core : Process) (style : Style) (budget : ℕ) (c : Checking) : Type 0 where
+pub record IsNothingChecked (core : Process) (style : Style) (form : Form) (budget : ℕ) (c : Checking) : Type 0 where
   pub core_is : c.core.now ≡ core
   pub style_is : c.style ≡ style
+  pub form_is : c.form ≡ form
   pub budget_is : c.budget ≡ budget
   pub tally : c.tally ≡ nothing_counted
   pub others : c.others.items ≡ []
+  pub unexpected : c.unexpected.items ≡ []
 
 abbrev pub checked_count : Checking → ℕ
 checked_count c = counted c.tally
 
 abbrev pub checked_text : Checking → List ℕ → Entry → List ℕ
-checked_text c packet e = other_text c.style c.budget (counted c.tally) e (meaning c.core.now packet)
+checked_text c packet e = other_text c.style c.form c.budget (counted c.tally) e (meaning c.core.now packet)
 
 -- one packet more is checked
 pub record CheckedNext (c : Checking) (packet : List ℕ) (e : Entry) (d : Checking) : Type 0 where
   pub core_is : d.core.now ≡ c.core.now
   pub style_is : d.style ≡ c.style
+  pub form_is : d.form ≡ c.form
   pub budget_is : d.budget ≡ c.budget
-  pub tally : d.tally ≡ with_entry (Lines c.style) c.tally e
+  pub tally : d.tally ≡ with_entry c.form c.tally e
   pub others : d.others.items ≡ c.others.items ++ other_numbers (counted c.tally) e (meaning c.core.now packet)
+  pub unexpected : d.unexpected.items ≡ c.unexpected.items ++ unexpected_numbers c.form (counted c.tally) e
 
--- Packets were run: of each that has something else than the text means, and of no other, both are written, and its
--- number is kept. All are counted.
-pub record HasChecked (image : Accepted) (core : Process) (style : Style) (packets : List (List ℕ))
+-- Packets were run: of each that has something else than the text means, or than is expected, and of no other, what it
+-- has and that are written, and its number is kept. All are counted.
+pub record HasChecked (image : Accepted) (core : Process) (style : Style) (form : Form) (packets : List (List ℕ))
     (before after : Option (List ℕ)) (c : Checking) : Type 0 where
   pub entries : List Entry
   pub results : AreResults image.image image.budget packets entries
-  pub written : Appends before after (others_text core style image.budget 0 packets entries)
+  pub written : Appends before after (others_text core style form image.budget 0 packets entries)
   pub others : c.others.items ≡ all_others core 0 packets entries
-  pub counted : c.tally ≡ with_entries (Lines style) nothing_counted entries
+  pub unexpected : c.unexpected.items ≡ all_unexpected form 0 entries
+  pub counted : c.tally ≡ with_entries form nothing_counted entries
 
--- Packets were run, and the check is good where each has what the text means.
-pub record IsChecked (image : Accepted) (core : Process) (packets : List (List ℕ)) (outcome : Outcome) : Type 0 where
+-- a form has the results that are expected, where there are such
+abbrev pub IsFormOf : Option (List Expected) → Form → Type 0
+IsFormOf None (Lines style) = ⊤
+IsFormOf (Some expected) (Differences style results) = results.now ≡ expected
+IsFormOf expected form = ⊥
+
+-- of a number of packets each result that is expected has one
+abbrev pub has_packets : Option (List Expected) → ℕ → Bool
+has_packets None packets = true
+has_packets (Some expected) packets = nat_le (length expected) packets
+
+-- Packets were run, and the check is good where each has what the text means, and what is expected where that is said.
+pub record IsChecked (image : Accepted) (core : Process) (expected : Option (List Expected)) (packets : List (List ℕ))
+    (outcome : Outcome) : Type 0 where
   pub entries : List Entry
   pub results : AreResults image.image image.budget packets entries
-  pub outcome_is : outcome ≡ (if length (all_others core 0 packets entries) == 0 then Good else Bad)
+  pub form : Form
+  pub form_is : IsFormOf expected form
+  pub outcome_is : outcome ≡ (if (length (all_others core 0 packets entries) == 0)
+      && ((length (all_unexpected form 0 entries) == 0) && has_packets expected (length packets)) then Good else Bad)

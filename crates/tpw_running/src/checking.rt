@@ -2,8 +2,9 @@
 
 ghost use Rattle.std.specs.Prelude.{◌≡◌, ◌++◌, Some, OnOk};
 ghost use Rattle.std.specs.Option.{option_map};
-ghost use Rattle.tpw_running.specs.Checks.{given_value, is_for_trace, is_meant, other_text, other_numbers};
-ghost use Rattle.tpw_running.specs.Checks.{IsNothingChecked};
+ghost use Rattle.tpw_running.specs.Checks.{given_value, is_for_trace, is_meant, meaning_text, wanted_text, other_text};
+ghost use Rattle.tpw_running.specs.Checks.{other_numbers, unexpected_numbers, IsNothingChecked};
+ghost use Rattle.tpw_runs.specs.Lines.{is_other};
 ghost use Rattle.tp_collect.specs.declared.collected.Entry.TheVariants as became;
 
 use crate::meaning::Meant;
@@ -14,33 +15,45 @@ use tp_link::{DeviceFault, Link, LinkFault};
 use tpw_files::Failure;
 use tpw_occam_interpreter::Given;
 use tpw_occam_scoped::Process;
-use tpw_runs::{Form, Report, Style, Tally, write_whole_line};
+use tpw_runs::{Form, Report, Style, Tally, is_other, write_expected, write_whole_line};
 
-/// Compares what becomes of packets with what a text in occam means by them, and shows where they differ.
+/// Compares what becomes of packets with what a text in occam means by them, and with the results that are expected where
+/// a form has such, and shows where they differ.
 #[derive(Drop)]
 pub struct Checking<'a> {
     alloc: Global,
     core: &'a Process,
     style: Style,
+    form: Form<'a>,
     /// The budget of the worker's image.
     budget: u32,
     pub tally: Tally,
     /// The numbers of the packets that have something else than the text means.
     pub others: Vec<usize>,
+    /// The numbers of those that have not the result that is expected.
+    pub unexpected: Vec<usize>,
 }
 
 impl<'a> Checking<'a> {
     /// Nothing yet.
-    pub fn new(alloc: Global, core: &'a Process, style: Style, budget: u32) -> Checking<'a>
-        ensures { IsNothingChecked core.now style budget result }
+    pub fn new(
+        alloc: Global,
+        core: &'a Process,
+        style: Style,
+        form: Form<'a>,
+        budget: u32,
+    ) -> Checking<'a>
+        ensures { IsNothingChecked core.now style form.entry budget result }
     {
         Checking {
             alloc,
             core,
             style,
+            form,
             budget,
             tally: Tally::new(),
             others: Vec::new(alloc),
+            unexpected: Vec::new(alloc),
         }
     }
 }
@@ -80,24 +93,61 @@ fn is_meant(entry: &Entry, meant: &Meant) -> bool
     }
 }
 
-/// Writes what a run gives and what is meant, where these differ.
+/// Writes what is meant, where a run gives something else.
+fn write_meaning(
+    out: &mut Vec<u8>,
+    style: Style,
+    number: usize,
+    entry: &Entry,
+    meant: &Meant,
+) -> Result<(), AllocError>
+    ensures { OnOk result (out.new.items ≡ out.old.items
+        ++ meaning_text style number entry.now (option_map given_value meant.now.given)) }
+{
+    if is_meant(entry, meant) {
+        return Ok(());
+    }
+    out.extend_from_slice(b"  the text means\n")?;
+    meant.write_lines(out, style, number)
+}
+
+/// Writes what is expected, where a run gives something else.
+fn write_wanted(
+    out: &mut Vec<u8>,
+    form: Form<'_>,
+    number: usize,
+    entry: &Entry,
+) -> Result<(), AllocError>
+    ensures { OnOk result (out.new.items ≡ out.old.items ++ wanted_text form.entry number entry.now) }
+{
+    if !is_other(form, number, entry) {
+        return Ok(());
+    }
+    match form {
+        Form::Differences(style, expected) => write_expected(out, style, expected.get(number)),
+        Form::Lines(_) | Form::Raw => Ok(()),
+    }
+}
+
+/// Writes what a run gives, and what is meant and what is expected, where these differ from it.
 fn write_other(
     out: &mut Vec<u8>,
     style: Style,
+    form: Form<'_>,
     budget: u32,
     number: usize,
     entry: &Entry,
     meant: &Meant,
 ) -> Result<(), AllocError>
     ensures { OnOk result (out.new.items ≡ out.old.items
-        ++ other_text style budget number entry.now (option_map given_value meant.now.given)) }
+        ++ other_text style form.entry budget number entry.now (option_map given_value meant.now.given)) }
 {
-    if is_meant(entry, meant) {
+    if is_meant(entry, meant) && !is_other(form, number, entry) {
         return Ok(());
     }
     write_whole_line(out, style, budget, number, entry)?;
-    out.extend_from_slice(b"  the text means\n")?;
-    meant.write_lines(out, style, number)
+    write_meaning(out, style, number, entry, meant)?;
+    write_wanted(out, form, number, entry)
 }
 
 /// Appends the number of a packet, where what a run gives differs from what is meant.
@@ -117,6 +167,22 @@ fn push_other(
     Ok(())
 }
 
+/// Appends the number of a packet that has not the result that is expected.
+fn push_unexpected(
+    unexpected: &mut Vec<usize>,
+    form: Form<'_>,
+    number: usize,
+    entry: &Entry,
+) -> Result<(), AllocError>
+    ensures { OnOk result (unexpected.new.items ≡ unexpected.old.items
+        ++ unexpected_numbers form.entry number entry.now) }
+{
+    if is_other(form, number, entry) {
+        unexpected.push(number)?;
+    }
+    Ok(())
+}
+
 impl Report for Checking<'_> {
     ghost use Rattle.tpw_running.specs.Checks.{checked_count, checked_text, CheckedNext};
 
@@ -129,9 +195,11 @@ impl Report for Checking<'_> {
     fn show(&mut self, out: &mut Vec<u8>, packet: &[u8], entry: &Entry) -> Result<(), AllocError> {
         let number = self.tally.packets();
         let meant = Meant::of(self.alloc, self.core, packet)?;
-        write_other(out, self.style, self.budget, number, entry, &meant)?;
+        let form = self.form;
+        write_other(out, self.style, form, self.budget, number, entry, &meant)?;
         push_other(&mut self.others, number, entry, &meant)?;
-        self.tally.add_entry(Form::Lines(self.style), entry);
+        push_unexpected(&mut self.unexpected, form, number, entry)?;
+        self.tally.add_entry(form, entry);
         Ok(())
     }
 }

@@ -6,8 +6,10 @@ mod checking;
 mod evaluating;
 mod meaning;
 mod running;
+mod subject;
 mod summary;
 
 pub use checking::Checking;
 pub use evaluating::evaluate_packets;
 pub use running::{Prepared, write_check, write_run};
+pub use subject::Subject;

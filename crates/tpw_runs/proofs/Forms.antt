@@ -11,7 +11,7 @@ use Rattle.tpw_runs.specs.declared.tally.Tally.{Tally}
 use Rattle.tpw_runs.specs.Lines.{entry_text, entries_text, is_other}
 use Rattle.tpw_runs.specs.Reports.{ShowsAll}
 use Rattle.tpw_runs.specs.Shown.{all_unshown, unshown, shown_text, ShownNext}
-use Rattle.tpw_runs.specs.Tallies.{counted, kind_of, with_kind, with_entry_steps, with_first, with_entry, with_entries}
+use Rattle.tpw_runs.specs.Tallies.{counted, kind_of, with_kind, with_steps, with_flagged, with_done, with_first, with_entry, with_entries}
 
 -- one packet more is counted
 one_kind : (k : Kind) (t : Tally) → counted (with_kind k t) ≡ counted t + 1
@@ -19,9 +19,13 @@ one_kind kind.Done t = omega arith
 one_kind kind.Other t = omega arith
 one_kind kind.Lost t = omega arith
 
-same_steps : (e : Entry) (t : Tally) → counted (with_entry_steps e t) ≡ counted t
-same_steps (entry.Done done) t = refl
-same_steps (entry.Lost cause) t = refl
+same_flagged : (b : Bool) (number : ℕ) (t : Tally) → counted (with_flagged b number t) ≡ counted t
+same_flagged true number t = refl
+same_flagged false number t = refl
+
+same_done : (number : ℕ) (e : Entry) (t : Tally) → counted (with_done number e t) ≡ counted t
+same_done number (entry.Done done) t = same_flagged done.error number (with_steps done.steps t)
+same_done number (entry.Lost cause) t = refl
 
 same_first : (b : Bool) (number : ℕ) (t : Tally) → counted (if b then with_first number t else t) ≡ counted t
 same_first true number t = refl
@@ -31,7 +35,7 @@ pub one_counted : (form : Form) (t : Tally) (e : Entry) → counted (with_entry 
 one_counted form t e =
     let n = counted t in
     let k = kind_of form n e in
-    same_first (is_other form n e) n (with_entry_steps e (with_kind k t)) ∙ same_steps e (with_kind k t) ∙ one_kind k t
+    same_first (is_other form n e) n (with_done n e (with_kind k t)) ∙ same_done n e (with_kind k t) ∙ one_kind k t
 
 -- what is shown of packets by a form, counted and not shown, in terms of entries alone
 pub record Forms (s : Shown) (entries : List Entry) (text : List ℕ) (t : Shown) : Type 0 where

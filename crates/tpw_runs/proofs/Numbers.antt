@@ -2,8 +2,7 @@
 use Rattle.std.proofs.Common.{◌≡◌, ◌∙◌, ◌<◌, ◌+◌, ℕ, zero, suc, List, [], ◌∷◌, ◌++◌, length, map, drop, get_or, Option, Some, None, Result, Ok, Err, ℤ, ap, sym, refl, append_assoc, add-one, arith}
 use Rattle.std.specs.Option.{option_map, option_and_then}
 use Rattle.std.specs.Result.{IsOk, OnOk}
-use Rattle.tpw_text.specs.Numbers.{signed_said}
-use Rattle.tpw_runs.specs.Packets.{words_said, word_bytes}
+use Rattle.tpw_runs.specs.Packets.{words_said, word_bytes, value_said}
 
 at_place : {F : Type 0} (text : F → List ℕ) (fields : List F) (i : ℕ) (d : F) → i < length fields
     → drop i (map text fields) ≡ text (get_or fields i d) ∷ drop (suc i) (map text fields)
@@ -22,7 +21,7 @@ behind fields number = option_map (λ bytes. word_bytes number ++ bytes) (words_
 
 pub none_said : {F : Type 0} (text : F → List ℕ) (fields : List F) (i : ℕ) (d : F) (so_far : List ℕ) → i < length fields
     → words_said (map text fields) ≡ option_map (λ rest. so_far ++ rest) (words_said (drop i (map text fields)))
-    → signed_said (text (get_or fields i d)) ≡ None → None ≡ words_said (map text fields)
+    → value_said (text (get_or fields i d)) ≡ None → None ≡ words_said (map text fields)
 none_said text fields i d so_far h said none =
     sym (said ∙ ap (option_map (λ rest. so_far ++ rest)) (left text fields i d h ∙ ap (option_and_then (behind (drop (i + 1) (map text fields)))) none))
 
@@ -32,7 +31,7 @@ joined xs ys (Some r) = ap Some (sym (append_assoc xs ys r))
 
 pub one_more : {F : Type 0} (text : F → List ℕ) (fields : List F) (i : ℕ) (d : F) (so_far : List ℕ) (number : ℤ) → i < length fields
     → words_said (map text fields) ≡ option_map (λ rest. so_far ++ rest) (words_said (drop i (map text fields)))
-    → signed_said (text (get_or fields i d)) ≡ Some number
+    → value_said (text (get_or fields i d)) ≡ Some number
     → words_said (map text fields) ≡ option_map (λ rest. (so_far ++ word_bytes number) ++ rest) (words_said (drop (i + 1) (map text fields)))
 one_more text fields i d so_far number h said some =
     said

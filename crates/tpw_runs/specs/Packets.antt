@@ -1,6 +1,6 @@
 -- Messages as text, by the fields of a line.
 use Rattle.std.specs.Prelude.{◌≡◌, ℕ, ◌*◌, ◌==◌, Bool, true, false, if◌then◌else◌, List, [], ◌∷◌, ◌++◌, length, codes}
-use Rattle.std.specs.Prelude.{Option, Some, None, ℤ}
+use Rattle.std.specs.Prelude.{Option, Some, None, ℤ, pos, nat_lt, not, ◌&&◌}
 use Rattle.std.specs.Char.{is_ascii_whitespace}
 use Rattle.std.specs.Str.{bytes_eq}
 use Rattle.std.specs.Str.Lines.{lines}
@@ -8,6 +8,7 @@ use Rattle.std.specs.Int.{w32, cast_unsigned, to_le_bytes}
 use Rattle.std.specs.Option.{option_map, option_and_then}
 use Rattle.std.specs.Result.{result_ok}
 use Rattle.hex.specs.Hex.{decode_of}
+use Rattle.tpw_occam_terms.specs.Spelling.{letter}
 use Rattle.tpw_text.specs.Numbers.{signed_said}
 use Rattle.tpw_runs.specs.declared.form.Expected.{Expected}
 use Rattle.tpw_runs.specs.declared.packets.Said.{Said}
@@ -50,11 +51,35 @@ hexadecimal_said bytes (field ∷ more ∷ fields) = None
 abbrev pub word_bytes : ℤ → List ℕ
 word_bytes number = to_le_bytes w32 (cast_unsigned w32 number)
 
--- numbers, each of which is a number of assembly text, say the bytes of their words
+-- a character between quotes: one of ASCII, or one that stands behind *
+abbrev pub is_plain : ℕ → Bool
+is_plain c = nat_lt c 128 && not (c == 42)
+
+abbrev pub character_said : List ℕ → Option ℤ
+character_said (first ∷ c ∷ last ∷ []) =
+    if (first == 39) && ((last == 39) && is_plain c) then Some (pos c) else None
+character_said (first ∷ star ∷ c ∷ last ∷ []) =
+    if (first == 39) && ((star == 42) && (last == 39)) then option_map pos (letter c) else None
+character_said word = None
+
+abbrev pub named_said : List ℕ → Option ℤ
+named_said word =
+    if bytes_eq word (codes "TRUE") then Some (pos 1)
+    else if bytes_eq word (codes "FALSE") then Some (pos 0) else character_said word
+
+-- a number of assembly text, TRUE, which is 1, FALSE, which is 0, or the code of a character
+abbrev pub either_said : Option ℤ → Option ℤ → Option ℤ
+either_said (Some number) other = Some number
+either_said None other = other
+
+abbrev pub value_said : List ℕ → Option ℤ
+value_said word = either_said (signed_said word) (named_said word)
+
+-- values say the bytes of their words
 abbrev pub words_said : List (List ℕ) → Option (List ℕ)
 words_said [] = Some []
 words_said (field ∷ fields) =
-    option_and_then (λ number. option_map (λ bytes. word_bytes number ++ bytes) (words_said fields)) (signed_said field)
+    option_and_then (λ number. option_map (λ bytes. word_bytes number ++ bytes) (words_said fields)) (value_said field)
 
 -- a message of this number of bytes
 abbrev pub packet_said : Notation → ℕ → List (List ℕ) → Option (List ℕ)

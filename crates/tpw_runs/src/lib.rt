@@ -11,11 +11,14 @@ mod packets;
 mod progress;
 mod report;
 mod tally;
+mod values;
 
 pub use batches::run_packets;
 pub use fault::{PacketFault, PacketKind, RunFault};
 pub use form::{Expected, Form, Style};
-pub use lines::{cause_text, write_expected, write_message, write_trace, write_whole_line};
+pub use lines::{
+    cause_text, is_other, write_expected, write_message, write_trace, write_whole_line,
+};
 pub use losses::{LONG_TRACE, write_loss};
 pub use members::{members_for, run_on_members};
 pub use packets::{Field, Notation, fields_of, packet_of, packets_of, results_of};

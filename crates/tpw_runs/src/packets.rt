@@ -9,16 +9,17 @@ ghost use Rattle.tpw_runs.specs.Packets.{packets_said, results_said};
 
 use crate::fault::{PacketFault, PacketKind};
 use crate::form::Expected;
+use crate::values::value_of;
 use std::alloc::{AllocError, Global};
 use tp_collect::limits::MAX_MESSAGE;
 use tp_image::layout::WORD_BYTES;
 use tp_stream::Packet;
-use tpw_text::{Position, signed_of};
+use tpw_text::Position;
 
 /// How the messages of a text are written.
 #[derive(Clone, Copy, Debug, PartialEq, Eq)]
 pub enum Notation {
-    /// The numbers of their words, as assembly text writes numbers.
+    /// The numbers of their words, as assembly text writes numbers, or as occam does.
     Words,
     /// One field of two hexadecimal digits for each byte, as they are sent.
     Hexadecimal,
@@ -104,7 +105,7 @@ fn numbers_of(fields: &[Field<'_>]) -> Result<Packet, PacketFault>
 {
     let mut packet = Packet::new();
     for field in fields {
-        let Some(number) = signed_of(field.text) else {
+        let Some(number) = value_of(field.text) else {
             return Err(PacketFault::At(field.position, PacketKind::NoNumber));
         };
         let _ = packet.try_extend_from_slice(&number.to_le_bytes());

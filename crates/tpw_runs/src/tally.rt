@@ -1,7 +1,7 @@
 //! The outcomes of packets, in numbers.
 
 ghost use Rattle.std.specs.Prelude.{◌≡◌, ◌<◌, ◌^◌};
-ghost use Rattle.tpw_runs.specs.Tallies.{counted, kind_of, widened, with_kind, with_steps, with_first, with_entry};
+ghost use Rattle.tpw_runs.specs.Tallies.{counted, kind_of, widened, with_kind, with_steps, with_flagged, with_first, with_entry};
 ghost use Rattle.tpw_runs.specs.Tallies.{nothing_counted};
 
 use crate::form::Form;
@@ -55,6 +55,8 @@ pub struct Tally {
     pub steps: Option<StepRange>,
     /// The number of the first that has not the result that is expected.
     pub first: Option<usize>,
+    /// The number of the first whose error flag is set.
+    pub flagged: Option<usize>,
 }
 
 /// The kind of the packet of a number, by what became of it.
@@ -79,6 +81,7 @@ impl Tally {
             lost: 0,
             steps: None,
             first: None,
+            flagged: None,
         }
     }
 
@@ -110,6 +113,15 @@ impl Tally {
         self.steps = Some(widened(self.steps, steps));
     }
 
+    /// Notes a packet of a number whose error flag is set, where it is.
+    fn note_flag(&mut self, error: bool, number: usize)
+        ensures { self.new ≡ with_flagged error number self.old }
+    {
+        if error {
+            self.flagged = Some(self.flagged.unwrap_or(number));
+        }
+    }
+
     /// Notes a packet that has not the result that is expected, by its number.
     pub fn note_other(&mut self, number: usize)
         ensures { self.new ≡ with_first number self.old }
@@ -126,6 +138,7 @@ impl Tally {
         self.add(kind_of(form, number, entry));
         if let Entry::Done(done) = entry {
             self.add_steps(done.steps);
+            self.note_flag(done.error, number);
         }
         if is_other(form, number, entry) {
             self.note_other(number);

@@ -3,18 +3,25 @@
 //! A [`Stepper`] holds an image and a tested machine. [`Stepper::next`] makes an instruction of the step relation.
 #![tactic(auto)]
 
+mod doing;
+mod flag;
+mod lines;
 mod operand;
 mod prefixes;
 mod profile;
+mod reach;
 mod reason;
 mod run;
 mod span;
 mod stepper;
 mod value;
+mod watched;
 mod workspace;
 
+pub use flag::flag_set_at;
 pub use profile::{Profile, RunEnd, count_run};
 pub use reason::Reason;
 pub use run::{End, Shown, show_run};
 pub use span::{Place, Span};
 pub use stepper::Stepper;
+pub use watched::Watched;

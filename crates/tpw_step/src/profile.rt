@@ -1,6 +1,6 @@
 //! Where the steps of runs go.
 
-ghost use Rattle.std.specs.Prelude.{◌≡◌, ◌+◌, ◌<◌, ◌^◌, ℕ, IfOk, length, slice_index_or};
+ghost use Rattle.std.specs.Prelude.{◌≡◌, ◌≤◌, ◌+◌, ◌<◌, ◌^◌, ℕ, IfOk, length, slice_index_or};
 ghost use Rattle.tpw_step.specs.Profiles.{AddsUp, sums};
 
 use crate::prefixes::prefixes_at;
@@ -55,6 +55,17 @@ impl Profile {
             counts: vec![in alloc; 0; image.code.len()]?,
             steps: 0,
         })
+    }
+
+    /// How often the instruction of an image at an address was made: each time makes its prefixes' steps and one more.
+    pub fn times(&self, image: &Image, at: usize) -> u64
+        ensures { result ≤ slice_index_or self.now.counts.items at 0 }
+    {
+        let Ok(place) = i64::try_from(at) else {
+            return 0;
+        };
+        let steps = (prefixes_at(&image.code, place) as u64).saturating_add(1);
+        self.counts.get(at).copied().unwrap_or(0) / steps
     }
 
     /// Counts steps of the instruction at an address.

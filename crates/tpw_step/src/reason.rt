@@ -84,7 +84,7 @@ pub(crate) struct Snapshot<'a> {
 }
 
 /// The address a number of words on from another.
-fn words_on(address: u32, words: i32) -> u32 {
+pub(crate) fn words_on(address: u32, words: i32) -> u32 {
     address.wrapping_add(words.wrapping_mul(WORD_BYTES.cast_signed()).cast_unsigned())
 }
 

@@ -1,18 +1,23 @@
 //! A whole run, printed line by line.
 
+use crate::doing::Doing;
+use crate::lines::Lines;
 use crate::operand::NamedInstr;
 use crate::prefixes::prefixes_at;
-use crate::reason::{Reason, Snapshot, instruction_at, why};
+use crate::reach::{Reach, reach_of};
+use crate::reason::{Reason, Snapshot, instruction_at, why, words_on};
 use crate::span::Span;
 use crate::stepper::Stepper;
 use crate::value::{Style, Value};
-use crate::workspace::{Values, Workspace, Written};
+use crate::watched::Watched;
+use crate::workspace::{Change, Values, Workspace, Written};
 use std::alloc::{AllocError, Global};
 use std::io::Write;
+use tp_decode::Instr;
 use tp_image::Image;
 use tp_link::{Link, LinkDevice, LinkFault, Links, Media};
 use tp_step::profile::{self, MEM_START};
-use tpw_debug::{Named, ShowFault, SourceText};
+use tpw_debug::{ShowFault, SourceText};
 use tpw_machine::{Registers, Turn};
 
 /// The longest packet, result or trace message, in bytes.
@@ -44,17 +49,19 @@ pub enum End {
 pub struct Shown<'a> {
     /// Which instructions are.
     pub span: Span,
-    /// Where there are some, only instructions that change one of these words are.
-    pub watched: &'a [Named<'a>],
+    /// Where there are some, only instructions that change one of these bytes are.
+    pub watched: &'a [Watched],
     /// Debug information of the code.
     pub source: SourceText<'a>,
     /// Whether each number has its hexadecimal behind it.
     pub hexadecimal: bool,
+    /// Whether a line is a statement of the text, and what it does, in place of an instruction.
+    pub statements: bool,
 }
 
 impl<'a> Shown<'a> {
     /// How values are written at an instruction.
-    fn style(&self, at: i64) -> Style<'a> {
+    pub(crate) fn style(&self, at: i64) -> Style<'a> {
         Style {
             source: match usize::try_from(at) {
                 Ok(at) => self.source.at(at),
@@ -78,8 +85,11 @@ fn taken<D: LinkDevice>(
     device: &mut D,
     kept: &mut Vec<u8>,
 ) -> Result<String, AllocError> {
-    let mut bytes = [0; ROOM];
     let held = device.held().min(ROOM);
+    if held == 0 {
+        return Ok(String::new(alloc));
+    }
+    let mut bytes = [0; ROOM];
     let message = &mut bytes[..held];
     match device.receive(message) {
         Ok(()) => {
@@ -94,17 +104,16 @@ fn taken<D: LinkDevice>(
 fn write_registers<W: Write>(
     writer: &mut W,
     count: u64,
-    code: &[u8],
-    at: i64,
-    before: &Registers,
+    made: &Made,
     after: &Registers,
     style: Style<'_>,
 ) -> Result<(), ShowFault> {
-    let written = match instruction_at(code, at) {
+    let at = made.at;
+    let written = match made.instr {
         Some(instr) => {
             let instr = NamedInstr {
                 instr,
-                wptr: word_of(before),
+                wptr: word_of(&made.before),
                 source: style.source,
             };
             write!(writer, "{count} {at} {instr}:")
@@ -139,12 +148,9 @@ fn write_values<W: Write>(
 fn write_statement<W: Write>(
     writer: &mut W,
     at: i64,
-    source: SourceText<'_>,
+    lines: &Lines<'_>,
 ) -> Result<(), ShowFault> {
-    let statement = usize::try_from(at)
-        .ok()
-        .and_then(|at| source.statement_at(at));
-    match statement {
+    match lines.at(at) {
         Some(statement) => {
             let line = statement.line;
             let text = statement.text;
@@ -155,7 +161,7 @@ fn write_statement<W: Write>(
 }
 
 /// Writes a word and bytes after it, where there are some.
-fn write_message<W: Write>(writer: &mut W, name: &str, bytes: &str) -> Result<(), ShowFault> {
+pub(crate) fn write_message<W: Write>(writer: &mut W, name: &str, bytes: &str) -> Result<(), ShowFault> {
     if bytes.is_empty() {
         Ok(())
     } else {
@@ -199,62 +205,193 @@ fn left(turn: Option<Turn>, snapshot: Snapshot<'_>) -> Option<End> {
     }
 }
 
-/// Makes one instruction, and writes its line where it is to be shown. How the run is left comes back, if it is; else
-/// `stands` are the words where it is now.
-fn show_one<D: LinkDevice, W: Write>(
-    alloc: Global,
-    stepper: &mut Stepper,
-    links: &mut Links<D>,
-    stands: &mut Workspace,
-    sent: &mut Sent,
-    progress: &mut Progress,
+/// An instruction that was made: its address, what it is, the registers before it, the words that it changed, and a
+/// message that it sent, in hexadecimal.
+#[derive(Drop)]
+pub(crate) struct Made {
+    pub(crate) at: i64,
+    pub(crate) instr: Option<Instr>,
+    pub(crate) before: Registers,
+    pub(crate) changes: Vec<Change>,
+    pub(crate) result: String,
+    pub(crate) trace: String,
+}
+
+impl Made {
+    /// The word that it stores a value in, by its number, and the first byte in that, if it is no message and no loop's.
+    pub(crate) fn stored(&self) -> Option<(usize, u32)> {
+        let registers = self.before;
+        let address = match self.instr? {
+            Instr::Stl(n) => words_on(registers.wptr, n),
+            Instr::Stnl(n) => words_on(registers.areg?, n),
+            Instr::Sb => registers.areg?,
+            _ => return None,
+        };
+        let bytes = address.checked_sub(MEM_START)?;
+        let word = bytes / profile::WORD_BYTES;
+        Some((word as usize, bytes % profile::WORD_BYTES))
+    }
+}
+
+/// A run: where it is, the words that stand there, the instruction that was made last, what it has sent, and how far it
+/// is.
+#[derive(Drop)]
+pub(crate) struct Run {
+    stepper: Stepper,
+    stands: Workspace,
+    pub(crate) made: Made,
+    sent: Sent,
+    progress: Progress,
+}
+
+/// Whether an instruction may send a message.
+fn may_send(instr: Option<Instr>) -> bool {
+    match instr {
+        Some(instr) => instr == Instr::Output,
+        None => true,
+    }
+}
+
+impl Run {
+    /// The start of a packet's run of an image.
+    fn new(alloc: Global, image: Image) -> Result<Run, AllocError> {
+        let stepper = Stepper::new(image);
+        let stands = Workspace::of(alloc, &stepper)?;
+        let before = stepper.registers();
+        let progress = Progress {
+            count: 0,
+            last: before.iptr,
+            is_shown: false,
+        };
+        Ok(Run {
+            stepper,
+            stands,
+            made: Made {
+                at: before.iptr,
+                instr: None,
+                before,
+                changes: Vec::new(alloc),
+                result: String::new(alloc),
+                trace: String::new(alloc),
+            },
+            sent: Sent {
+                result: Vec::new(alloc),
+                trace: Vec::new(alloc),
+            },
+            progress,
+        })
+    }
+
+    /// A word where it is, if it is defined.
+    pub(crate) fn word(&self, number: usize) -> Option<u32> {
+        self.stands.word(number)
+    }
+
+    /// The steps made.
+    pub(crate) fn count(&self) -> u64 {
+        self.progress.count
+    }
+
+    /// Whether it has come to where printing begins.
+    pub(crate) fn is_shown(&self) -> bool {
+        self.progress.is_shown
+    }
+
+    /// Whether its error flag is set.
+    pub(crate) fn has_flag(&self) -> bool {
+        self.stepper.registers().error
+    }
+
+    /// Takes what the devices hold, where the instruction that was made may have sent it.
+    fn take_sent<D: LinkDevice>(
+        &mut self,
+        alloc: Global,
+        links: &mut Links<D>,
+    ) -> Result<(), AllocError> {
+        self.made.result.clear();
+        self.made.trace.clear();
+        if may_send(self.made.instr) {
+            self.made.result = taken(alloc, &mut links.sink, &mut self.sent.result)?;
+            self.made.trace = taken(alloc, &mut links.trace, &mut self.sent.trace)?;
+        }
+        Ok(())
+    }
+
+    /// Takes over the words that the instruction that was made has changed.
+    fn take_changes(&mut self) -> Result<(), AllocError> {
+        self.made.changes.clear();
+        let reach = match self.made.instr {
+            Some(instr) => reach_of(instr, &self.made.before),
+            None => Some(Reach::ALL),
+        };
+        match reach {
+            Some(reach) => self
+                .stands
+                .refresh(&self.stepper, reach, &mut self.made.changes),
+            None => Ok(()),
+        }
+    }
+
+    /// Makes one instruction, before which the registers are these. How the run is left comes back, if it is.
+    fn make_one<D: LinkDevice>(
+        &mut self,
+        alloc: Global,
+        before: Registers,
+        links: &mut Links<D>,
+    ) -> Result<Option<End>, ShowFault> {
+        let at = before.iptr;
+        let phase = self.stepper.phase();
+        let turn = self.stepper.next(links);
+        if !matches!(turn, Some(Turn::Made)) {
+            let snapshot = Snapshot {
+                image: self.stepper.image(),
+                registers: before,
+                phase,
+                workspace: &self.stands,
+            };
+            return Ok(left(turn, snapshot));
+        }
+        let code = self.stepper.image().code.as_slice();
+        let bytes = (prefixes_at(code, at) as u64).saturating_add(1);
+        self.made.at = at;
+        self.made.instr = instruction_at(code, at);
+        self.made.before = before;
+        self.progress.count = self.progress.count.saturating_add(bytes);
+        self.progress.last = at;
+        self.take_changes()?;
+        self.take_sent(alloc, links)?;
+        Ok(None)
+    }
+}
+
+/// Writes the line of an instruction that was made, where it is to be shown.
+fn write_made<W: Write>(
+    run: &Run,
     shown: Shown<'_>,
+    lines: &Lines<'_>,
     writer: &mut W,
-) -> Result<Option<End>, ShowFault> {
-    let registers = stepper.registers();
-    let at = registers.iptr;
-    let phase = stepper.phase();
-    let turn = stepper.next(links);
-    let snapshot = Snapshot {
-        image: stepper.image(),
-        registers,
-        phase,
-        workspace: stands,
-    };
-    if let Some(end) = left(turn, snapshot) {
-        return Ok(Some(end));
+) -> Result<(), ShowFault> {
+    let made = &run.made;
+    let is_watched = !shown.watched.is_empty();
+    if !run.progress.is_shown || (is_watched && made.changes.is_empty()) {
+        return Ok(());
     }
-    let code = stepper.image().code.as_slice();
-    let bytes = (prefixes_at(code, at) as u64).saturating_add(1);
-    progress.count = progress.count.saturating_add(bytes);
-    progress.last = at;
-    let result = taken(alloc, &mut links.sink, &mut sent.result)?;
-    let trace = taken(alloc, &mut links.trace, &mut sent.trace)?;
-    let after = Workspace::of(alloc, stepper)?;
+    let style = shown.style(made.at);
     let written = Written {
-        before: stands,
-        after: &after,
-        style: shown.style(at),
+        changes: &made.changes,
+        style,
     };
-    if progress.is_shown && (shown.watched.is_empty() || written.changes(shown.watched)) {
-        let behind = stepper.registers();
-        write_registers(
-            writer,
-            progress.count,
-            code,
-            at,
-            &registers,
-            &behind,
-            shown.style(at),
-        )?;
-        write!(writer, "{written}").map_err(|_| ShowFault::Write)?;
-        write_message(writer, "result", result.as_str())?;
-        write_message(writer, "trace", trace.as_str())?;
-        write_statement(writer, at, shown.source)?;
-        writeln!(writer).map_err(|_| ShowFault::Write)?;
+    if is_watched && !written.changes(shown.watched) {
+        return Ok(());
     }
-    *stands = after;
-    Ok(None)
+    let count = run.progress.count;
+    let behind = run.stepper.registers();
+    write_registers(writer, count, made, &behind, style)?;
+    write!(writer, "{written}").map_err(|_| ShowFault::Write)?;
+    write_message(writer, "result", made.result.as_str())?;
+    write_message(writer, "trace", made.trace.as_str())?;
+    write_statement(writer, made.at, lines)?;
+    writeln!(writer).map_err(|_| ShowFault::Write)
 }
 
 /// Writes the state in which a run was left: its registers, and the words that are defined and are not 0.
@@ -326,39 +463,29 @@ pub fn show_run<W: Write>(
     let mut media = Media::with_rooms(alloc, packet.len(), ROOM, ROOM)?;
     let mut links = media.wires();
     let _ = links.source.send(packet);
-    let mut stepper = Stepper::new(image);
-    let mut stands = Workspace::of(alloc, &stepper)?;
-    let mut sent = Sent {
-        result: Vec::new(alloc),
-        trace: Vec::new(alloc),
-    };
-    let mut progress = Progress {
-        count: 0,
-        last: stepper.registers().iptr,
-        is_shown: false,
-    };
+    let lines = Lines::of(alloc, shown.source, image.code.len())?;
+    let mut run = Run::new(alloc, image)?;
+    let mut doing = Doing::new(alloc);
     let mut end = End::Unended;
     for _ in 0..MAX_INSTRUCTIONS {
-        if progress.comes_to(shown.span, stepper.registers().iptr) {
+        let before = run.stepper.registers();
+        if run.progress.comes_to(shown.span, before.iptr) {
             end = End::Left;
             break;
         }
-        let left = show_one(
-            alloc,
-            &mut stepper,
-            &mut links,
-            &mut stands,
-            &mut sent,
-            &mut progress,
-            shown,
-            writer,
-        )?;
-        if let Some(how) = left {
+        if let Some(how) = run.make_one(alloc, before, &mut links)? {
             end = how;
             break;
         }
+        if shown.statements {
+            doing.take(alloc, &run, shown, &lines, writer)?;
+        } else {
+            write_made(&run, shown, &lines, writer)?;
+        }
     }
-    write_end(alloc, &stepper, &sent, progress.count, end, writer)?;
-    write_state(&stepper, &stands, shown.style(progress.last), writer)?;
+    doing.write(shown, &lines, writer)?;
+    let style = shown.style(run.progress.last);
+    write_end(alloc, &run.stepper, &run.sent, run.progress.count, end, writer)?;
+    write_state(&run.stepper, &run.stands, style, writer)?;
     Ok(end)
 }

@@ -1,14 +1,13 @@
 //! The words of a workspace, and those that an instruction wrote.
 
+use crate::reach::{Reach, Stretch, WORDS};
 use crate::stepper::Stepper;
-use crate::value::{Style, Value};
+use crate::value::{Style, Value, write_byte};
+use crate::watched::Watched;
 use std::alloc::{AllocError, Global};
 use std::fmt;
 use tp_step::profile::{MEM_START, WORD_BYTES};
 use tpw_debug::Named;
-
-/// The most words of a workspace.
-const WORDS: u32 = 512;
 
 /// The words of a workspace, as they stood once.
 #[derive(Drop)]
@@ -27,6 +26,44 @@ impl Workspace {
         Ok(Workspace { words })
     }
 
+    /// Takes over the words of a stretch where a run is. Those that have changed are appended.
+    fn refresh_stretch(
+        &mut self,
+        stepper: &Stepper,
+        stretch: Stretch,
+        changes: &mut Vec<Change>,
+    ) -> Result<(), AllocError> {
+        let end = stretch.end.clamp(0, i64::from(WORDS)) as u32;
+        let first = stretch.first.clamp(0, i64::from(WORDS)) as u32;
+        for i in first..end {
+            if let Some(word) = self.words.get_mut(i as usize) {
+                let before = *word;
+                let after = stepper.word(i);
+                if before != after {
+                    *word = after;
+                    changes.push(Change {
+                        word: i as usize,
+                        before,
+                        after,
+                    })?;
+                }
+            }
+        }
+        Ok(())
+    }
+
+    /// Takes over the words where a run is, of which an instruction may have written these. Those that have changed are
+    /// appended, in order.
+    pub(crate) fn refresh(
+        &mut self,
+        stepper: &Stepper,
+        reach: Reach,
+        changes: &mut Vec<Change>,
+    ) -> Result<(), AllocError> {
+        self.refresh_stretch(stepper, reach.low, changes)?;
+        self.refresh_stretch(stepper, reach.high, changes)
+    }
+
     /// Whether `bytes` bytes from an address on lie in it.
     pub(crate) fn holds(&self, address: u32, bytes: u32) -> bool {
         let first = u64::from(address);
@@ -36,38 +73,90 @@ impl Workspace {
         MEM_START <= address && first.saturating_add(u64::from(bytes)) <= end
     }
 
+    /// The word of a number, if it is defined.
+    pub(crate) fn word(&self, number: usize) -> Option<u32> {
+        self.words.get(number).copied().flatten()
+    }
+
     /// The word at an address, if it is defined.
     pub(crate) fn at(&self, address: u32) -> Option<u32> {
         let i = address.checked_sub(MEM_START)? / WORD_BYTES;
-        self.words.get(i as usize).copied().flatten()
+        self.word(i as usize)
     }
+}
+
+/// A word that was written, or made undefined: what it was, and what it is.
+#[derive(Clone, Copy, Debug, PartialEq, Eq)]
+pub(crate) struct Change {
+    pub(crate) word: usize,
+    pub(crate) before: Option<u32>,
+    pub(crate) after: Option<u32>,
 }
 
 /// The words that an instruction has changed.
 #[derive(Clone, Copy)]
 pub(crate) struct Written<'a> {
-    pub(crate) before: &'a Workspace,
-    pub(crate) after: &'a Workspace,
+    pub(crate) changes: &'a [Change],
     pub(crate) style: Style<'a>,
 }
 
-/// A word of the workspace and its value: ` buf[2]=3`, or ` w5=3` with the word's number where it has no name.
+/// The bytes of a word, low byte first; none is defined where the word is not.
+fn bytes_of(word: Option<u32>) -> [Option<u8>; 4] {
+    match word {
+        Some(value) => {
+            let [a, b, c, d] = value.to_le_bytes();
+            [Some(a), Some(b), Some(c), Some(d)]
+        }
+        None => [None; 4],
+    }
+}
+
+/// A word of the workspace, as it was and as it is: ` buf[2]=3`, or ` w5=3` with the word's number where it has no name;
+/// of an array of bytes each byte that is another.
 #[derive(Clone, Copy)]
 struct Valued<'a> {
     word: usize,
+    before: Option<u32>,
     value: Value<'a>,
+}
+
+impl Valued<'_> {
+    /// Writes the bytes of an array that are other than before.
+    fn write_bytes<W: fmt::Write>(
+        &self,
+        named: Named<'_>,
+        bytes: usize,
+        f: &mut fmt::Formatter<W>,
+    ) -> fmt::Result {
+        let first = named.first_byte(self.word);
+        let both = bytes_of(self.before)
+            .into_iter()
+            .zip(bytes_of(self.value.word));
+        for (i, (old, new)) in both.enumerate() {
+            let index = first.saturating_add(i);
+            if old != new && index < bytes {
+                let name = named.of_byte(index);
+                write!(f, " {name}=")?;
+                write_byte(f, new, self.value.style.hexadecimal)?;
+            }
+        }
+        Ok(())
+    }
 }
 
 impl fmt::Display for Valued<'_> {
     fn fmt<W: fmt::Write>(&self, f: &mut fmt::Formatter<W>) -> fmt::Result {
         let word = self.word;
         let value = self.value;
-        match value.style.source.named(word) {
-            Some(named) => {
+        let Some(named) = value.style.source.named(word) else {
+            return write!(f, " w{word}={value}");
+        };
+        match named.bytes {
+            Some(bytes) => self.write_bytes(named, bytes, f),
+            None => {
                 let name = named.of(word);
                 write!(f, " {name}={value}")
             }
-            None => write!(f, " w{word}={value}"),
         }
     }
 }
@@ -89,7 +178,11 @@ impl fmt::Display for Values<'_> {
                     word: *value,
                     style,
                 };
-                let valued = Valued { word, value };
+                let valued = Valued {
+                    word,
+                    before: Some(0),
+                    value,
+                };
                 write!(f, "{valued}")?;
             }
         }
@@ -97,32 +190,41 @@ impl fmt::Display for Values<'_> {
     }
 }
 
-impl Written<'_> {
-    /// Whether a word of these is among them.
-    pub(crate) fn changes(&self, watched: &[Named<'_>]) -> bool {
-        let mut words = self
-            .before
-            .words
-            .iter()
-            .zip(self.after.words.iter())
+impl Change {
+    /// Whether a byte that is watched at an address is another than before.
+    fn is_watched(&self, watched: &[Watched], at: Option<usize>) -> bool {
+        let first = self.word.saturating_mul(WORD_BYTES as usize);
+        let mut both = bytes_of(self.before)
+            .into_iter()
+            .zip(bytes_of(self.after))
             .enumerate();
-        words.any(|(i, (old, new))| *old != *new && watched.iter().any(|named| named.has(i)))
+        both.any(|(i, (old, new))| old != new
+            && watched.iter().any(|one| one.has(first.saturating_add(i), at)))
+    }
+}
+
+impl Written<'_> {
+    /// Whether a byte of these is among them.
+    pub(crate) fn changes(&self, watched: &[Watched]) -> bool {
+        let at = self.style.source.at;
+        self.changes
+            .iter()
+            .any(|change| change.is_watched(watched, at))
     }
 }
 
 impl fmt::Display for Written<'_> {
     fn fmt<W: fmt::Write>(&self, f: &mut fmt::Formatter<W>) -> fmt::Result {
-        let before = self.before;
-        let after = self.after;
-        for (i, (old, new)) in before.words.iter().zip(after.words.iter()).enumerate() {
-            if *old != *new {
-                let value = Value {
-                    word: *new,
+        for change in self.changes {
+            let valued = Valued {
+                word: change.word,
+                before: change.before,
+                value: Value {
+                    word: change.after,
                     style: self.style,
-                };
-                let valued = Valued { word: i, value };
-                write!(f, "{valued}")?;
-            }
+                },
+            };
+            write!(f, "{valued}")?;
         }
         Ok(())
     }

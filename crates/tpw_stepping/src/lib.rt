@@ -5,6 +5,7 @@ mod place;
 mod profiling;
 mod shares;
 mod stepping;
+mod times;
 
 pub use place::place_of;
 pub use profiling::{Counted, write_profile};

@@ -1,5 +1,7 @@
-//! A profile as lines: the steps of each line of a text, or of each instruction, and of each loop, the most first.
+//! A profile as lines: the steps of each line of a text, or of each instruction, and how often it is run, the most steps
+//! first; and of each loop.
 
+use crate::times::{times_at, times_of};
 use std::alloc::Global;
 use std::fmt;
 use std::io::Write;
@@ -18,6 +20,16 @@ pub struct Shares<'a, 's> {
     pub image: &'a Image,
     pub profile: &'a Profile,
     pub source: SourceText<'s>,
+}
+
+impl Shares<'_, '_> {
+    /// The place of the instruction at an address: the line that says it, or the address itself where no text does.
+    pub fn place_at(&self, at: usize) -> usize {
+        match self.source.statement_at(at) {
+            Some(statement) => statement.line,
+            None => at,
+        }
+    }
 }
 
 /// The steps of a line or an instruction, which has a place: the line, or the address.
@@ -44,22 +56,19 @@ fn shares_of(alloc: Global, shares: Shares<'_, '_>) -> Result<Vec<Share>, Failur
     let mut found = Vec::new(alloc);
     for (at, steps) in shares.profile.counts.iter().enumerate() {
         if *steps != 0 {
-            let place = match shares.source.statement_at(at) {
-                Some(statement) => statement.line,
-                None => at,
-            };
-            add(&mut found, place, *steps)?;
+            add(&mut found, shares.place_at(at), *steps)?;
         }
     }
     found.sort_by_key(|share| u64::MAX - share.steps)?;
     Ok(found)
 }
 
-/// A part of all steps: its percentage with one digit behind the point, the steps, and a bar beside the most of any
-/// part.
+/// A part of all steps: its percentage with one digit behind the point, the steps, how often it is run, and a bar beside
+/// the most of any part.
 #[derive(Clone, Copy)]
 struct Part {
     steps: u64,
+    times: u64,
     all: u64,
     most: u64,
 }
@@ -70,7 +79,8 @@ impl fmt::Display for Part {
         let share = steps.saturating_mul(1000) / self.all.max(1);
         let whole = share / 10;
         let tenth = share % 10;
-        write!(f, "{whole:>3}.{tenth}%  {steps:>12}  ")?;
+        let times = self.times;
+        write!(f, "{whole:>3}.{tenth}%  {steps:>12}  {times:>10}x  ")?;
         let bar = steps.saturating_mul(BAR) / self.most.max(1);
         for column in 0..BAR {
             f.write_str(if column < bar { "#" } else { " " })?;
@@ -120,6 +130,7 @@ fn write_loops<W: Write>(shares: Shares<'_, '_>, writer: &mut W) -> Result<(), F
     for (number, row) in image.loops.iter().enumerate() {
         let part = Part {
             steps: steps_within(shares.profile, row),
+            times: shares.profile.times(image, row.lend as usize),
             all,
             most: all,
         };
@@ -154,9 +165,11 @@ pub fn write_shares<W: Write>(
         None => 0,
     };
     if let Some(listing) = listing_of(alloc, shares.image)? {
+        let times = times_of(alloc, shares, &listing)?;
         for share in &found {
             let part = Part {
                 steps: share.steps,
+                times: times_at(&times, share.place),
                 all,
                 most,
             };

@@ -6,7 +6,7 @@ use Rattle.std.proofs.Crossing.{crosses}
 use Rattle.tp_stream.proofs.hand.StreamHand.TheSendSync as hand
 use Rattle.tp_farm.proofs.member.End.TheSendSync as end
 use Rattle.tp_link.proofs.links.Links.TheSendSync as links
-use Rattle.tp_farm.specs.contracts.worker.Returned as returned
+use Rattle.tp_farm.specs.contracts.thread.Returned as returned
 use Rattle.tp_farm.proofs.members.start.Goals as goal
 
 -- what a member gives back may go to another thread

@@ -4,9 +4,15 @@ use Rattle.std.specs.Prelude.{slice_index_or}
 use Rattle.tpw_occam_code.specs.declared.order.Move.TheVariants.{Keep}
 use Rattle.tpw_occam_code.specs.Ordering.{MakesMoves}
 use Rattle.tpw_occam_code.proofs.Matching.{none_of, more_of, rest_of}
-use Rattle.tpw_occam_code.proofs.Ordering.{get_same}
+use Rattle.tpw_occam_code.proofs.Ordering.{get_same, numbered_parts}
 use Rattle.tpw_occam_code.proofs.Settling.{moves_none}
 use Rattle.tpw_occam_code.proofs.assignments.+make_moves.Goals as goal
+
+pub make_move-requires : goal.make_move-requires
+make_move-requires t c = (numbered_parts (length c.args.all.now) c.args.moves.now c.in-len1-up.len_at_least c.requires).0
+
+pub make_moves-requires : goal.make_moves-requires
+make_moves-requires t c = (numbered_parts (length c.args.all.now) c.args.moves.now c.in-len1-up.len_at_least c.requires).1
 
 pub returns-in_default-clause-makes : goal.returns-in_default-clause-makes
 returns-in_default-clause-makes t c three =

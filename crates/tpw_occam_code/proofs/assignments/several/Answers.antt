@@ -6,10 +6,10 @@ use Rattle.tpw_occam_code.specs.Ordering.{SettleAll}
 use Rattle.tpw_occam_code.proofs.KeptParts.{words_assign}
 use Rattle.tpw_occam_code.proofs.assignments.several.Goals as goal
 
-pub returns-in-Some-clause-assigns : goal.returns-in-Some-clause-assigns
-returns-in-Some-clause-assigns c = on_ok_weaker c.by_moves.result (λ assigns.
-    assigns (subst (SettleAll c.args.all.now) (sym c.deref.ensures.value)
-    (subst (λ o. IfSome o (λ moves. SettleAll c.args.all.now moves.items)) c.in-Some.is c.in_ok-moves.ensures))) c.by_moves.ensures.assigns
+pub by_moves-requires : goal.by_moves-requires
+by_moves-requires c =
+    subst (SettleAll c.args.all.now) (sym c.deref.ensures.value)
+    (subst (λ o. IfSome o (λ moves. SettleAll c.args.all.now moves.items)) c.in-Some.is c.in_ok-moves.ensures)
 
 pub returns-clause-assigns : goal.returns-clause-assigns
 returns-clause-assigns c = on_ok_weaker c.assign_by_words.result (λ assigns.

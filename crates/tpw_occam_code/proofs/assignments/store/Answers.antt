@@ -1,32 +1,6 @@
-use Rattle.std.proofs.Common.{sym, subst}
 use Rattle.std.proofs.lemmas.Result.{on_ok_weaker}
-use Rattle.tpw_occam_core.specs.declared.process.Target.TheVariants as target
-use Rattle.tpw_occam_expressions.specs.Computing.{IsFixed, IsOffset}
-use Rattle.tpw_occam_code.specs.Assigning.{StoresIn}
-use Rattle.tpw_occam_code.proofs.Assigning.{variable_stores, fixed_stores, offset_stores}
 use Rattle.tpw_occam_code.proofs.assignments.store.Goals as goal
 
-pub returns-in-Variable-clause-stores : goal.returns-in-Variable-clause-stores
-returns-in-Variable-clause-stores c = on_ok_weaker c.store_variable.result (λ stores three.
-    rw c.in-Variable.is (variable_stores c.args.emitter.now c.args.code.now c.store_variable.new.code c.in-Variable.x c.args.room.next_temporary stores)) c.store_variable.ensures
-
-pub returns-in-Some-clause-stores : goal.returns-in-Some-clause-stores
-returns-in-Some-clause-stores c = on_ok_weaker c.store_word.result (λ stores three.
-    rw c.in-Element.is
-    (subst (λ v. StoresIn c.args.emitter.now c.args.code.now c.store_word.new.code (target.Element c.in-Element.array v c.in-Element.subscript) c.args.room.next_temporary) (sym c.in-Some.ensures.words)
-    (fixed_stores c.args.emitter.now c.args.code.now c.store_word.new.code c.in-Element.array c.in-Element.subscript c.in-Some.word c.args.room.next_temporary
-    (subst (λ v. IsFixed c.args.emitter.now c.in-Element.array v c.in-Element.subscript c.in-Some.word) c.in-Some.ensures.words c.in-Some.ensures.fixed) stores)))
-    c.store_word.ensures
-
-pub returns-in-Some-offset_subscript-clause-stores : goal.returns-in-Some-offset_subscript-clause-stores
-returns-in-Some-offset_subscript-clause-stores c = on_ok_weaker c.store_offset.result (λ stores three.
-    let o = c.in-Some-offset_subscript in
-    rw c.in-Element.is
-    (subst (λ v. StoresIn c.args.emitter.now c.args.code.now c.store_offset.new.code (target.Element c.in-Element.array v c.in-Element.subscript) c.args.room.next_temporary) (sym o.ensures.offset.words)
-    (offset_stores c.args.emitter.now c.args.code.now c.store_offset.new.code c.in-Element.array c.in-Element.subscript o.offset.variable o.offset.constant c.args.room.next_temporary
-    (subst (λ v. IsOffset c.args.emitter.now c.in-Element.array v c.in-Element.subscript o.offset.variable o.offset.constant) o.ensures.offset.words o.ensures) stores)))
-    c.store_offset.ensures
-
-pub returns-in_default-offset_subscript-clause-stores : goal.returns-in_default-offset_subscript-clause-stores
-returns-in_default-offset_subscript-clause-stores c = on_ok_weaker c.store_element.result (λ stores three.
+pub returns-then-is_none-clause-stores : goal.returns-then-is_none-clause-stores
+returns-then-is_none-clause-stores c = on_ok_weaker c.store_element.result (λ stores three.
     rw c.in-Element.is (stores three)) c.store_element.ensures.stores

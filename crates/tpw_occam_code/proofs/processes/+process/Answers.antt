@@ -5,7 +5,7 @@ use Rattle.tpw_occam_expressions.specs.Agreement.{with_fact, fact_at, fact_of_ki
 use Rattle.tpw_occam_symbolic.specs.declared.code.Turns.{Turns}
 use Rattle.tpw_occam_symbolic.specs.Code.{none_at, place_behind, joined}
 use Rattle.tpw_occam_expressions.specs.Computing.{Decides, Binds, ComputesBinding}
-use Rattle.tpw_occam_code.specs.Executing.{DeclaresVariable, DeclaresValue, VariableKnown, ValueKnown, Executes, Chooses, Repeats, Remains, ChoosesKnown, RepeatsKnown, Assigns}
+use Rattle.tpw_occam_code.specs.Executing.{is_skip, DeclaresVariable, DeclaresValue, VariableKnown, ValueKnown, Executes, Chooses, Repeats, Remains, ChoosesKnown, RepeatsKnown, Assigns}
 use Rattle.tpw_occam_expressions.proofs.Standing.{place_of}
 use Rattle.tpw_occam_expressions.proofs.Naming.{restored}
 use Rattle.tpw_occam_code.proofs.Executing.{skip_executes, stop_executes, sequence_executes, value_executes, variable_executes, array_executes}
@@ -44,7 +44,7 @@ pub choice-returns-then-is_skip-clause-executes : goal.choice-returns-then-is_sk
 choice-returns-then-is_skip-clause-executes t c =
     on_ok_weaker c.branch-code.result (λ is.
     branch_executes c.args.emitter.now c.args.code.now c.condition.new.code c.process-2.new.code c.branch-code.new.self c.args.line
-    c.args.guard.now c.args.guarded.now c.args.rest.now (sym c.is_skip.ensures ∙ c.if-is_skip.true)
+    c.args.guard.now c.args.guarded.now c.args.rest.now (ap (λ k. is_skip k c.args.rest.now) (sym (c.in_ok-process.ensures.knowledge ∙ c.in_ok-condition.ensures.knowledge)) ∙ sym c.is_skip.ensures ∙ c.if-is_skip.true)
     (subst (λ r. Decides c.args.emitter.now c.args.code.now c.condition.new.code c.args.guard.now r.registers r.next_temporary) c.from_word.ensures c.in_ok-condition.ensures.decides)
     (subst (λ k. Executes k (none_at (place_behind c.condition.new.code + 1)) c.process-2.new.code c.args.guarded.now) c.in_ok-condition.ensures.knowledge
     (subst (λ l. Executes c.condition.new.self l c.process-2.new.code c.args.guarded.now) c.in_ok-yes.ensures c.in_ok-process.ensures.executes))
@@ -55,7 +55,7 @@ choice-returns-then-is_skip-clause-remains t c =
     on_ok_weaker c.branch-code.result (λ is.
     choose_remains c.args.emitter.now c.args.guard.now c.args.guarded.now c.args.rest.now
     (subst (λ k. Remains k c.args.guarded.now) c.in_ok-condition.ensures.knowledge c.in_ok-process.ensures.remains)
-    (skipped_remains c.args.emitter.now c.args.rest.now (sym c.is_skip.ensures ∙ c.if-is_skip.true))) c.branch-code.ensures
+    (skipped_remains c.args.emitter.now c.args.rest.now (ap (λ k. is_skip k c.args.rest.now) (sym (c.in_ok-process.ensures.knowledge ∙ c.in_ok-condition.ensures.knowledge)) ∙ sym c.is_skip.ensures ∙ c.if-is_skip.true))) c.branch-code.ensures
 
 pub choice-returns-clause-executes : goal.choice-returns-clause-executes
 choice-returns-clause-executes t c =

@@ -9,13 +9,13 @@ use Rattle.tpw_runs.proofs.packets.numbers_of.Goals as goal
 pub returns-in_default-clause-said : goal.returns-in_default-clause-said
 returns-in_default-clause-said c =
     none_said (λ f. f.text.now) c.args.fields.now c.loop-field.field-index _ c.loop-field.packet.items c.loop-field-test.true
-    c.loop-field.invariant.0 (sym c.signed_of.ensures ∙ c.in_default.is)
+    c.loop-field.invariant.0 (sym c.value_of.ensures ∙ c.in_default.is)
 
 pub loop-field-preserved : goal.loop-field-preserved
 loop-field-preserved c =
     let more =
     one_more (λ f. f.text.now) c.args.fields.now c.loop-field.field-index _ c.loop-field.packet.items c.in-Some.number
-    c.loop-field-test.true c.loop-field.invariant.0 (sym c.signed_of.ensures ∙ c.in-Some.is) in
+    c.loop-field-test.true c.loop-field.invariant.0 (sym c.value_of.ensures ∙ c.in-Some.is) in
     let bytes : c.to_le_bytes.result ≡ word_bytes c.in-Some.number =
     c.to_le_bytes.ensures ∙ ap (λ z. to_le_bytes w32 (cast_unsigned w32 z)) (to_z-of_z w32 c.in-Some.number (search rules)) in
     let four : length c.to_le_bytes.result ≡ 4 = ap length bytes in

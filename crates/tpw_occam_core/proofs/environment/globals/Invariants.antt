@@ -1,6 +1,6 @@
 use Rattle.std.proofs.Common.{◌≡◌, ◌++◌, map, take}
 use Rattle.tpw_occam_core.specs.declared.scope.Entry.TheVariants as entry
-use Rattle.tpw_occam_core.proofs.sound.globals.Given as goal
+use Rattle.tpw_occam_core.proofs.environment.globals.Given as goal
 
 abbrev pub invariant-loop-x : goal.invariant-loop-x
 invariant-loop-x l = l.scope.items ≡ map entry.Variable (take l.x-index l.worker.global_variables.items)
