@@ -7,9 +7,6 @@ use crate::signatures::{Form, Parameter, Signature};
 use crate::value::Root;
 use std::alloc::{AllocError, Global};
 
-/// How many elements an array of any size is taken to have, where nothing is passed.
-const OPEN_ELEMENTS: u32 = 512;
-
 /// Whether each PROC and each FUNCTION is called, by its number.
 #[derive(Drop)]
 pub(crate) struct Callees {
@@ -84,7 +81,7 @@ impl<'t, 'a> Checker<'t, 'a> {
             Form::Array { shape, access } => Meaning::Array(View {
                 storage: Storage::Array(self.cells.add(parameter.name)?),
                 kind: shape.kind,
-                elements: shape.elements.unwrap_or(OPEN_ELEMENTS),
+                elements: shape.elements.unwrap_or(1),
                 access,
             }),
             Form::Channel(protocol) => Meaning::Channel {
