@@ -11,7 +11,7 @@ ghost use Rattle.tpw_occam_scoped.specs.Meaning.{meaning};
 use crate::diagnosing::{fault_at, faults_of, warnings_of};
 use crate::fault::{Defect, OccamFault};
 use crate::names::{Located, Sources, located_in};
-use crate::room::largest_of;
+use crate::room::said_behind;
 use std::alloc::{AllocError, Global};
 use tpw_asm::{Assembled, Program};
 use tpw_debug::Diagnostic;
@@ -59,11 +59,20 @@ fn refused(alloc: Global, text: &str, faults: &[Fault<'_>]) -> OccamFault
     OccamFault::Refused(diagnostics)
 }
 
-/// Why a text is refused of a line of which this is said.
-fn refused_at(alloc: Global, text: &str, line: u32, said: Result<String, AllocError>) -> OccamFault
+/// Why a text is refused whose code goes beyond a limit at a line, behind which more is said.
+fn beyond(
+    alloc: Global,
+    text: &str,
+    line: u32,
+    fault: CodeFault,
+    more: Result<String, AllocError>,
+) -> OccamFault
     ensures { IsRefusal text.now result }
 {
-    let Ok(said) = said else {
+    let Ok(more) = more else {
+        return OccamFault::Memory;
+    };
+    let Ok(said) = format!(in alloc; "{fault}{more}") else {
         return OccamFault::Memory;
     };
     let mut diagnostics = Vec::new(alloc);
@@ -73,38 +82,20 @@ fn refused_at(alloc: Global, text: &str, line: u32, said: Result<String, AllocEr
     }
 }
 
-/// Why a text is refused whose code goes beyond a limit at a line.
-fn beyond(alloc: Global, text: &str, line: u32, fault: CodeFault) -> OccamFault
-    ensures { IsRefusal text.now result }
-{
-    refused_at(alloc, text, line, format!(in alloc; "{fault}"))
-}
-
-/// Why a text is refused that has too few words from a line on, of which this takes most.
-fn without_room(
+/// Why a text has no program that has a worker; of a limit more is said.
+fn without_code(
     alloc: Global,
     text: &str,
-    line: u32,
-    largest: Result<String, AllocError>,
+    fault: CodeFault,
+    more: Result<String, AllocError>,
 ) -> OccamFault
-    ensures { IsRefusal text.now result }
-{
-    let Ok(largest) = largest else {
-        return OccamFault::Memory;
-    };
-    let fault = CodeFault::Workspace { line };
-    refused_at(alloc, text, line, format!(in alloc; "{fault}: {largest}"))
-}
-
-/// Why a text has no program that has a worker.
-fn without_code(alloc: Global, text: &str, fault: CodeFault) -> OccamFault
     ensures { IsRefusal text.now result }
 {
     match fault {
         CodeFault::Loops { line }
         | CodeFault::Depth { line }
         | CodeFault::Workspace { line }
-        | CodeFault::Code { line } => beyond(alloc, text, line, fault),
+        | CodeFault::Code { line } => beyond(alloc, text, line, fault, more),
         CodeFault::Assembly(fault) => OccamFault::Compiler(Defect::Program(fault)),
         CodeFault::Misplaced => OccamFault::Compiler(Defect::Misplaced),
         CodeFault::Memory => OccamFault::Memory,
@@ -185,11 +176,10 @@ fn compiled<'t>(
                 warnings,
             })
         }
-        Err(CodeFault::Workspace { line }) => {
-            let largest = largest_of(alloc, text, &worker, &declared);
-            Err(without_room(alloc, text, line, largest))
+        Err(fault) => {
+            let more = said_behind(alloc, text, &core, &worker, &declared, fault);
+            Err(without_code(alloc, text, fault, more))
         }
-        Err(fault) => Err(without_code(alloc, text, fault)),
     }
 }
 

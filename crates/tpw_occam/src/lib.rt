@@ -1,6 +1,7 @@
 //! Workers in occam: from a text to its program, or to what is wrong with it, as diagnostics; and laws of them.
 #![tactic(auto)]
 
+mod calls;
 mod compiling;
 mod diagnosing;
 mod fault;

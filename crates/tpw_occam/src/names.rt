@@ -92,12 +92,7 @@ fn bytes_of(storages: &[Storage], array: usize) -> Option<u32> {
 }
 
 /// How many bytes a place has under a name, where they have a number each.
-fn named_bytes(
-    lines: &[&str],
-    storages: &[Storage],
-    place: Place,
-    name: Span,
-) -> Option<u32> {
+fn named_bytes(lines: &[&str], storages: &[Storage], place: Place, name: Span) -> Option<u32> {
     match place {
         Place::Array(array) if is_of_bytes(lines, name) => bytes_of(storages, array),
         _ => None,
@@ -190,9 +185,7 @@ pub(crate) fn located_in<'t>(
     let lines: Vec<&'t str> = text.lines().collect(alloc)?;
     let mut names = Vec::new(alloc);
     for placed in all {
-        add_names(
-            alloc, &mut names, &lines, *placed, declared, storages, code,
-        )?;
+        add_names(alloc, &mut names, &lines, *placed, declared, storages, code)?;
     }
     Ok(names)
 }

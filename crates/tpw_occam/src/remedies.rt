@@ -63,6 +63,9 @@ static DIRECTIVES: [&str; 5] = ["#INCLUDE", "#USE", "#IMPORT", "#OPTION", "#PRAG
 /// Operators that other languages join with `=`.
 static OPERATORS: [&str; 5] = ["+", "-", "*", "/", "\\"];
 
+/// The types of what is declared, and the bracket that one of an array begins with.
+static TYPES: [&str; 4] = ["INT ", "BOOL ", "BYTE ", "["];
+
 /// The remedy for another name for a variable.
 const NO_ABBREVIATION: &str = "VAL n IS e names a value; a variable has no second name";
 
@@ -76,9 +79,10 @@ const GUARD_BELOW: &str = "a guard stands below its IF, indented by two spaces m
 /// The remedy for what stands as deep as the CASE that it is a choice of.
 const CHOICE_BELOW: &str = "a choice stands below its CASE, indented by two spaces more";
 
-/// The text around a place: the line without its comment, and its parts before and behind the place.
+/// The text around a place: the line without its comment, its parts before and behind the place, and the line above.
 #[derive(Clone, Copy)]
 struct Around<'a> {
+    above: &'a str,
     line: &'a str,
     before: &'a str,
     behind: &'a str,
@@ -92,11 +96,18 @@ fn without_comment(line: &str) -> &str {
     }
 }
 
+/// The line of a text behind so many others.
+fn line_behind(text: &str, others: usize) -> &str {
+    text.lines().nth(others).unwrap_or("")
+}
+
 /// The text around a span.
 fn around(text: &str, span: Span) -> Around<'_> {
-    let line = text.lines().nth(span.line.saturating_sub(1)).unwrap_or("");
+    let others = span.line.saturating_sub(1);
+    let line = line_behind(text, others);
     let column = span.column.saturating_sub(1);
     Around {
+        above: without_comment(line_behind(text, others.saturating_sub(1))).trim_ascii(),
         line: without_comment(line).trim_ascii(),
         before: line.get(..column).unwrap_or(""),
         behind: line.get(column..).unwrap_or(""),
@@ -126,6 +137,17 @@ fn for_if(behind: &str) -> &'static str {
         NO_REPLICATED_IF
     } else {
         GUARD_BELOW
+    }
+}
+
+/// The remedy for what stands as deep as the IF or the CASE that is the line above it.
+fn for_flat(above: &str) -> Option<&'static str> {
+    if above == "IF" {
+        Some(GUARD_BELOW)
+    } else if above.starts_with("CASE ") {
+        Some(CHOICE_BELOW)
+    } else {
+        None
     }
 }
 
@@ -186,6 +208,8 @@ fn for_operator(at: Around<'_>) -> Option<&'static str> {
         Some("occam writes <> for unequal")
     } else if at.behind.starts_with(":=") {
         for_becomes(at)
+    } else if at.behind.starts_with(": =") {
+        Some("no space stands within :=")
     } else if at.behind.starts_with(":") {
         Some("a colon ends a declaration, and no process")
     } else if at.behind.starts_with("IS ") {
@@ -221,12 +245,24 @@ fn for_operand(at: Around<'_>) -> Option<&'static str> {
     }
 }
 
+/// Whether a line begins with a type.
+fn begins_with_type(line: &str) -> bool {
+    TYPES.iter().any(|one| line.starts_with(*one))
+}
+
+/// Whether a text begins with what gives a value in other languages.
+fn is_given(behind: &str) -> bool {
+    behind.starts_with("=") || behind.starts_with(":=")
+}
+
 /// The remedy where no more is wanted on a line.
 fn for_nothing(at: Around<'_>) -> Option<&'static str> {
     if at.behind.starts_with("IS ") {
         Some(NO_ABBREVIATION)
     } else if at.line.starts_with("IF ") {
         Some(for_if(at.line))
+    } else if begins_with_type(at.line) && is_given(at.behind) {
+        Some("VAL INT n IS e names a value; a variable is given one by := below its declaration")
     } else {
         None
     }
@@ -243,6 +279,7 @@ fn for_syntax(kind: SyntaxFault, at: Around<'_>) -> Option<&'static str> {
         SyntaxFault::Wanted(Wanted::Operand) => for_operand(at),
         SyntaxFault::Wanted(Wanted::Nothing) => for_nothing(at),
         SyntaxFault::Wanted(Wanted::Process) if is_word(at.line) => for_word(at.line),
+        SyntaxFault::Wanted(Wanted::Process | Wanted::Becomes) => for_flat(at.above),
         _ => None,
     }
 }

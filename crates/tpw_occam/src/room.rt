@@ -1,9 +1,12 @@
-//! What takes the words of a workspace that has too few.
+//! What is said of a limit that code reaches: the calls of its line, and what takes the words of a workspace.
 
+use crate::calls::calls_of;
 use crate::names::said_at;
 use std::alloc::{AllocError, Global};
 use tpw_occam_core::{Place, Storage, Worker};
 use tpw_occam_placing::Declared;
+use tpw_occam_scoped::Process;
+use tpw_occam_symbolic::CodeFault;
 
 /// The most names that are told.
 const MAX_NAMES: usize = 3;
@@ -57,7 +60,7 @@ fn words_of_arrays(worker: &Worker) -> u64 {
 }
 
 /// What takes most of a workspace: how many words arrays and variables have, and the largest arrays.
-pub(crate) fn largest_of(
+fn largest_of(
     alloc: Global,
     text: &str,
     worker: &Worker,
@@ -73,4 +76,26 @@ pub(crate) fn largest_of(
         said.push_str(&more)?;
     }
     Ok(said)
+}
+
+/// What is said behind a fault of a worker: by which calls its line is reached, and what takes most of the words.
+pub(crate) fn said_behind(
+    alloc: Global,
+    text: &str,
+    core: &Process,
+    worker: &Worker,
+    declared: &[Declared],
+    fault: CodeFault,
+) -> Result<String, AllocError> {
+    match fault {
+        CodeFault::Workspace { line } => {
+            let calls = calls_of(alloc, core, worker.receive_line, line)?;
+            let largest = largest_of(alloc, text, worker, declared)?;
+            format!(in alloc; "{calls}: {largest}")
+        }
+        CodeFault::Loops { line } | CodeFault::Depth { line } | CodeFault::Code { line } => {
+            calls_of(alloc, core, worker.receive_line, line)
+        }
+        _ => Ok(String::new(alloc)),
+    }
 }

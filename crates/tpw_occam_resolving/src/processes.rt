@@ -31,7 +31,9 @@ use tpw_occam_meaning::{
     Cases, Choices, Declaration, Expression, Expressions, Names, Parameters, Process as Tree,
     Processes,
 };
-use tpw_occam_names::{Channel, Fault, Form, Meaning, Scope, Storage, View, Word, look_up, type_of};
+use tpw_occam_names::{
+    Channel, Fault, Form, Meaning, Scope, Storage, View, Word, look_up, type_of,
+};
 use tpw_occam_scoped::Process;
 use tpw_occam_terms::{Name, Primitive};
 
