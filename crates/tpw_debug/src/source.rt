@@ -97,6 +97,14 @@ impl fmt::Display for Indexed<'_> {
     }
 }
 
+/// A call in which a loop stands: the address at which the loop's turns begin, and the line of the call. The calls of a
+/// loop follow one another, the innermost first.
+#[derive(Clone, Copy, Debug, PartialEq, Eq)]
+pub struct Called {
+    pub head: usize,
+    pub line: usize,
+}
+
 /// The same as [`DebugInfo`](crate::DebugInfo), borrowed. An image that no text says has [`SourceText::NONE`].
 #[derive(Clone, Copy)]
 pub struct SourceText<'a> {
@@ -105,6 +113,7 @@ pub struct SourceText<'a> {
     pub statements: &'a [Statement<'a>],
     pub labels: &'a [Label<'a>],
     pub words: &'a [Named<'a>],
+    pub calls: &'a [Called],
     /// The address at hand: a word has the names that are in scope there. Where there is none, it has all.
     pub at: Option<usize>,
 }
@@ -116,6 +125,7 @@ impl<'a> SourceText<'a> {
         statements: &[],
         labels: &[],
         words: &[],
+        calls: &[],
         at: None,
     };
 
@@ -211,7 +221,8 @@ impl fmt::Display for WordName<'_> {
     }
 }
 
-/// The name of a loop: by its index's name and the line that begins it where a text says it, and by its row elsewhere.
+/// The name of a loop: by its index's name and the line that begins it where a text says it, with the lines of the calls
+/// in which it stands, and by its row elsewhere.
 #[derive(Clone, Copy)]
 pub struct LoopName<'a> {
     source: SourceText<'a>,
@@ -228,10 +239,19 @@ impl fmt::Display for LoopName<'_> {
             Some(name) => f.write_str(name)?,
             None => write!(f, "row {number}")?,
         }
-        match self.source.line_before(self.head as usize) {
-            Some(line) => write!(f, " (line {line})"),
-            None => Ok(()),
+        let Some(line) = self.source.line_before(self.head as usize) else {
+            return Ok(());
+        };
+        write!(f, " (line {line}")?;
+        let mut before = ", called on line";
+        for call in self.source.calls {
+            if call.head == self.head as usize {
+                let line = call.line;
+                write!(f, "{before} {line}")?;
+                before = ", on line";
+            }
         }
+        f.write_str(")")
     }
 }
 

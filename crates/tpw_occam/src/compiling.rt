@@ -8,11 +8,13 @@ ghost use Rattle.tpw_occam_reading.specs.declared.reading.Standing.TheVariants.{
 ghost use Rattle.tpw_occam_reading.specs.Unparse.{unparse};
 ghost use Rattle.tpw_occam_scoped.specs.Meaning.{meaning};
 
+use crate::calls::{CallLines, CalledLoop, called_loops, loops_of};
 use crate::diagnosing::{fault_at, faults_of, warnings_of};
 use crate::fault::{Defect, OccamFault};
 use crate::names::{Located, Sources, located_in};
 use crate::room::largest_of;
 use std::alloc::{AllocError, Global};
+use tp_image::limits::MAX_LOOP_ROWS;
 use tpw_asm::{Assembled, Program};
 use tpw_debug::Diagnostic;
 use tpw_occam_checking::{CheckError, check};
@@ -29,6 +31,9 @@ use tpw_occam_workers::resolve;
 /// The most that lies within one another in a text that the check lets pass, in calls of a pass over its tree.
 const ROOM: u32 = 10_000;
 
+/// How many loops a loop may lie within.
+const MAX_AROUND: usize = 3;
+
 /// A text, compiled.
 #[derive(Drop)]
 pub struct CompiledText<'t> {
@@ -41,6 +46,8 @@ pub struct CompiledText<'t> {
     pub sources: Vec<u32>,
     /// The line of the text that each loop of the program comes from.
     pub loop_lines: Vec<u32>,
+    /// The loops of the program, with the calls in which they stand; none where the text has others.
+    pub called_loops: Vec<CalledLoop>,
     /// The names of variables and arrays, with their words of the workspace.
     pub located: Vec<Located<'t>>,
     pub warnings: Vec<Diagnostic>,
@@ -59,6 +66,23 @@ fn refused(alloc: Global, text: &str, faults: &[Fault<'_>]) -> OccamFault
     OccamFault::Refused(diagnostics)
 }
 
+/// The calls in which the loop stands that goes beyond a limit of loops.
+fn calls_beyond(loops: &[CalledLoop], fault: CodeFault) -> &[u32] {
+    let found = match fault {
+        CodeFault::Loops { line } => loops
+            .get(MAX_LOOP_ROWS as usize)
+            .filter(|one| one.line == line),
+        CodeFault::Depth { line } => loops
+            .iter()
+            .find(|one| one.line == line && one.depth > MAX_AROUND),
+        _ => None,
+    };
+    match found {
+        Some(one) => &one.calls,
+        None => &[],
+    }
+}
+
 /// Why a text is refused of a line of which this is said.
 fn refused_at(alloc: Global, text: &str, line: u32, said: Result<String, AllocError>) -> OccamFault
     ensures { IsRefusal text.now result }
@@ -74,10 +98,20 @@ fn refused_at(alloc: Global, text: &str, line: u32, said: Result<String, AllocEr
 }
 
 /// Why a text is refused whose code goes beyond a limit at a line.
-fn beyond(alloc: Global, text: &str, line: u32, fault: CodeFault) -> OccamFault
+fn beyond(
+    alloc: Global,
+    text: &str,
+    core: &Process,
+    line: u32,
+    fault: CodeFault,
+) -> OccamFault
     ensures { IsRefusal text.now result }
 {
-    refused_at(alloc, text, line, format!(in alloc; "{fault}"))
+    let Ok(loops) = loops_of(alloc, core) else {
+        return OccamFault::Memory;
+    };
+    let calls = CallLines(calls_beyond(&loops, fault));
+    refused_at(alloc, text, line, format!(in alloc; "{fault}{calls}"))
 }
 
 /// Why a text is refused that has too few words from a line on, of which this takes most.
@@ -97,14 +131,14 @@ fn without_room(
 }
 
 /// Why a text has no program that has a worker.
-fn without_code(alloc: Global, text: &str, fault: CodeFault) -> OccamFault
+fn without_code(alloc: Global, text: &str, core: &Process, fault: CodeFault) -> OccamFault
     ensures { IsRefusal text.now result }
 {
     match fault {
         CodeFault::Loops { line }
         | CodeFault::Depth { line }
         | CodeFault::Workspace { line }
-        | CodeFault::Code { line } => beyond(alloc, text, line, fault),
+        | CodeFault::Code { line } => beyond(alloc, text, core, line, fault),
         CodeFault::Assembly(fault) => OccamFault::Compiler(Defect::Program(fault)),
         CodeFault::Misplaced => OccamFault::Compiler(Defect::Misplaced),
         CodeFault::Memory => OccamFault::Memory,
@@ -174,6 +208,7 @@ fn compiled<'t>(
                 addresses: &assembled.addresses,
             };
             let located = located_in(alloc, text, &placed, &declared, &worker.arrays, code)?;
+            let called_loops = called_loops(alloc, &core, &loop_lines)?;
             let warnings = warnings_of(alloc, text, notes)?;
             Ok(CompiledText {
                 core,
@@ -181,6 +216,7 @@ fn compiled<'t>(
                 assembled,
                 sources,
                 loop_lines,
+                called_loops,
                 located,
                 warnings,
             })
@@ -189,7 +225,7 @@ fn compiled<'t>(
             let largest = largest_of(alloc, text, &worker, &declared);
             Err(without_room(alloc, text, line, largest))
         }
-        Err(fault) => Err(without_code(alloc, text, fault)),
+        Err(fault) => Err(without_code(alloc, text, &core, fault)),
     }
 }
 

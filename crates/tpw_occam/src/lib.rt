@@ -1,6 +1,7 @@
 //! Workers in occam: from a text to its program, or to what is wrong with it, as diagnostics; and laws of them.
 #![tactic(auto)]
 
+mod calls;
 mod compiling;
 mod diagnosing;
 mod fault;
@@ -9,6 +10,7 @@ mod names;
 mod remedies;
 mod room;
 
+pub use calls::{CallLines, CalledLoop};
 pub use compiling::{CompiledText, compile_text};
 pub use diagnosing::fault_at;
 pub use fault::{Defect, OccamFault};
