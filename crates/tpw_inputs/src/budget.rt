@@ -77,7 +77,7 @@ pub fn over_budget(
     });
     let all = costs.first().map_or(0, |first| first.whole);
     let said = format!(in alloc;
-        "a budget of {all} instruction bytes, of at most 16,777,216: this SEQ{calls} has the largest share, {share}"
+        "a budget of {all} instruction bytes, of at most 16,777,216: this SEQ has the largest share, {share}{calls}"
     )?;
     Ok(Some(fault_at(text, share.line as usize, said)))
 }
