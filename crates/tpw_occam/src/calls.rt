@@ -29,8 +29,8 @@ impl fmt::Display for CallLines<'_> {
     }
 }
 
-/// The loops that are found, and where the process stands that is at hand: its line, the loops around it, and the lines
-/// of its calls.
+/// The loops that are found, and where the process stands that is at hand: its line, how many loops are around it, and
+/// the lines of its calls.
 #[derive(Drop)]
 struct Found {
     all: Vec<CalledLoop>,
@@ -40,40 +40,36 @@ struct Found {
 }
 
 impl Found {
-    /// Adds the loops of a process with a line of its own. A line above the one around it is that of a PROC that is called
-    /// there: what is called is declared above.
-    fn add_at(&mut self, alloc: Global, line: u32, body: &Process) -> Result<(), AllocError> {
-        let around = self.line;
-        let is_called = line < around;
+    /// Goes to a line of a process. A line above the one around it is that of a PROC that is called there: what is called is
+    /// declared above. Returns whether it is.
+    fn enter(&mut self, line: u32) -> Result<bool, AllocError> {
+        let is_called = line < self.line;
         if is_called {
-            self.calls.push(around)?;
+            self.calls.push(self.line)?;
         }
         self.line = line;
-        self.add(alloc, body)?;
+        Ok(is_called)
+    }
+
+    /// Goes back to the line around that.
+    fn leave(&mut self, around: u32, is_called: bool) {
         self.line = around;
         if is_called {
             self.calls.pop();
         }
+    }
+
+    /// Adds a loop of the line that is at hand.
+    fn add_loop(&mut self, alloc: Global) -> Result<(), AllocError> {
+        self.all.push(CalledLoop {
+            line: self.line,
+            depth: self.depth,
+            calls: Vec::from_slice(alloc, &self.calls)?,
+        })?;
         Ok(())
     }
 
-    /// Adds a replicated SEQ behind those in it, if it has several turns.
-    fn add_loop(&mut self, alloc: Global, count: u32, body: &Process) -> Result<(), AllocError> {
-        let depth = self.depth;
-        let line = self.line;
-        if count > 1 {
-            self.depth = depth.saturating_add(1);
-        }
-        self.add(alloc, body)?;
-        self.depth = depth;
-        if count > 1 {
-            let calls = Vec::from_slice(alloc, &self.calls)?;
-            self.all.push(CalledLoop { line, depth, calls })?;
-        }
-        Ok(())
-    }
-
-    /// Adds the loops of a process.
+    /// Adds the loops of a process, each behind those in it.
     fn add(&mut self, alloc: Global, p: &Process) -> Result<(), AllocError> {
         match p {
             Process::Sequence(first, second)
@@ -85,11 +81,24 @@ impl Found {
                 self.add(alloc, first)?;
                 self.add(alloc, second)
             }
-            Process::Repeat { count, body, .. } => self.add_loop(alloc, *count, body),
-            Process::Variable { body, .. }
+            Process::Repeat { count, body, .. } if *count > 1 => {
+                let depth = self.depth;
+                self.depth = depth.saturating_add(1);
+                self.add(alloc, body)?;
+                self.depth = depth;
+                self.add_loop(alloc)
+            }
+            Process::Repeat { body, .. }
+            | Process::Variable { body, .. }
             | Process::Value { body, .. }
             | Process::Array { body, .. } => self.add(alloc, body),
-            Process::At { line, body } => self.add_at(alloc, *line, body),
+            Process::At { line, body } => {
+                let around = self.line;
+                let is_called = self.enter(*line)?;
+                self.add(alloc, body)?;
+                self.leave(around, is_called);
+                Ok(())
+            }
             _ => Ok(()),
         }
     }
