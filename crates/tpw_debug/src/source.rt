@@ -1,7 +1,7 @@
 //! Debug information, borrowed.
 
 ghost use Rattle.std.specs.Prelude.{◌≡◌, Some, option_map};
-ghost use Rattle.tpw_debug.specs.Said.{statement_at, line_before, is_word_of, is_in_scope, named, named_from};
+ghost use Rattle.tpw_debug.specs.Said.{statement_at, line_before, is_word_of, is_in_scope, named, declared};
 
 use crate::printable::Printable;
 use std::fmt;
@@ -149,13 +149,13 @@ impl<'a> SourceText<'a> {
             .find(|statement| statement.at == at)
     }
 
-    /// The name of a word, if it is the first of one.
-    pub fn name_of(&self, word: usize) -> Option<&'a str>
-        ensures { result ≡ option_map (λ n. n.name) (named_from self.now.words.now self.now.at word) }
+    /// The name that a line declares, whose first word this is.
+    pub fn declared(&self, word: usize, line: usize) -> Option<&'a str>
+        ensures { result ≡ option_map (λ n. n.name) (declared self.now.words.now word line) }
     {
         self.words
             .iter()
-            .find(|named| named.first == word && named.is_in_scope(self.at))
+            .find(|named| named.first == word && named.line == line)
             .map(|named| named.name)
     }
 
@@ -173,7 +173,7 @@ impl<'a> SourceText<'a> {
     /// The loop of a row, by its name.
     pub fn loop_name(&self, number: usize, row: &LoopRow) -> LoopName<'a> {
         LoopName {
-            source: self.at(row.head as usize),
+            source: *self,
             number,
             control: row.control,
             head: row.head,
@@ -235,14 +235,13 @@ pub struct LoopName<'a> {
 impl fmt::Display for LoopName<'_> {
     fn fmt<W: fmt::Write>(&self, f: &mut fmt::Formatter<W>) -> fmt::Result {
         let number = self.number;
-        match self.source.name_of(self.control as usize) {
-            Some(name) => f.write_str(name)?,
-            None => write!(f, "row {number}")?,
-        }
         let Some(line) = self.source.line_before(self.head as usize) else {
-            return Ok(());
+            return write!(f, "row {number}");
         };
-        write!(f, " (line {line}")?;
+        match self.source.declared(self.control as usize, line) {
+            Some(name) => write!(f, "{name} (line {line}")?,
+            None => write!(f, "row {number} (line {line}")?,
+        }
         let mut before = ", called on line";
         for call in self.source.calls {
             if call.head == self.head as usize {
