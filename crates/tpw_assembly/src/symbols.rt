@@ -61,5 +61,6 @@ pub fn debug_info<'a>(
         statements: statements_of(alloc, text, &source.positions, addresses)?,
         labels: labels_of(alloc, source, addresses)?,
         words: Vec::new(alloc),
+        calls: Vec::new(alloc),
     })
 }

@@ -21,9 +21,9 @@ abbrev pub is_in_scope : Option ℕ → Named → Bool
 is_in_scope None named = true
 is_in_scope (Some at) named = nat_le named.from at && nat_lt at named.to
 
--- the first name in scope that has a word, and the first whose words begin at it
+-- the first name in scope that has a word, and the first that a line declares whose words begin at it
 abbrev pub named : List Named → Option ℕ → ℕ → Option Named
 named names at word = find (λ n. is_word_of n word && is_in_scope at n) names
 
-abbrev pub named_from : List Named → Option ℕ → ℕ → Option Named
-named_from names at word = find (λ n. (n.first == word) && is_in_scope at n) names
+abbrev pub declared : List Named → ℕ → ℕ → Option Named
+declared names word line = find (λ n. (n.first == word) && (n.line == line)) names

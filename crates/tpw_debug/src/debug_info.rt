@@ -1,9 +1,9 @@
 //! Debug information.
 
-use crate::source::{Label, Named, SourceText, Statement};
+use crate::source::{Called, Label, Named, SourceText, Statement};
 
 /// Debug information of the code that a text is assembled or compiled to: its statements at the addresses of their
-/// instructions, its labels at theirs, and its names of workspace words.
+/// instructions, its labels at theirs, its names of workspace words, and the calls in which its loops stand.
 #[derive(Drop)]
 pub struct DebugInfo<'a> {
     /// The name of the text, as faults of it have it.
@@ -11,6 +11,7 @@ pub struct DebugInfo<'a> {
     pub statements: Vec<Statement<'a>>,
     pub labels: Vec<Label<'a>>,
     pub words: Vec<Named<'a>>,
+    pub calls: Vec<Called>,
 }
 
 impl DebugInfo<'_> {
@@ -21,6 +22,7 @@ impl DebugInfo<'_> {
             statements: &self.statements,
             labels: &self.labels,
             words: &self.words,
+            calls: &self.calls,
             at: None,
         }
     }

@@ -11,4 +11,4 @@ pub use debug_info::DebugInfo;
 pub use diagnostic::{Diagnostic, MAX_DIAGNOSTICS, Report, Severity, Span};
 pub use fault::ShowFault;
 pub use printable::Printable;
-pub use source::{Indexed, Label, LoopName, Named, Names, SourceText, Statement, WordName};
+pub use source::{Called, Indexed, Label, LoopName, Named, Names, SourceText, Statement, WordName};

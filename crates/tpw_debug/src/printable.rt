@@ -12,8 +12,16 @@ pub(crate) fn is_numbered(c: char) -> bool {
     c.is_control() && c != '\t'
 }
 
+/// Whether a byte is a character that is written as it is.
+fn is_plain(byte: u8) -> bool {
+    byte.is_ascii_graphic() || byte == b' ' || byte == b'\t'
+}
+
 impl fmt::Display for Printable<'_> {
     fn fmt<W: fmt::Write>(&self, f: &mut fmt::Formatter<W>) -> fmt::Result {
+        if self.0.bytes().all(|byte| is_plain(byte)) {
+            return f.write_str(self.0);
+        }
         for c in self.0.chars() {
             if is_numbered(c) {
                 let number = u32::from(c);

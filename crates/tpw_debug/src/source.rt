@@ -1,7 +1,7 @@
 //! Debug information, borrowed.
 
 ghost use Rattle.std.specs.Prelude.{◌≡◌, Some, option_map};
-ghost use Rattle.tpw_debug.specs.Said.{statement_at, line_before, is_word_of, is_in_scope, named, named_from};
+ghost use Rattle.tpw_debug.specs.Said.{statement_at, line_before, is_word_of, is_in_scope, named, declared};
 
 use crate::printable::Printable;
 use std::fmt;
@@ -97,6 +97,14 @@ impl fmt::Display for Indexed<'_> {
     }
 }
 
+/// A call in which a loop stands: the address at which the loop's turns begin, and the line of the call. The calls of a
+/// loop follow one another, the innermost first.
+#[derive(Clone, Copy, Debug, PartialEq, Eq)]
+pub struct Called {
+    pub head: usize,
+    pub line: usize,
+}
+
 /// The same as [`DebugInfo`](crate::DebugInfo), borrowed. An image that no text says has [`SourceText::NONE`].
 #[derive(Clone, Copy)]
 pub struct SourceText<'a> {
@@ -105,6 +113,7 @@ pub struct SourceText<'a> {
     pub statements: &'a [Statement<'a>],
     pub labels: &'a [Label<'a>],
     pub words: &'a [Named<'a>],
+    pub calls: &'a [Called],
     /// The address at hand: a word has the names that are in scope there. Where there is none, it has all.
     pub at: Option<usize>,
 }
@@ -116,6 +125,7 @@ impl<'a> SourceText<'a> {
         statements: &[],
         labels: &[],
         words: &[],
+        calls: &[],
         at: None,
     };
 
@@ -139,13 +149,13 @@ impl<'a> SourceText<'a> {
             .find(|statement| statement.at == at)
     }
 
-    /// The name of a word, if it is the first of one.
-    pub fn name_of(&self, word: usize) -> Option<&'a str>
-        ensures { result ≡ option_map (λ n. n.name) (named_from self.now.words.now self.now.at word) }
+    /// The name that a line declares, whose first word this is.
+    pub fn declared(&self, word: usize, line: usize) -> Option<&'a str>
+        ensures { result ≡ option_map (λ n. n.name) (declared self.now.words.now word line) }
     {
         self.words
             .iter()
-            .find(|named| named.first == word && named.is_in_scope(self.at))
+            .find(|named| named.first == word && named.line == line)
             .map(|named| named.name)
     }
 
@@ -163,7 +173,7 @@ impl<'a> SourceText<'a> {
     /// The loop of a row, by its name.
     pub fn loop_name(&self, number: usize, row: &LoopRow) -> LoopName<'a> {
         LoopName {
-            source: self.at(row.head as usize),
+            source: *self,
             number,
             control: row.control,
             head: row.head,
@@ -211,7 +221,8 @@ impl fmt::Display for WordName<'_> {
     }
 }
 
-/// The name of a loop: by its index's name and the line that begins it where a text says it, and by its row elsewhere.
+/// The name of a loop: by its index's name and the line that begins it where a text says it, with the lines of the calls
+/// in which it stands, and by its row elsewhere.
 #[derive(Clone, Copy)]
 pub struct LoopName<'a> {
     source: SourceText<'a>,
@@ -224,14 +235,22 @@ pub struct LoopName<'a> {
 impl fmt::Display for LoopName<'_> {
     fn fmt<W: fmt::Write>(&self, f: &mut fmt::Formatter<W>) -> fmt::Result {
         let number = self.number;
-        match self.source.name_of(self.control as usize) {
-            Some(name) => f.write_str(name)?,
-            None => write!(f, "row {number}")?,
+        let Some(line) = self.source.line_before(self.head as usize) else {
+            return write!(f, "row {number}");
+        };
+        match self.source.declared(self.control as usize, line) {
+            Some(name) => write!(f, "{name} (line {line}")?,
+            None => write!(f, "row {number} (line {line}")?,
         }
-        match self.source.line_before(self.head as usize) {
-            Some(line) => write!(f, " (line {line})"),
-            None => Ok(()),
+        let mut before = ", called on line";
+        for call in self.source.calls {
+            if call.head == self.head as usize {
+                let line = call.line;
+                write!(f, "{before} {line}")?;
+                before = ", on line";
+            }
         }
+        f.write_str(")")
     }
 }
 

@@ -7,11 +7,12 @@ use tp_decode::{DecodeFault, decode};
 use tp_image::{Image, read_image};
 use tpw_debug::Diagnostic;
 use tpw_files::Failure;
-use tpw_occam::{CompiledText, fault_at};
+use tpw_occam::{CallLines, CompiledText, fault_at};
 
-/// A replicated SEQ: the line that it begins in, its turns, and the bytes of a turn.
+/// A replicated SEQ: its number, the line that it begins in, its turns, and the bytes of a turn.
 #[derive(Clone, Copy)]
 struct Share {
+    number: usize,
     line: u32,
     turns: u32,
     turn: u64,
@@ -35,8 +36,9 @@ impl fmt::Display for Share {
 /// The replicated SEQ that has the largest share of the costs of an image. Its loops have these lines.
 fn largest_share(image: &Image, lines: &[u32], costs: &[Counted]) -> Option<Share> {
     let mut largest: Option<Share> = None;
-    for (row, line) in image.loops.iter().zip(lines) {
+    for (number, (row, line)) in image.loops.iter().zip(lines).enumerate() {
         let share = Share {
+            number,
             line: *line,
             turns: row.count,
             turn: costs.get(row.head as usize).map_or(0, |cost| cost.left),
@@ -69,9 +71,13 @@ pub fn over_budget(
     let Some(share) = largest_share(&image, &compiled.loop_lines, &costs) else {
         return Ok(None);
     };
+    let calls = CallLines(match compiled.called_loops.get(share.number) {
+        Some(one) => &one.calls,
+        None => &[],
+    });
     let all = costs.first().map_or(0, |first| first.whole);
     let said = format!(in alloc;
-        "a budget of {all} instruction bytes, of at most 16,777,216: this SEQ has the largest share, {share}"
+        "a budget of {all} instruction bytes, of at most 16,777,216: this SEQ has the largest share, {share}{calls}"
     )?;
     Ok(Some(fault_at(text, share.line as usize, said)))
 }

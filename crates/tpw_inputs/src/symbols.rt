@@ -1,7 +1,7 @@
 //! Debug information of a text in occam.
 
 use std::alloc::Global;
-use tpw_debug::{DebugInfo, Named, Printable, Statement};
+use tpw_debug::{Called, DebugInfo, Named, Printable, Statement};
 use tpw_files::{Failure, Input};
 use tpw_occam::{CompiledText, Located};
 
@@ -46,6 +46,21 @@ fn words_of<'a>(alloc: Global, located: &[Located<'a>]) -> Result<Vec<Named<'a>>
     Ok(words)
 }
 
+/// The calls of a text in occam in which its loops stand.
+fn calls_of(alloc: Global, compiled: &CompiledText<'_>) -> Result<Vec<Called>, Failure> {
+    let rows = &compiled.assembled.image.loops;
+    let mut calls = Vec::new(alloc);
+    for (row, one) in rows.iter().zip(&compiled.called_loops) {
+        for line in one.calls.iter().rev() {
+            calls.push(Called {
+                head: row.head as usize,
+                line: *line as usize,
+            })?;
+        }
+    }
+    Ok(calls)
+}
+
 /// Debug information of the text of an input.
 pub fn debug_info<'a>(
     alloc: Global,
@@ -63,5 +78,6 @@ pub fn debug_info<'a>(
         )?,
         labels: Vec::new(alloc),
         words: words_of(alloc, &compiled.located)?,
+        calls: calls_of(alloc, compiled)?,
     })
 }

@@ -1,31 +1,72 @@
-//! The calls in a worker by which a line of a PROC is reached.
+//! The loops of a text, by the calls in which they stand.
 
 use std::alloc::{AllocError, Global};
+use std::fmt;
 use tpw_occam_scoped::Process;
 
-/// The most calls that are told.
-const MAX_CALLS: usize = 4;
-
-/// The lines of calls by which a line is reached, which stands in front of the worker's steps.
+/// A loop of several turns: the line that it begins in, and the lines of the calls in which it stands, the outermost
+/// first.
 #[derive(Drop)]
-struct Calls {
-    line: u32,
-    /// The line of the worker's first step.
-    first: u32,
-    lines: Vec<u32>,
+pub struct CalledLoop {
+    pub line: u32,
+    pub calls: Vec<u32>,
 }
 
-impl Calls {
-    /// Adds the line of a call, once; of what is declared for the whole worker there is none.
-    fn add(&mut self, call: u32) -> Result<(), AllocError> {
-        if call > self.first && !self.lines.contains(&call) {
-            self.lines.push(call)?;
+/// The calls in which a loop stands, from the innermost on: `, called on line 14, on line 21`. Nothing where it stands in
+/// none.
+#[derive(Clone, Copy)]
+pub struct CallLines<'a>(pub &'a [u32]);
+
+impl fmt::Display for CallLines<'_> {
+    fn fmt<W: fmt::Write>(&self, f: &mut fmt::Formatter<W>) -> fmt::Result {
+        let mut before = ", called on line";
+        for line in self.0.iter().rev() {
+            write!(f, "{before} {line}")?;
+            before = ", on line";
         }
         Ok(())
     }
+}
 
-    /// Looks for the line in a process that stands in a line of the worker.
-    fn look(&mut self, p: &Process, call: u32) -> Result<(), AllocError> {
+/// The loops that are found, and where the process stands that is at hand: its line, and the lines of its calls.
+#[derive(Drop)]
+struct Found {
+    all: Vec<CalledLoop>,
+    line: u32,
+    calls: Vec<u32>,
+}
+
+impl Found {
+    /// Goes to a line of a process. A line above the one around it is that of a PROC that is called there: what is called is
+    /// declared above. Returns whether it is.
+    fn enter(&mut self, line: u32) -> Result<bool, AllocError> {
+        let is_called = line < self.line;
+        if is_called {
+            self.calls.push(self.line)?;
+        }
+        self.line = line;
+        Ok(is_called)
+    }
+
+    /// Goes back to the line around that.
+    fn leave(&mut self, around: u32, is_called: bool) {
+        self.line = around;
+        if is_called {
+            self.calls.pop();
+        }
+    }
+
+    /// Adds a loop of the line that is at hand.
+    fn add_loop(&mut self, alloc: Global) -> Result<(), AllocError> {
+        self.all.push(CalledLoop {
+            line: self.line,
+            calls: Vec::from_slice(alloc, &self.calls)?,
+        })?;
+        Ok(())
+    }
+
+    /// Adds the loops of a process, each behind those in it.
+    fn add(&mut self, alloc: Global, p: &Process) -> Result<(), AllocError> {
         match p {
             Process::Sequence(first, second)
             | Process::If {
@@ -33,49 +74,59 @@ impl Calls {
                 rest: second,
                 ..
             } => {
-                self.look(first, call)?;
-                self.look(second, call)
+                self.add(alloc, first)?;
+                self.add(alloc, second)
             }
-            Process::Repeat { body, .. } => self.look(body, call),
-            Process::Variable { body, .. } => self.look(body, call),
-            Process::Value { body, .. } => self.look(body, call),
-            Process::Array { body, .. } => self.look(body, call),
+            Process::Repeat { count, body, .. } if *count > 1 => {
+                self.add(alloc, body)?;
+                self.add_loop(alloc)
+            }
+            Process::Repeat { body, .. }
+            | Process::Variable { body, .. }
+            | Process::Value { body, .. }
+            | Process::Array { body, .. } => self.add(alloc, body),
             Process::At { line, body } => {
-                if *line == self.line {
-                    self.add(call)?;
-                }
-                self.look(body, call.max(*line))
+                let around = self.line;
+                let is_called = self.enter(*line)?;
+                self.add(alloc, body)?;
+                self.leave(around, is_called);
+                Ok(())
             }
             _ => Ok(()),
         }
     }
 }
 
-/// The calls by which a line of a core is reached, where it stands in front of the worker's first step.
-pub(crate) fn calls_of(
+/// The loops of several turns of a worker's text, each behind those in it.
+fn loops_of(alloc: Global, core: &Process) -> Result<Vec<CalledLoop>, AllocError> {
+    let mut found = Found {
+        all: Vec::new(alloc),
+        line: 0,
+        calls: Vec::new(alloc),
+    };
+    found.add(alloc, core)?;
+    Ok(found.all)
+}
+
+/// Whether loops are those of these lines.
+fn are_of(loops: &[CalledLoop], lines: &[u32]) -> bool {
+    loops.len() == lines.len()
+        && loops
+        .iter()
+        .zip(lines)
+        .all(|(one, line)| one.line == *line)
+}
+
+/// The loops of the code of a text that begin in these lines. None where code is left out in which there are such.
+pub(crate) fn called_loops(
     alloc: Global,
     core: &Process,
-    first: u32,
-    line: u32,
-) -> Result<String, AllocError> {
-    let mut said = String::new(alloc);
-    if line >= first {
-        return Ok(said);
+    lines: &[u32],
+) -> Result<Vec<CalledLoop>, AllocError> {
+    let loops = loops_of(alloc, core)?;
+    if are_of(&loops, lines) {
+        Ok(loops)
+    } else {
+        Ok(Vec::new(alloc))
     }
-    let mut calls = Calls {
-        line,
-        first,
-        lines: Vec::new(alloc),
-    };
-    calls.look(core, first)?;
-    for (index, call) in calls.lines.iter().take(MAX_CALLS).enumerate() {
-        let before = if index == 0 {
-            ", called on line "
-        } else {
-            ", "
-        };
-        let more = format!(in alloc; "{before}{call}")?;
-        said.push_str(&more)?;
-    }
-    Ok(said)
 }

@@ -8,6 +8,7 @@ ghost use Rattle.tpw_occam_reading.specs.declared.reading.Standing.TheVariants.{
 ghost use Rattle.tpw_occam_reading.specs.Unparse.{unparse};
 ghost use Rattle.tpw_occam_scoped.specs.Meaning.{meaning};
 
+use crate::calls::{CalledLoop, called_loops};
 use crate::diagnosing::{fault_at, faults_of, warnings_of};
 use crate::fault::{Defect, OccamFault};
 use crate::names::{Located, Sources, located_in};
@@ -41,6 +42,8 @@ pub struct CompiledText<'t> {
     pub sources: Vec<u32>,
     /// The line of the text that each loop of the program comes from.
     pub loop_lines: Vec<u32>,
+    /// The loops of the program, with the calls in which they stand; none where the text has others.
+    pub called_loops: Vec<CalledLoop>,
     /// The names of variables and arrays, with their words of the workspace.
     pub located: Vec<Located<'t>>,
     pub warnings: Vec<Diagnostic>,
@@ -165,6 +168,7 @@ fn compiled<'t>(
                 addresses: &assembled.addresses,
             };
             let located = located_in(alloc, text, &placed, &declared, &worker.arrays, code)?;
+            let called_loops = called_loops(alloc, &core, &loop_lines)?;
             let warnings = warnings_of(alloc, text, notes)?;
             Ok(CompiledText {
                 core,
@@ -172,6 +176,7 @@ fn compiled<'t>(
                 assembled,
                 sources,
                 loop_lines,
+                called_loops,
                 located,
                 warnings,
             })

@@ -7,9 +7,11 @@ mod diagnosing;
 mod fault;
 pub mod laws;
 mod names;
+mod reached;
 mod remedies;
 mod room;
 
+pub use calls::{CallLines, CalledLoop};
 pub use compiling::{CompiledText, compile_text};
 pub use diagnosing::fault_at;
 pub use fault::{Defect, OccamFault};

@@ -1,7 +1,7 @@
 //! What is said of a limit that code reaches: the calls of its line, and what takes the words of a workspace.
 
-use crate::calls::calls_of;
 use crate::names::said_at;
+use crate::reached::calls_of;
 use std::alloc::{AllocError, Global};
 use tpw_occam_core::{Place, Storage, Worker};
 use tpw_occam_placing::Declared;

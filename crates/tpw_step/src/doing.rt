@@ -9,7 +9,7 @@ use tp_decode::Instr;
 use tp_step::profile::WORD_BYTES;
 use tpw_debug::{ShowFault, Statement};
 
-/// What a statement has done so far: the words under names that it has written, the messages that it has sent, and
+/// What a statement has done so far: the words under names that it has given values, the messages that it has sent, and
 /// whether it has set the error flag.
 #[derive(Drop)]
 pub(crate) struct Doing {
@@ -123,7 +123,7 @@ impl Doing {
             None
         };
         for change in made.changes.iter().chain(again.iter()) {
-            if source.named(change.word).is_some() {
+            if change.after.is_some() && source.named(change.word).is_some() {
                 changes.push(*change)?;
             }
         }

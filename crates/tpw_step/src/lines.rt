@@ -18,7 +18,7 @@ impl<'a> Lines<'a> {
         source: SourceText<'a>,
         code: usize,
     ) -> Result<Lines<'a>, AllocError> {
-        let mut numbers = vec![in alloc; None; code]?;
+        let mut numbers: Vec<Option<usize>> = vec![in alloc; None; code]?;
         for (number, statement) in source.statements.iter().enumerate() {
             if let Some(first) = numbers.get_mut(statement.at) {
                 *first = first.or(Some(number));
