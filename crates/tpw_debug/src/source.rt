@@ -60,8 +60,7 @@ impl<'a> Named<'a> {
 
     /// The number that the first byte of a word has in an array of bytes.
     pub fn first_byte(&self, word: usize) -> usize {
-        word.saturating_sub(self.first)
-            .saturating_mul(WORD_BYTES)
+        word.saturating_sub(self.first).saturating_mul(WORD_BYTES)
     }
 
     /// A word of the name, as a text writes it: of an array of bytes the first of its bytes.

@@ -80,10 +80,7 @@ pub(crate) fn reach_of(instr: Instr, before: &Registers) -> Option<Reach> {
     let a = before.areg.unwrap_or(0);
     match instr {
         Instr::Stl(n) => Some(Reach::of(Stretch::new(wptr.saturating_add(i64::from(n)), 1))),
-        Instr::Stnl(n) => Some(Reach::of(Stretch::new(
-            word_at(a).saturating_add(i64::from(n)),
-            1,
-        ))),
+        Instr::Stnl(n) => Some(Reach::of(Stretch::new(word_at(a).saturating_add(i64::from(n)), 1))),
         Instr::Sb => Some(Reach::of(Stretch::new(word_at(a), 1))),
         Instr::Jump(_) => Some(Reach::of(below(wptr))),
         Instr::Lend => {

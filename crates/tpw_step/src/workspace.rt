@@ -199,7 +199,9 @@ impl Change {
             .zip(bytes_of(self.after))
             .enumerate();
         both.any(|(i, (old, new))| old != new
-            && watched.iter().any(|one| one.has(first.saturating_add(i), at)))
+            && watched
+                .iter()
+                .any(|one| one.has(first.saturating_add(i), at)))
     }
 }
 
