@@ -4,11 +4,12 @@ use std::alloc::{AllocError, Global};
 use std::fmt;
 use tpw_occam_scoped::Process;
 
-/// A loop of several turns: the line that it begins in, and the lines of the calls in which it stands, the outermost
-/// first.
+/// A loop of several turns: the line that it begins in, how many others it lies within, and the lines of the calls in which
+/// it stands, the outermost first.
 #[derive(Drop)]
 pub struct CalledLoop {
     pub line: u32,
+    pub depth: usize,
     pub calls: Vec<u32>,
 }
 
@@ -28,11 +29,13 @@ impl fmt::Display for CallLines<'_> {
     }
 }
 
-/// The loops that are found, and where the process stands that is at hand: its line, and the lines of its calls.
+/// The loops that are found, and where the process stands that is at hand: its line, how many loops are around it, and
+/// the lines of its calls.
 #[derive(Drop)]
 struct Found {
     all: Vec<CalledLoop>,
     line: u32,
+    depth: usize,
     calls: Vec<u32>,
 }
 
@@ -60,6 +63,7 @@ impl Found {
     fn add_loop(&mut self, alloc: Global) -> Result<(), AllocError> {
         self.all.push(CalledLoop {
             line: self.line,
+            depth: self.depth,
             calls: Vec::from_slice(alloc, &self.calls)?,
         })?;
         Ok(())
@@ -78,7 +82,10 @@ impl Found {
                 self.add(alloc, second)
             }
             Process::Repeat { count, body, .. } if *count > 1 => {
+                let depth = self.depth;
+                self.depth = depth.saturating_add(1);
                 self.add(alloc, body)?;
+                self.depth = depth;
                 self.add_loop(alloc)
             }
             Process::Repeat { body, .. }
@@ -98,10 +105,11 @@ impl Found {
 }
 
 /// The loops of several turns of a worker's text, each behind those in it.
-fn loops_of(alloc: Global, core: &Process) -> Result<Vec<CalledLoop>, AllocError> {
+pub(crate) fn loops_of(alloc: Global, core: &Process) -> Result<Vec<CalledLoop>, AllocError> {
     let mut found = Found {
         all: Vec::new(alloc),
         line: 0,
+        depth: 0,
         calls: Vec::new(alloc),
     };
     found.add(alloc, core)?;

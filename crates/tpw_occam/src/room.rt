@@ -1,8 +1,10 @@
 //! What is said of a limit that code reaches: the calls of its line, and what takes the words of a workspace.
 
+use crate::calls::{CallLines, CalledLoop, loops_of};
 use crate::names::said_at;
 use crate::reached::calls_of;
 use std::alloc::{AllocError, Global};
+use tp_image::limits::MAX_LOOP_ROWS;
 use tpw_occam_core::{Place, Storage, Worker};
 use tpw_occam_placing::Declared;
 use tpw_occam_scoped::Process;
@@ -10,6 +12,9 @@ use tpw_occam_symbolic::CodeFault;
 
 /// The most names that are told.
 const MAX_NAMES: usize = 3;
+
+/// How many loops a loop may lie within.
+const MAX_AROUND: usize = 3;
 
 /// An array by its name, and its words.
 #[derive(Clone, Copy)]
@@ -78,6 +83,23 @@ fn largest_of(
     Ok(said)
 }
 
+/// The calls in which the loop stands that goes beyond a limit of loops.
+fn calls_beyond(loops: &[CalledLoop], fault: CodeFault) -> &[u32] {
+    let found = match fault {
+        CodeFault::Loops { line } => loops
+            .get(MAX_LOOP_ROWS as usize)
+            .filter(|one| one.line == line),
+        CodeFault::Depth { line } => loops
+            .iter()
+            .find(|one| one.line == line && one.depth > MAX_AROUND),
+        _ => None,
+    };
+    match found {
+        Some(one) => &one.calls,
+        None => &[],
+    }
+}
+
 /// What is said behind a fault of a worker: by which calls its line is reached, and what takes most of the words.
 pub(crate) fn said_behind(
     alloc: Global,
@@ -93,9 +115,12 @@ pub(crate) fn said_behind(
             let largest = largest_of(alloc, text, worker, declared)?;
             format!(in alloc; "{calls}: {largest}")
         }
-        CodeFault::Loops { line } | CodeFault::Depth { line } | CodeFault::Code { line } => {
-            calls_of(alloc, core, worker.receive_line, line)
+        CodeFault::Loops { .. } | CodeFault::Depth { .. } => {
+            let loops = loops_of(alloc, core)?;
+            let calls = CallLines(calls_beyond(&loops, fault));
+            format!(in alloc; "{calls}")
         }
+        CodeFault::Code { line } => calls_of(alloc, core, worker.receive_line, line),
         _ => Ok(String::new(alloc)),
     }
 }
