@@ -109,15 +109,7 @@ where
             writer,
             terminal,
         )?),
-        _ => Ok(write_run(
-            rt,
-            alloc,
-            &prepared,
-            running,
-            subject,
-            writer,
-            terminal,
-        )?),
+        _ => Ok(write_run(rt, alloc, &prepared, running, subject, writer, terminal)?),
     }
 }
 

@@ -110,11 +110,7 @@ fn loops_of(alloc: Global, core: &Process) -> Result<Vec<CalledLoop>, AllocError
 
 /// Whether loops are those of these lines.
 fn are_of(loops: &[CalledLoop], lines: &[u32]) -> bool {
-    loops.len() == lines.len()
-        && loops
-        .iter()
-        .zip(lines)
-        .all(|(one, line)| one.line == *line)
+    loops.len() == lines.len() && loops.iter().zip(lines).all(|(one, line)| one.line == *line)
 }
 
 /// The loops of the code of a text that begin in these lines. None where code is left out in which there are such.

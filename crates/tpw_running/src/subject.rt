@@ -35,7 +35,10 @@ impl Subject<'_> {
             .and_then(|at| self.source.statement_at(at));
         let written = match statement {
             Some(Statement { line, text, .. }) => {
-                write!(writer, "packet {number} sets the flag first on line {line}: {text}\n")
+                write!(
+                    writer,
+                    "packet {number} sets the flag first on line {line}: {text}\n"
+                )
             }
             None => write!(writer, "packet {number} sets the flag first at {at}\n"),
         };

@@ -63,8 +63,10 @@ impl Doing {
             || made.at <= self.at
             || is_sent(&self.result, &made.result)
             || is_sent(&self.trace, &made.trace)
-            || changes.iter().any(|change| self.changes.iter().any(|other| other.word
-            == change.word))
+            || changes.iter().any(|change| self
+                .changes
+                .iter()
+                .any(|other| other.word == change.word))
     }
 
     /// Whether it is to be shown.

@@ -145,11 +145,7 @@ fn write_values<W: Write>(
 }
 
 /// Writes the line of the text that says the instruction at an address.
-fn write_statement<W: Write>(
-    writer: &mut W,
-    at: i64,
-    lines: &Lines<'_>,
-) -> Result<(), ShowFault> {
+fn write_statement<W: Write>(writer: &mut W, at: i64, lines: &Lines<'_>) -> Result<(), ShowFault> {
     match lines.at(at) {
         Some(statement) => {
             let line = statement.line;
@@ -161,7 +157,11 @@ fn write_statement<W: Write>(
 }
 
 /// Writes a word and bytes after it, where there are some.
-pub(crate) fn write_message<W: Write>(writer: &mut W, name: &str, bytes: &str) -> Result<(), ShowFault> {
+pub(crate) fn write_message<W: Write>(
+    writer: &mut W,
+    name: &str,
+    bytes: &str,
+) -> Result<(), ShowFault> {
     if bytes.is_empty() {
         Ok(())
     } else {
@@ -485,7 +485,14 @@ pub fn show_run<W: Write>(
     }
     doing.write(shown, &lines, writer)?;
     let style = shown.style(run.progress.last);
-    write_end(alloc, &run.stepper, &run.sent, run.progress.count, end, writer)?;
+    write_end(
+        alloc,
+        &run.stepper,
+        &run.sent,
+        run.progress.count,
+        end,
+        writer,
+    )?;
     write_state(&run.stepper, &run.stands, style, writer)?;
     Ok(end)
 }

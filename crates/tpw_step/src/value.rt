@@ -44,10 +44,12 @@ fn pointed_at<'a>(source: SourceText<'a>, address: u32) -> Option<Indexed<'a>> {
     let named = source.named(word)?;
     match named.bytes {
         Some(count) => {
-            let index = named
-                .first_byte(word)
-                .saturating_add(within as usize);
-            if index < count { Some(named.of_byte(index)) } else { None }
+            let index = named.first_byte(word).saturating_add(within as usize);
+            if index < count {
+                Some(named.of_byte(index))
+            } else {
+                None
+            }
         }
         None if within == 0 => Some(named.of(word)),
         None => None,

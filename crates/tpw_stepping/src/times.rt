@@ -58,10 +58,7 @@ impl Times {
     /// How often it is run: the line that begins a loop by its turns, and the jumps behind the branches of a guard not
     /// counted beside it.
     fn all(&self) -> u64 {
-        self.turns
-            .or(self.plain)
-            .or(self.jumps)
-            .unwrap_or(0)
+        self.turns.or(self.plain).or(self.jumps).unwrap_or(0)
     }
 
     /// Counts a piece.
