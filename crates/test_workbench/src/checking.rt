@@ -1,5 +1,7 @@
 //! The findings of a check where a worker does something else than its text means.
 
+ghost use Rattle.std.specs.Prelude.{◌≤◌};
+
 use crate::asserts::{assert_same, unwrap};
 use std::alloc::Global;
 use std::io::Eprint;
@@ -14,7 +16,7 @@ use tpw_files::{Input, Language, Outcome, Terminal};
 use tpw_inputs::read_occam;
 use tpw_occam_scoped::Process;
 use tpw_running::{Prepared, Subject, write_check};
-use tpw_runs::{Notation, Style, packets_of, results_of};
+use tpw_runs::{Expected, Notation, Style, packets_of, results_of};
 
 /// As many multiples of a packet are summed and traced as it says.
 const SUMS: &str = "\
@@ -143,6 +145,21 @@ fn asked(alloc: Global) -> RunOptions {
     }
 }
 
+/// The results of so many bytes that are expected, where there are such.
+fn wanted(
+    rt: &impl Abort,
+    alloc: Global,
+    expected: Option<&str>,
+    bytes: usize,
+) -> Option<Vec<Expected>>
+    requires { bytes ≤ 256 }
+{
+    match expected {
+        Some(results) => Some(unwrap(rt, results_of(alloc, results, bytes, Notation::Words))),
+        None => None,
+    }
+}
+
 /// The output of a check of the runs of a text's worker by another text's meaning, and by the results that are expected
 /// where there are such, and its outcome.
 fn checked<T>(
@@ -162,9 +179,7 @@ where
     let prepared = Prepared {
         image,
         packets: unwrap(rt, packets),
-        expected: expected.map(|results| {
-            unwrap(rt, results_of(alloc, results, bytes, Notation::Words))
-        }),
+        expected: wanted(rt, alloc, expected, bytes),
     };
     let built = image_of(rt, alloc, text);
     let mut output = Vec::new(alloc);

@@ -25,5 +25,5 @@ is_in_scope (Some at) named = nat_le named.from at && nat_lt at named.to
 abbrev pub named : List Named → Option ℕ → ℕ → Option Named
 named names at word = find (λ n. is_word_of n word && is_in_scope at n) names
 
-abbrev pub declared : List Named → ℕ → ℕ → Option Named
-declared names word line = find (λ n. (n.first == word) && (n.line == line)) names
+abbrev pub first_declared : List Named → ℕ → ℕ → Option Named
+first_declared names word line = find (λ n. (n.first == word) && (n.line == line)) names

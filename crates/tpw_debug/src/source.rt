@@ -1,7 +1,7 @@
 //! Debug information, borrowed.
 
 ghost use Rattle.std.specs.Prelude.{◌≡◌, Some, option_map};
-ghost use Rattle.tpw_debug.specs.Said.{statement_at, line_before, is_word_of, is_in_scope, named, declared};
+ghost use Rattle.tpw_debug.specs.Said.{statement_at, line_before, is_word_of, is_in_scope, named, first_declared};
 
 use crate::printable::Printable;
 use std::fmt;
@@ -150,7 +150,7 @@ impl<'a> SourceText<'a> {
 
     /// The name that a line declares, whose first word this is.
     pub fn declared(&self, word: usize, line: usize) -> Option<&'a str>
-        ensures { result ≡ option_map (λ n. n.name) (declared self.now.words.now word line) }
+        ensures { result ≡ option_map (λ n. n.name) (first_declared self.now.words.now word line) }
     {
         self.words
             .iter()

@@ -168,5 +168,5 @@ pub record IsChecked (image : Accepted) (core : Process) (expected : Option (Lis
   pub results : AreResults image.image image.budget packets entries
   pub form : Form
   pub form_is : IsFormOf expected form
-  pub outcome_is : outcome ≡ (if (length (all_others core 0 packets entries) == 0)
-      && ((length (all_unexpected form 0 entries) == 0) && has_packets expected (length packets)) then Good else Bad)
+  pub outcome_is : outcome ≡ (if ((length (all_others core 0 packets entries) == 0)
+      && (length (all_unexpected form 0 entries) == 0)) && has_packets expected (length packets) then Good else Bad)

@@ -1,3 +1,4 @@
 mod Along
 mod Counting
 mod Adding
+mod Times

@@ -1,6 +1,7 @@
 //! Where the steps of runs go.
 
-ghost use Rattle.std.specs.Prelude.{◌≡◌, ◌≤◌, ◌+◌, ◌<◌, ◌^◌, ℕ, IfOk, length, slice_index_or};
+ghost use Rattle.std.specs.Prelude.{◌≡◌, ◌≤◌, ◌+◌, ◌<◌, ◌^◌, ℕ, IfOk, length, slice_get, slice_index_or};
+ghost use Rattle.std.specs.Option.{unwrap_or};
 ghost use Rattle.tpw_step.specs.Profiles.{AddsUp, sums};
 
 use crate::prefixes::prefixes_at;
@@ -58,8 +59,9 @@ impl Profile {
     }
 
     /// How often the instruction of an image at an address was made: each time makes its prefixes' steps and one more.
+    #[tactic(auto, using(crate::proofs::Times::part_of))]
     pub fn times(&self, image: &Image, at: usize) -> u64
-        ensures { result ≤ slice_index_or self.now.counts.items at 0 }
+        ensures { result ≤ unwrap_or (slice_get self.now.counts.items at) 0 }
     {
         let Ok(place) = i64::try_from(at) else {
             return 0;

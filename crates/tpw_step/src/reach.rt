@@ -1,8 +1,11 @@
 //! The words of a workspace that an instruction may write or make undefined.
 
 use tp_decode::Instr;
-use tp_step::profile::{FRAME_WORDS, MEM_START, WORD_BYTES};
+use tp_step::profile::{self, FRAME_WORDS, MEM_START};
 use tpw_machine::Registers;
+
+/// The bytes of a word, signed.
+const WORD_BYTES: i64 = profile::WORD_BYTES as i64;
 
 /// The most words of a workspace.
 pub(crate) const WORDS: u32 = 512;
@@ -34,10 +37,11 @@ pub(crate) struct Reach {
     pub(crate) high: Stretch,
 }
 
-/// The number of the word that an address lies in; below 0 or beyond the last where it lies outside the workspace.
+/// The number of the word that an address of the workspace lies in. Of another it is some number: what is there is not
+/// written.
 fn word_at(address: u32) -> i64 {
     let bytes = i64::from(address.wrapping_sub(MEM_START).cast_signed());
-    bytes.div_euclid(i64::from(WORD_BYTES))
+    bytes / WORD_BYTES
 }
 
 impl Reach {

@@ -33,8 +33,8 @@ impl Workspace {
         stretch: Stretch,
         changes: &mut Vec<Change>,
     ) -> Result<(), AllocError> {
-        let end = stretch.end.clamp(0, i64::from(WORDS)) as u32;
-        let first = stretch.first.clamp(0, i64::from(WORDS)) as u32;
+        let first = u32::try_from(stretch.first).unwrap_or(0);
+        let end = u32::try_from(stretch.end).unwrap_or(0).min(WORDS);
         for i in first..end {
             if let Some(word) = self.words.get_mut(i as usize) {
                 let before = *word;
