@@ -241,12 +241,17 @@ impl fmt::Display for LoopName<'_> {
             Some(name) => write!(f, "{name} (line {line}")?,
             None => write!(f, "row {number} (line {line}")?,
         }
-        let mut before = ", called on line";
+        let mut is_first = true;
         for call in self.source.calls {
             if call.head == self.head as usize {
                 let line = call.line;
-                write!(f, "{before} {line}")?;
-                before = ", on line";
+                f.write_str(if is_first {
+                    ", called on line "
+                } else {
+                    ", on line "
+                })?;
+                write!(f, "{line}")?;
+                is_first = false;
             }
         }
         f.write_str(")")

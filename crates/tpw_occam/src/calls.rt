@@ -20,10 +20,15 @@ pub struct CallLines<'a>(pub &'a [u32]);
 
 impl fmt::Display for CallLines<'_> {
     fn fmt<W: fmt::Write>(&self, f: &mut fmt::Formatter<W>) -> fmt::Result {
-        let mut before = ", called on line";
+        let mut is_first = true;
         for line in self.0.iter().rev() {
-            write!(f, "{before} {line}")?;
-            before = ", on line";
+            f.write_str(if is_first {
+                ", called on line "
+            } else {
+                ", on line "
+            })?;
+            write!(f, "{line}")?;
+            is_first = false;
         }
         Ok(())
     }

@@ -7,8 +7,8 @@ use Rattle.tpw_runs.proofs.Begun.{job_begins}
 use Rattle.tpw_runs.proofs.Results.{are_results, all_still, as_many_devices}
 use Rattle.tpw_runs.proofs.batches.run_one.Goals as goal
 
-pub run_lent-requires : goal.run_lent-requires
-run_lent-requires g c κs within =
+pub run_lent-requires-after_bounds : goal.run_lent-requires-after_bounds
+run_lent-requires-after_bounds g c κs within =
     job_begins (length c.args.links.now.items) c.args.job.now c.requires.ready.least c.requires.ready.most c.requires.few c.requires.whole
 
 pub returns-in-Ok-clause-results : goal.returns-in-Ok-clause-results
