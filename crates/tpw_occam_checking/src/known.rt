@@ -154,18 +154,26 @@ impl<'a> Usage<'a> {
                 .is_some_and(|known| known.is_written)
     }
 
+    /// Whether a name is one of those from a place on.
+    fn is_from(&self, first: usize, name: Name<'a>) -> bool {
+        for at in first..self.known.len() {
+            let Some(known) = self.known.get(at) else {
+                return false;
+            };
+            if known.name.text == name.text {
+                return true;
+            }
+        }
+        false
+    }
+
     /// Notes a name that stands in one list behind an equal one: the names from one on.
     pub(crate) fn note_twice(&mut self, first: usize, name: Name<'a>) -> Result<(), AllocError> {
         self.look_at(self.known.len().saturating_sub(first));
         if self.left == 0 {
             return Ok(());
         }
-        let is_twice = self
-            .known
-            .iter()
-            .skip(first)
-            .any(|other| other.name.text == name.text);
-        if is_twice {
+        if self.is_from(first, name) {
             let kind = NoteKind::TwiceInList { name: name.text };
             self.findings.note(name.span, kind)?;
         }

@@ -1,6 +1,6 @@
 -- The code of IF.
 use Rattle.std.proofs.Common.{◌≡◌, ◌+◌, ◌<◌, [], ◌∷◌, ◌++◌, ℕ, zero, suc, List, length, Option, None, Some, Bool, false, true, nat_eq, refl, ap, sym, subst, ◌∙◌, arith, append_assoc, length-append}
-use Rattle.std.specs.Prelude.{slice_get, ◌||◌, ◌&&◌, ◌≢◌, if◌then◌else◌}
+use Rattle.std.specs.Prelude.{slice_get, ◌||◌, ◌&&◌, ◌≢◌, IsTrue, if◌then◌else◌}
 use Rattle.std.proofs.Math.Bool.{or-false}
 use Rattle.std.proofs.lemmas.Bool.{eq-eqb}
 use Rattle.tpw_occam_core.specs.declared.arithmetic.Answer.{Answer}

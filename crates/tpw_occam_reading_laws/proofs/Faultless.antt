@@ -123,9 +123,9 @@ mutual
   run_needs (process.If' p list span) m d = first_true_needs list m d
   run_needs (process.Case' e p list span) m d =
       needs_map (λ w. (w.0, cases_whole list w.1.0 w.1.1))
-      (needs_then (type_of e m) (λ of. needs_where _ (needs_then (all_constants list of m) (λ words.
+      (needs_then (type_of e m) (λ of. needs_then (all_constants list of m) (λ words.
       needs_where _ (needs_both (value_needs e of m d) (λ v. given_needs d v _ (λ word n.
-      selected_needs list of word (otherwise list m n) m n list (otherwise_needs list m n))))))))
+      selected_needs list of word (otherwise list m n) m n list (otherwise_needs list m n)))))))
   run_needs (process.Call name arguments span) m d = called_needs (found name m) arguments m d
   run_needs (process.Receive channel target span) m d = needs_none
   run_needs (process.Send channel e span) m d =
