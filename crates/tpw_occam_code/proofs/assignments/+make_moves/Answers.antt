@@ -11,9 +11,6 @@ use Rattle.tpw_occam_code.proofs.assignments.+make_moves.Goals as goal
 pub make_move-requires : goal.make_move-requires
 make_move-requires t c = (numbered_parts (length c.args.all.now) c.args.moves.now c.in-len1-up.len_at_least c.requires).0
 
-pub make_moves-requires : goal.make_moves-requires
-make_moves-requires t c = (numbered_parts (length c.args.all.now) c.args.moves.now c.in-len1-up.len_at_least c.requires).1
-
 pub returns-in_default-clause-makes : goal.returns-in_default-clause-makes
 returns-in_default-clause-makes t c three =
     subst (λ moves. MakesMoves c.args.emitter.now c.args.code.now c.args.code.now c.args.all.now moves c.args.room.next_temporary) (sym (none_of c.args.moves.now c.in_default.len_below))

@@ -10,9 +10,6 @@ use Rattle.tpw_occam_code.proofs.assignments.make_move.Goals as goal
 pub keep-requires : goal.keep-requires
 keep-requires c = subst (IsNumbered (length c.args.all.now)) c.in-Keep.is c.requires
 
-pub index-all-i-requires : goal.index-all-i-requires
-index-all-i-requires c = subst (IsNumbered (length c.args.all.now)) c.in-Make.is c.requires
-
 pub returns-in-Keep-clause-makes : goal.returns-in-Keep-clause-makes
 returns-in-Keep-clause-makes c =
     on_ok_weaker c.keep.result (λ all three.
