@@ -169,7 +169,8 @@ impl<'a> Usage<'a> {
 
     /// Notes a name that stands in one list behind an equal one: the names from one on.
     pub(crate) fn note_twice(&mut self, first: usize, name: Name<'a>) -> Result<(), AllocError> {
-        self.look_at(self.known.len().saturating_sub(first));
+        let count = self.known.len().saturating_sub(first);
+        self.look_at(count);
         if self.left == 0 {
             return Ok(());
         }

@@ -1,6 +1,6 @@
 -- What packets' runs give, beside what the text in occam means by the packets.
 use Rattle.std.specs.Prelude.{◌≡◌, ℕ, ◌+◌, nat_eq, ◌&&◌, ◌==◌, Bool, true, false, if◌then◌else◌, List, [], ◌∷◌, ◌++◌}
-use Rattle.std.specs.Prelude.{length, codes, not, nat_le, ⊤, ⊥}
+use Rattle.std.specs.Prelude.{length, codes, not, nat_le, ⊤}
 use Rattle.std.specs.Prelude.{Option, Some, None, slice_get}
 use Rattle.std.specs.Fmt.{decimal}
 use Rattle.std.specs.Str.{bytes_eq}

@@ -145,7 +145,7 @@ where
 
 /// The form of what differs from results that are expected, where they are.
 fn form_of<'e>(style: Style, expected: &'e Option<Vec<Expected>>) -> Form<'e>
-    ensures { IsFormOf (option_map (λ e. e.items) expected.now) result.entry }
+    ensures { IsFormOf (option_map (λ e. e.items) expected.now) result }
 {
     match expected {
         Some(expected) => Form::Differences(style, expected),
