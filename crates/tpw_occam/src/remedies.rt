@@ -102,7 +102,7 @@ fn line_behind(text: &str, others: usize) -> &str {
 }
 
 /// The text around a span.
-fn around(text: &str, span: Span) -> Around<'_> {
+fn text_around(text: &str, span: Span) -> Around<'_> {
     let others = span.line.saturating_sub(1);
     let line = line_behind(text, others);
     let column = span.column.saturating_sub(1);
@@ -295,7 +295,7 @@ fn for_replicator(at: Around<'_>) -> &'static str {
 
 /// The remedy of a fault at a place of a text, where one is known.
 pub(crate) fn remedy_of(text: &str, kind: FaultKind<'_>, span: Span) -> Option<&'static str> {
-    let at = around(text, span);
+    let at = text_around(text, span);
     match kind {
         FaultKind::Syntax(kind) => for_syntax(kind, at),
         FaultKind::NotConstant if at.line.starts_with("SEQ ") => Some(for_replicator(at)),
