@@ -153,7 +153,7 @@ fn add_names<'t>(
     };
     for one in declared.iter().filter(|one| one.place == place) {
         if let Some(name) = said_at(text, one.name) {
-            let line = one.name.line as u32;
+            let line = u32::try_from(one.name.line).unwrap_or(u32::MAX);
             for Stretch { from, to } in stretches(alloc, code, line, &one.lines)? {
                 let located = Located {
                     name,
