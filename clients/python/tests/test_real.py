@@ -129,7 +129,7 @@ class Real(Case):
                 self.assertEqual(caught.exception.text, image.with_suffix(".explained").read_text())
             # Of a text, tpw says the line.
             self.wants_refusal(farm, EXAMPLES / "why/B1_lines.tps", "B1", "B1_lines.tps: NO B1 0\n", "(line 19)")
-            self.wants_refusal(farm, EXAMPLES / "why/S1_fourth_push.tps", "S1", "S1_fourth_push.tps:15:9: NO S1 15\n")
+            self.wants_refusal(farm, EXAMPLES / "why/S1_fourth_push.tps", "S1", "S1_fourth_push.tps:20:9: NO S1 15\n")
             self.wants_refusal(farm, "packet 1\nfrob\n", "", ":2:1: unknown instruction: frob", " frob\n", " ^")
 
     def wants_refusal(self, farm: Farm, source: str | Path, code: str, *parts: str) -> None:
