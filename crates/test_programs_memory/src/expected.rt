@@ -1,6 +1,6 @@
 //! Inputs of the program of those who write workers, and the outputs that are expected of it with ample memory.
 
-use test_samples::commands::{INCREMENT_LISTED, LOOP, LOOP_COUNTED};
+use test_samples::commands::{INCREMENT_LISTED, LOOP};
 use test_samples::page::Page;
 use test_samples::{FIBONACCI, INCREMENT, SUM_TO_TEN};
 
@@ -317,4 +317,30 @@ written  word 6 by 7 stl 1: the address of word 5; a word does not keep that it 
 from     8 by Next: Areg any number; Breg may be undefined; Creg may be undefined
 found    in pass 1, on the edge Next of the instruction at 9
 instead  address words by ldlp, ldnlp and wsub; a word does not keep that it is an address, so make the address again
+";
+
+/// 6 steps receive, 4 begin the loop, 21 are its turns, 5 send and 2 stop.
+const LOOP_COUNTED: &str = "\
+steps 38
+ 15.7%             6           3x  ##############################  line 18: lend
+  7.8%             3           3x  ###############                 line 12: ldl 0
+  7.8%             3           3x  ###############                 line 13: adc 1
+  7.8%             3           3x  ###############                 line 14: stl 0
+  7.8%             3           3x  ###############                 line 15: ldlp 1
+  7.8%             3           3x  ###############                 line 16: ldc i_behind - i_head
+  5.2%             2           1x  ##########                      line 3: mint
+  5.2%             2           1x  ##########                      line 21: mint
+  5.2%             2           1x  ##########                      line 24: stopp
+  2.6%             1           1x  #####                           line 2: ldlp 0
+  2.6%             1           1x  #####                           line 4: ldnlp 4
+  2.6%             1           1x  #####                           line 5: ldc 4
+  2.6%             1           1x  #####                           line 6: in
+  2.6%             1           1x  #####                           line 7: ldc 0
+  2.6%             1           1x  #####                           line 8: stl 1
+  2.6%             1           1x  #####                           line 9: ldc 3
+  2.6%             1           1x  #####                           line 10: stl 2
+  2.6%             1           1x  #####                           line 20: ldlp 0
+  2.6%             1           1x  #####                           line 22: ldc 4
+  2.6%             1           1x  #####                           line 23: out
+ 55.2%            21           3x  ################                loop row 0 (line 10), 10 to 15
 ";

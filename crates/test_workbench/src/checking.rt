@@ -53,14 +53,14 @@ PROC other (CHAN OF INT packet, CHAN OF INT result, CHAN OF INT trace)
 ";
 
 /// The output of the runs of the packets 0, 2, 3 and 65: in order nothing, another trace, another result, flag and
-/// trace, and a loss. A multiple that is summed takes 12 steps, so 0 takes 24 less than 2.
+/// trace, and a loss. A multiple that is summed takes 11 steps, so 0 takes 22 less than 2.
 const OTHERS: &str = "\
-1  flag 0  628 of 1384  2147483642
+1  flag 0  626 of 1319  2147483642
   trace 0 2
   the text means
 1  flag 0  2147483642
   trace
-2  flag 1  640 of 1384  -2147483647
+2  flag 1  637 of 1319  -2147483647
   trace 0 3 9
   the text means
 2  flag 0  2147483643
@@ -69,27 +69,27 @@ const OTHERS: &str = "\
   the text means
 3  flag 1  -2147483591
   trace
-packets 4, lost 1, steps 604 to 640 of 1384
+packets 4, lost 1, steps 604 to 637 of 1319
 checked 4, 3 differ: a fault of the compiler; please report it, with the text
 ";
 
 /// The output where the runs are compared with what their own text means.
 const NONE: &str = "\
-packets 4, lost 1, steps 604 to 640 of 1384
+packets 4, lost 1, steps 604 to 637 of 1319
 checked 4, each is what the text means
 ";
 
 /// The output of the same where some results are expected: another one of 0 and of 3, and none of 65.
 const UNEXPECTED: &str = "\
-0  flag 0  604 of 1384  2147483640
+0  flag 0  604 of 1319  2147483640
   trace
   expected  flag 0  1
-1  flag 0  628 of 1384  2147483642
+1  flag 0  626 of 1319  2147483642
   trace 0 2
   the text means
 1  flag 0  2147483642
   trace
-2  flag 1  640 of 1384  -2147483647
+2  flag 1  637 of 1319  -2147483647
   trace 0 3 9
   the text means
 2  flag 0  2147483643
@@ -101,7 +101,7 @@ const UNEXPECTED: &str = "\
   trace
   expected nothing
 follow packet 0 by: tpw step --occam
-packets 4, lost 1, steps 604 to 640 of 1384, differing 3, packets without an expected result 1
+packets 4, lost 1, steps 604 to 637 of 1319, differing 3, packets without an expected result 1
 checked 4, 3 differ: a fault of the compiler; please report it, with the text
 ";
 
@@ -160,6 +160,16 @@ fn wanted(
     }
 }
 
+/// The worker of an image, of which no text says anything.
+fn subject_of<'a>(input: &'a Input, bytes: &'a [u8]) -> Subject<'a> {
+    Subject {
+        input,
+        language: Language::Occam,
+        bytes,
+        source: SourceText::NONE,
+    }
+}
+
 /// The output of a check of the runs of a text's worker by another text's meaning, and by the results that are expected
 /// where there are such, and its outcome.
 fn checked<T>(
@@ -188,12 +198,8 @@ where
         errors: &mut errors,
         is_terminal: false,
     };
-    let subject = Subject {
-        input: &Input::Standard,
-        language: Language::Occam,
-        bytes: &built,
-        source: SourceText::NONE,
-    };
+    let input = Input::Standard;
+    let subject = subject_of(&input, &built);
     let outcome = write_check(
         rt,
         alloc,
