@@ -5,6 +5,7 @@
 #![tactic(auto)]
 
 mod arithmetic;
+mod arrays;
 mod environment;
 mod expression;
 mod kind;
@@ -14,6 +15,7 @@ mod sound;
 mod worker;
 
 pub use arithmetic::{Answer, applied, bind, checked_subscript, low_byte, pure};
+pub use arrays::{element, element_at, size};
 pub use expression::{Expression, Operator};
 pub use kind::Kind;
 pub use process::{Assignment, Message, Process, Target};

@@ -5,10 +5,9 @@ ghost use Rattle.tpw_occam_core.specs.Meaning as core;
 ghost use Rattle.tpw_occam_scoped.specs.Meaning as scoped;
 ghost use Rattle.tpw_occam_interpreter.specs.Memories.{state_in};
 
-use crate::arrays::element_at;
 use crate::memory::{Cells, bytes, word};
 use tp_words::complement;
-use tpw_occam_core::{Answer, applied, bind, checked_subscript, low_byte, pure};
+use tpw_occam_core::{Answer, applied, bind, checked_subscript, element_at, low_byte, pure};
 use tpw_occam_scoped::Expression;
 
 /// The word of an OR, by that of its right operand.

@@ -7,12 +7,12 @@ ghost use Rattle.tpw_occam_scoped.specs.Meaning as scoped;
 ghost use Rattle.tpw_occam_scoped.specs.declared.process.Process.TheVariants as scoped_process;
 ghost use Rattle.tpw_occam_interpreter.specs.Memories.{state_of};
 
-use crate::arrays::{element, kept, size};
+use crate::arrays::kept;
 use crate::expressions::value;
 use crate::memory::{Cells, Memory, bytes};
 use crate::messages::{bytes_in, send, trace};
 use std::alloc::{AllocError, Global};
-use tpw_occam_core::{Answer, Kind, bind, checked_subscript, pure};
+use tpw_occam_core::{Answer, Kind, bind, checked_subscript, element, pure, size};
 use tpw_occam_scoped::{Assignment, Bytes, Process, Target};
 
 /// Why a process is not run to its end.

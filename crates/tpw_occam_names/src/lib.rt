@@ -2,14 +2,12 @@
 //! operators and types.
 #![tactic(auto)]
 
-mod arrays;
 mod fault;
 mod names;
 mod operators;
 mod scope;
 mod spelled;
 
-pub use arrays::element_at;
 pub use fault::Fault;
 pub use names::{element_type, named, type_of, type_of_one, type_of_two};
 pub use operators::{combined, monadic};

@@ -14,11 +14,10 @@ ghost use Rattle.tpw_occam_names.specs.Scopes.{names_of, view_of, word_of};
 ghost use Rattle.tpw_occam_scoped.specs.Made.{value_made};
 
 use std::alloc::Global;
-use tpw_occam_core::{bind, checked_subscript};
+use tpw_occam_core::{bind, checked_subscript, element_at};
 use tpw_occam_meaning::Expression as Tree;
 use tpw_occam_names::{
-    Fault, Meaning, Scope, Storage, View, Word, character, element_at, element_type, look_up,
-    named, number,
+    Fault, Meaning, Scope, Storage, View, Word, character, element_type, look_up, named, number,
 };
 use tpw_occam_scoped::{Expression, Value};
 use tpw_occam_terms::{Name, Primitive};

@@ -10,9 +10,10 @@ use crate::subscripts::Subscript;
 use crate::trees::{bare, is_number, name_of, span_of};
 use crate::value::{Constness, Root, Value, answered, computed, constant};
 use crate::words::{MOST_NEGATIVE, MOST_POSITIVE};
+use tpw_occam_core::element_at;
 use tpw_occam_faults::{FaultKind, Interrupt, Limit, Use};
 use tpw_occam_meaning::{Dyadic, Expression as Tree, Expressions, Monadic};
-use tpw_occam_names::{character, element_at, element_type, number};
+use tpw_occam_names::{character, element_type, number};
 use tpw_occam_terms::{FaultKind as Misread, Name, Primitive, Span};
 
 /// Where the right operand of an operator stands: that of AND and OR may not be worked out.

@@ -1,13 +1,14 @@
-//! Elements of arrays.
+//! Elements of arrays, which are bytes, seen as words or as bytes.
 
 ghost use Rattle.std.specs.Prelude.{◌≡◌, slice_index};
 ghost use Rattle.tpw_occam_core.specs.Arrays.{size, element};
 ghost use Rattle.tpw_occam_core.specs.Meaning as core;
 
-use tpw_occam_core::{Answer, Kind, checked_subscript};
+use crate::arithmetic::{Answer, checked_subscript};
+use crate::kind::Kind;
 
-/// How many elements there are.
-fn size(kind: Kind, bytes: &[u8]) -> usize
+/// How many elements an array has.
+pub fn size(kind: Kind, bytes: &[u8]) -> usize
     ensures { result ≡ size kind bytes.now }
 {
     match kind {
@@ -24,7 +25,7 @@ fn byte(bytes: &[u8], at: usize) -> u8
 }
 
 /// The element at a subscript; 0 stands for what lies behind the last byte.
-fn element(kind: Kind, bytes: &[u8], i: u32) -> u32
+pub fn element(kind: Kind, bytes: &[u8], i: u32) -> u32
     ensures { result ≡ element kind bytes.now i }
 {
     let i = i as usize;
