@@ -25,7 +25,7 @@ impl Kind {
     ghost use Rattle.tp_state.specs.CellRules.{written};
 
     /// The abstract value of a word that takes the register's.
-    pub(crate) fn written(self) -> Cell
+    pub fn written(self) -> Cell
         ensures { result ≡ written self }
     {
         match self {

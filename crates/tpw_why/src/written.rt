@@ -11,7 +11,7 @@ use tp_check::state_at;
 use tp_decode::{Instr, Listing, Placed};
 use tp_flow::Nest;
 use tp_image::Image;
-use tp_state::{Cell, Kind, State, StateCode};
+use tp_state::{Cell, State, StateCode};
 use tpw_debug::{ShowFault, SourceText};
 
 /// The finding of the verifier, where it refuses a state.
@@ -252,7 +252,7 @@ fn known_after(finding: Finding<'_>, state: &State, word: usize) -> Cell {
         ..
     } = finding.found.refusal;
     match effect_on(finding.image, finding.nest, instruction, edge, state, word) {
-        Some(Wrote::Stored(Kind::Int(low, high))) if low == high => Cell::Known(low),
+        Some(Wrote::Stored(kind)) => kind.written(),
         Some(_) => Cell::Undef,
         None => state.cells.get(word),
     }
