@@ -47,29 +47,3 @@ ldc 4
 out
 stopp
 ";
-
-/// 6 steps receive, 4 begin the loop, 21 are its turns, 5 send and 2 stop.
-pub const LOOP_COUNTED: &str = "\
-steps 38
- 15.7%             6  ##############################  line 18: lend
-  7.8%             3  ###############                 line 12: ldl 0
-  7.8%             3  ###############                 line 13: adc 1
-  7.8%             3  ###############                 line 14: stl 0
-  7.8%             3  ###############                 line 15: ldlp 1
-  7.8%             3  ###############                 line 16: ldc i_behind - i_head
-  5.2%             2  ##########                      line 3: mint
-  5.2%             2  ##########                      line 21: mint
-  5.2%             2  ##########                      line 24: stopp
-  2.6%             1  #####                           line 2: ldlp 0
-  2.6%             1  #####                           line 4: ldnlp 4
-  2.6%             1  #####                           line 5: ldc 4
-  2.6%             1  #####                           line 6: in
-  2.6%             1  #####                           line 7: ldc 0
-  2.6%             1  #####                           line 8: stl 1
-  2.6%             1  #####                           line 9: ldc 3
-  2.6%             1  #####                           line 10: stl 2
-  2.6%             1  #####                           line 20: ldlp 0
-  2.6%             1  #####                           line 22: ldc 4
-  2.6%             1  #####                           line 23: out
- 55.2%            21  ################                loop row 0 (line 10), 10 to 15
-";
