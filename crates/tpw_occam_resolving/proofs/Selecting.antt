@@ -1,5 +1,7 @@
 -- What a CASE selects.
-use Rattle.std.proofs.Common.{◌≡◌, ℕ, ◌==◌, Bool, true, false, ◌||◌, if◌then◌else◌, List, ◌∷◌, Some, None, refl, sym, ap, ◌∙◌}
+use Rattle.std.proofs.Common.{◌≡◌, ℕ, ◌==◌, Bool, true, false, ◌||◌, if◌then◌else◌, List, [], ◌∷◌, length, Some, None, refl, sym, ap, ◌∙◌}
+use Rattle.std.proofs.Common.{nat_eq, arith}
+use Rattle.std.proofs.lemmas.Bool.Decides.{nat_tests}
 use Rattle.std.specs.List.{list_any}
 use Rattle.std.specs.declared.boxed.Box.{Box}
 use Rattle.std.specs.declared.alloc.Global.{Global}
@@ -27,6 +29,23 @@ either_made true false = refl
 either_made false true = refl
 either_made false false = refl
 
+or_false : (p : Bool) → (p || false) ≡ p
+or_false true = refl
+or_false false = refl
+
+-- the last constant
+pub last_made : (equal w : Expression) (first : ℕ) (more all : List ℕ) (word : Word) → all ≡ first ∷ more →
+    true ≡ nat_eq (length more) 0 →
+    value_of w ≡ (λ s. pure (word_in word s)) →
+    value_of equal ≡ (λ s. bind (pure first) (λ b. bind (value_of w s) (applied Equal b))) →
+    value_of equal ≡ (λ s. pure (truth (list_any (λ c. c == word_in word s) all)))
+last_made equal w first [] all word all-is none w-is equal-is =
+    equal-is
+    ∙ (λ i s. bind (pure first) (λ b. bind (w-is i s) (applied Equal b)))
+    ∙ (λ i s. pure (truth (sym (or_false (first == word_in word s)) i)))
+    ∙ (λ i s. pure (truth (list_any (λ c. c == word_in word s) (sym all-is i))))
+last_made equal w first (x ∷ more) all word all-is none w-is equal-is = absurd (grind (arith, nat_tests, none))
+
 -- one constant more
 pub one_more_made : (e equal others w : Expression) (first : ℕ) (more all : List ℕ) (word : Word) → all ≡ first ∷ more →
     value_of w ≡ (λ s. pure (word_in word s)) →
@@ -41,10 +60,6 @@ one_more_made e equal others w first more all word all-is w-is equal-is others-i
     (λ a. either a (pure (truth (list_any (λ c. c == word_in word s) more)))))
     ∙ (λ i s. either_made (first == word_in word s) (list_any (λ c. c == word_in word s) more) i)
     ∙ (λ i s. pure (truth (list_any (λ c. c == word_in word s) (sym all-is i))))
-
-or_false : (p : Bool) → (p || false) ≡ p
-or_false true = refl
-or_false false = refl
 
 not_flagged : (s : State) → flagged false s ≡ s
 not_flagged s = λ i. record s { flag = or_false s.flag i }

@@ -116,6 +116,9 @@ fn is_one_of(alloc: Global, word: Word, constants: &[u32]) -> Result<Made, Alloc
                 Made::Constant(*first),
                 word_expression(word),
             )?;
+            if more.is_empty() {
+                return Ok(equal);
+            }
             let others = is_one_of(alloc, word, more)?;
             Made::or(alloc, equal, others)
         }
