@@ -231,5 +231,13 @@ pub fn evaluate_text<T: Files, R: Read, W: Write, E: Write>(
     let expected = output.expected(alloc, inputs, occam.result_bytes())?;
     let form = output.form(&expected);
     let core = &occam.compiled.core;
-    Ok(evaluate_packets(alloc, core, &packets, form, writer, terminal.errors)?)
+    Ok(evaluate_packets(
+        alloc,
+        occam.text,
+        core,
+        &packets,
+        form,
+        writer,
+        terminal.errors,
+    )?)
 }

@@ -2,7 +2,7 @@
 
 ghost use Rattle.std.specs.Prelude.{◌≡◌, ◌<◌, length, OnOk, Err};
 ghost use Rattle.tpw_occam_core.specs.Meaning.{most_traced};
-ghost use Rattle.tpw_occam_meaning.specs.States.{with_array};
+ghost use Rattle.tpw_occam_meaning.specs.States.{with_array, stored};
 ghost use Rattle.tpw_occam_scoped.specs.Meaning as scoped;
 ghost use Rattle.tpw_occam_scoped.specs.declared.process.Process.TheVariants as scoped_process;
 ghost use Rattle.tpw_occam_interpreter.specs.Memories.{state_of};
@@ -14,6 +14,7 @@ use crate::messages::{bytes_in, send, trace};
 use std::alloc::{AllocError, Global};
 use tpw_occam_core::{Answer, Kind, bind, checked_subscript, pure};
 use tpw_occam_scoped::{Assignment, Bytes, Process, Target};
+use tpw_occam_terms::Span;
 
 /// Why a process is not run to its end.
 #[derive(Clone, Copy, Debug, PartialEq, Eq)]
@@ -117,6 +118,30 @@ fn receive_array(alloc: Global, memory: &mut Memory, to: usize) -> Result<(), Al
     memory.set_array(alloc, to, packet)
 }
 
+/// The line of a value that a cell has: the one at work, or in front of the first that of the value's name.
+fn line_of_value(memory: &Memory, name: Option<Span>) -> u32 {
+    match name {
+        Some(name) if memory.line == 0 => u32::try_from(name.line).unwrap_or(u32::MAX),
+        _ => memory.line,
+    }
+}
+
+/// A cell has a value, under a name or without one.
+fn store_named(
+    memory: &mut Memory,
+    name: Option<Span>,
+    cell: usize,
+    answer: Answer,
+) -> Result<(), AllocError>
+    ensures { OnOk result (state_of memory.new ≡ stored cell answer (state_of memory.old)) }
+{
+    let line = line_of_value(&*memory, name);
+    let around = memory.come_to(line);
+    memory.store(cell, answer)?;
+    memory.come_to(around);
+    Ok(())
+}
+
 /// Runs a process. The packet is lost where more is traced than may be.
 pub(crate) fn run(alloc: Global, memory: &mut Memory, p: &Process) -> Result<(), Halt>
     ensures done { OnOk result (state_of memory.new ≡ scoped.run p.now (state_of memory.old)) }
@@ -158,13 +183,13 @@ pub(crate) fn run(alloc: Global, memory: &mut Memory, p: &Process) -> Result<(),
             run(alloc, memory, body)?;
         }
         Process::Value {
+            name,
             cell,
             value: bound,
             body,
-            ..
         } => {
             let answer = value(&Cells::Of(&*memory), bound);
-            memory.store(*cell, answer)?;
+            store_named(memory, *name, *cell, answer)?;
             run(alloc, memory, body)?;
         }
         Process::Array {
@@ -180,7 +205,11 @@ pub(crate) fn run(alloc: Global, memory: &mut Memory, p: &Process) -> Result<(),
         Process::ReceiveArray(to) => receive_array(alloc, memory, *to)?,
         Process::Trace(m) => trace(alloc, memory, m)?,
         Process::Send(m) => send(alloc, memory, m)?,
-        Process::At { body, .. } => run(alloc, memory, body)?,
+        Process::At { line, body } => {
+            let around = memory.come_to(*line);
+            run(alloc, memory, body)?;
+            memory.come_to(around);
+        }
     }
     Ok(())
 }

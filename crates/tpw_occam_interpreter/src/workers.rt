@@ -20,6 +20,8 @@ pub struct Given {
     pub result: Vec<u8>,
     pub flag: bool,
     pub traced: Vec<u8>,
+    /// The line of the text in which the flag was set first, which means nothing.
+    pub flag_line: Option<u32>,
 }
 
 /// The memory in which a worker begins.
@@ -33,6 +35,8 @@ pub fn begin(alloc: Global, packet: &[u8]) -> Result<Memory, AllocError>
         packet: Vec::from_slice(alloc, packet)?,
         traced: Vec::new(alloc),
         result: Vec::new(alloc),
+        line: 0,
+        flag_line: None,
     })
 }
 
@@ -54,6 +58,7 @@ fn outcome(memory: Memory) -> Option<Given>
         result: memory.result,
         flag: memory.flag,
         traced: memory.traced,
+        flag_line: memory.flag_line,
     })
 }
 

@@ -6,6 +6,7 @@ mod checking;
 mod evaluating;
 mod meaning;
 mod running;
+mod said;
 mod subject;
 mod summary;
 
