@@ -24,13 +24,18 @@ pub(crate) fn bytes_in<'r>(cells: &'r Cells<'_>, from: &'r Bytes) -> &'r [u8]
 }
 
 /// The bytes of a message, and whether the flag is to be set.
-fn message(alloc: Global, memory: &Memory, m: &Message) -> Result<(Vec<u8>, bool), AllocError>
+fn message<W: Watch>(
+    alloc: Global,
+    memory: &Memory,
+    watch: &mut W,
+    m: &Message,
+) -> Result<(Vec<u8>, bool), AllocError>
     ensures bytes { IfOk result (λ sent. sent.0.items ≡ scoped.bytes_of m.now (state_of memory.now)) }
     ensures flag { IfOk result (λ sent. sent.1 ≡ scoped.flag_of m.now (state_of memory.now)) }
 {
     match m {
         Message::Value(e) => {
-            let answer = value(&Cells::Of(memory), e);
+            let answer = value(&Cells::Of(memory), watch, e);
             let bytes = Vec::from_slice(alloc, &answer.word.to_le_bytes())?;
             Ok((bytes, answer.flag))
         }
@@ -55,7 +60,7 @@ pub(crate) fn trace<W: Watch>(
     ensures lost { result ≡ Err Halt.Lost → most_traced < length (with_traced (scoped.bytes_of m.now (state_of memory.old))
         (flagged (scoped.flag_of m.now (state_of memory.old)) (state_of memory.old))).traced }
 {
-    let (bytes, flag) = message(alloc, memory, m)?;
+    let (bytes, flag) = message(alloc, &*memory, watch, m)?;
     memory.raise(flag);
     memory.trace(&bytes)?;
     watch.trace(&bytes);
@@ -75,7 +80,7 @@ pub(crate) fn send<W: Watch>(
     ensures { OnOk result (state_of memory.new ≡ with_result (scoped.bytes_of m.now (state_of memory.old))
         (flagged (scoped.flag_of m.now (state_of memory.old)) (state_of memory.old))) }
 {
-    let (bytes, flag) = message(alloc, memory, m)?;
+    let (bytes, flag) = message(alloc, &*memory, watch, m)?;
     memory.raise(flag);
     watch.send(&bytes);
     memory.send(bytes);

@@ -11,7 +11,7 @@ use crate::arrays::{element, kept, size};
 use crate::expressions::value;
 use crate::memory::{Cells, Memory, bytes};
 use crate::messages::{bytes_in, send, trace};
-use crate::watch::{Watch, WatchFault};
+use crate::watch::{Watch, WatchFault, bind_name};
 use std::alloc::{AllocError, Global};
 use tpw_occam_core::{Answer, Kind, Place, bind, checked_subscript, pure};
 use tpw_occam_scoped::{Assignment, Bytes, Expression, Process, Target};
@@ -49,7 +49,7 @@ impl From<WatchFault> for Halt {
 }
 
 /// The subscript of a target, checked. A cell has none.
-fn subscript_of(memory: &Memory, target: &Target) -> Answer
+fn subscript_of<W: Watch>(memory: &Memory, watch: &mut W, target: &Target) -> Answer
     ensures { result ≡ scoped.subscript_of target.now (state_of memory.now) }
 {
     match target {
@@ -59,7 +59,7 @@ fn subscript_of(memory: &Memory, target: &Target) -> Answer
             kind,
             subscript,
         } => {
-            let i = value(&Cells::Of(memory), subscript);
+            let i = value(&Cells::Of(memory), watch, subscript);
             let count = size(*kind, bytes(&Cells::Of(memory), *array));
             bind(i, checked_subscript(count, i.word))
         }
@@ -106,8 +106,8 @@ fn assign<W: Watch>(
     match list {
         [] => Ok(()),
         [first, more @ ..] => {
-            let i = subscript_of(memory, &first.target);
-            let v = value(&Cells::Of(&*memory), &first.value);
+            let i = subscript_of(&*memory, watch, &first.target);
+            let v = value(&Cells::Of(&*memory), watch, &first.value);
             assign(memory, watch, more)?;
             assigned(memory, watch, &first.target, i, v)
         }
@@ -139,7 +139,7 @@ fn receive_word<W: Watch>(
     ensures { OnOk result
         (state_of memory.new ≡ scoped.run (scoped_process.ReceiveWord target.now) (state_of memory.old)) }
 {
-    let i = subscript_of(memory, target);
+    let i = subscript_of(&*memory, watch, target);
     let word = element(Kind::Word, &memory.packet, 0);
     assigned(memory, watch, target, i, pure(word))
 }
@@ -180,13 +180,6 @@ pub(crate) fn come_to<W: Watch>(
     Ok(before)
 }
 
-/// A name, where there is one, has a word.
-fn bind_name<W: Watch>(watch: &mut W, name: Option<Span>, word: u32) {
-    if let Some(name) = name {
-        watch.bind(name, word);
-    }
-}
-
 /// A cell has a value, under a name or without one.
 fn store_named<W: Watch>(
     memory: &mut Memory,
@@ -200,7 +193,7 @@ fn store_named<W: Watch>(
 {
     let line = line_of_value(&*memory, name);
     let around = come_to(memory, watch, line)?;
-    let answer = value(&Cells::Of(&*memory), e);
+    let answer = value(&Cells::Of(&*memory), watch, e);
     memory.store(cell, answer)?;
     bind_name(watch, name, answer.word);
     come_to(memory, watch, around)?;
@@ -245,7 +238,7 @@ pub(crate) fn run<W: Watch>(
             guarded,
             rest,
         } => {
-            let answer = value(&Cells::Of(&*memory), guard);
+            let answer = value(&Cells::Of(&*memory), watch, guard);
             memory.raise(answer.flag);
             let branch = if answer.word == 0 { rest } else { guarded };
             run(alloc, memory, watch, branch)?;

@@ -51,6 +51,13 @@ pub trait Watch {
     fn come_to(&mut self, line: u32, flag: bool) -> Result<(), WatchFault>;
 }
 
+/// A name, where there is one, has a word.
+pub(crate) fn bind_name<W: Watch>(watch: &mut W, name: Option<Span>, word: u32) {
+    if let Some(name) = name {
+        watch.bind(name, word);
+    }
+}
+
 /// Nobody follows.
 #[derive(Drop)]
 pub(crate) struct Unwatched;

@@ -45,7 +45,7 @@ pub fn begin(alloc: Global, packet: &[u8]) -> Result<Memory, AllocError>
 pub fn value_in(memory: &Memory, e: &Expression) -> Answer
     ensures { result ≡ scoped.value_of e.now (state_of memory.now) }
 {
-    value(&Cells::Of(memory), e)
+    value(&Cells::Of(memory), &mut Unwatched, e)
 }
 
 /// The result in the end: nothing where more is traced than may be.
