@@ -96,7 +96,10 @@ pub(crate) fn value<W: Watch>(cells: &Cells<'_>, watch: &mut W, e: &Expression) 
         } => {
             let a = value(cells, watch, bound);
             bind_name(watch, *name, a.word);
-            bind(a, value(&Cells::With(*cell, a.word, &*cells), watch, within))
+            bind(
+                a,
+                value(&Cells::With(*cell, a.word, &*cells), watch, within),
+            )
         }
     }
 }
