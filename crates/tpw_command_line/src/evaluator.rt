@@ -8,7 +8,7 @@ use crate::shared::{
     DENY_ARGUMENT, EXPECT_ARGUMENT, FILE_ARGUMENT, HEX_ARGUMENT, HEX_EXPECT_ARGUMENT,
     HEX_PACKETS_ARGUMENT, PACKETS_ARGUMENT, RAW_ARGUMENT, TRACE_ARGUMENT, WORDS_ARGUMENT,
 };
-use crate::stepper::{Picked, picked};
+use crate::stepper::{Picked, pick};
 use crate::subcommand::Subcommand;
 use clap::ArgMatches;
 use std::alloc::Global;
@@ -66,7 +66,7 @@ pub struct FollowOptions {
 /// The options that are given where a packet is followed.
 pub fn following_of(alloc: Global, matches: &ArgMatches<'_>) -> Result<FollowOptions, Ending> {
     Ok(FollowOptions {
-        packet: picked(alloc, matches)?,
+        packet: pick(alloc, matches)?,
         style: style_given(matches),
     })
 }

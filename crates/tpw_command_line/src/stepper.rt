@@ -155,7 +155,7 @@ impl StepOptions {
 }
 
 /// The packet that is picked of those that are given.
-pub fn picked(alloc: Global, matches: &ArgMatches<'_>) -> Result<Picked, Ending> {
+pub fn pick(alloc: Global, matches: &ArgMatches<'_>) -> Result<Picked, Ending> {
     Ok(Picked {
         source: packet_source(alloc, matches)?,
         number: matches.get_one::<usize>(NUMBER).unwrap_or(0),
@@ -167,7 +167,7 @@ fn packet_given(alloc: Global, matches: &ArgMatches<'_>) -> Result<Option<Picked
     if !has_packets(matches) {
         return Ok(None);
     }
-    Ok(Some(picked(alloc, matches)?))
+    Ok(Some(pick(alloc, matches)?))
 }
 
 /// The options that are given.
