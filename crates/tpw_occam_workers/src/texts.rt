@@ -1,7 +1,7 @@
 //! Declarations, and what stands behind them.
 
 ghost use Rattle.std.specs.Prelude.{◌≡◌, Some, IfOk, map};
-ghost use Rattle.tpw_occam_meaning.specs.Calls.{referred};
+ghost use Rattle.tpw_occam_meaning.specs.Calls as calls;
 ghost use Rattle.tpw_occam_meaning.specs.Declarations as text_declarations;
 ghost use Rattle.tpw_occam_meaning.specs.Expressions.{value_of};
 ghost use Rattle.tpw_occam_meaning.specs.Maybe.{and_then};
@@ -328,7 +328,7 @@ fn place_declared<'t, 'a>(
     rest: Rest<'t, 'a>,
     room: u32,
 ) -> Result<Process, Fault>
-    ensures { IfOk result (λ made. effect_of made ≡ referred e.now of (names_of scope.now) d
+    ensures { IfOk result (λ made. effect_of made ≡ calls.referred e.now of (names_of scope.now) d
         (λ place n. after_of rest.entry (with_name name.entry (Is place) (names_of scope.now)) n)) }
 {
     if room == 0 {
