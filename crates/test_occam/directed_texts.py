@@ -223,6 +223,72 @@ def declarations():
     worker('values in a process', ['VAL INT a IS p[0] + p[1]:', 'VAL INT b IS p[0] - p[1]:', 'r := a PLUS (b TIMES 3)'], pairs())
 
 
+def other_names():
+    """Other names that are declared for variables and elements."""
+    for size in (1, 3, 4):
+        fill = [f'SEQ i = 0 FOR {size}', '  a[i] := 10 + i']
+        worker(f'another name for one of {size} elements', [*fill, 'INT x IS a[p[0]]:', 'SEQ', '  x := x PLUS p[1]', f'  SEQ i = 0 FOR {size}',
+               '    r := (r TIMES 7) PLUS a[i]'], [packet(a, 5) for a in ENDS + [size - 1, size]], declared=[f'[{size}]INT a:'])
+    fill = ['SEQ i = 0 FOR 4', '  a[i] := i PLUS p[1]']
+    total = 'r := ((a[0] TIMES 3) PLUS (a[1] TIMES 5)) PLUS ((a[2] TIMES 7) PLUS (a[3] TIMES 11))'
+    worker('an element that is not used under its other name', [*fill, 'INT x IS a[p[0]]:', total], pairs()[::7], declared=['[4]INT a:'])
+    worker('a subscript that changes behind another name', [*fill, 'i := p[0] /\\ 3', 'INT x IS a[i]:', 'SEQ', '  i := p[1] /\\ 3', '  x := 7',
+           '  a[i] := a[i] PLUS x', f'  {total}'], pairs()[::3], declared=['[4]INT a:', 'INT i:'])
+    worker('a subscript with a sum behind another name', [*fill, 'INT x IS a[(p[0] + p[1]) /\\ 3]:', 'SEQ', '  x := x TIMES x', f'  {total}'],
+           pairs(), declared=['[4]INT a:'])
+    worker('another name for an element at a constant', [*fill, 'INT x IS a[n - 1]:', 'SEQ', '  x := a[2] PLUS 1', '  a[2] := x', f'  {total}'],
+           pairs()[::7], declared=['VAL INT n IS 4:', '[4]INT a:'])
+    worker('another name for a variable', ['x := p[0]', 'INT y IS x:', 'SEQ', '  y := y PLUS 1', '  x := x TIMES p[1]', '  r := y MINUS (x TIMES 3)'],
+           pairs()[::3], declared=['INT x:'])
+    worker('another name for a BOOL', ['b := p[0] = p[1]', 'BOOL c IS b:', 'SEQ', '  c := NOT c', '  r := (INT b) PLUS (2 TIMES (INT c))'], pairs()[::7],
+           declared=['BOOL b:'])
+    worker('another name for a BYTE', ['c := BYTE (p[0] /\\ 255)', 'BYTE d IS c:', 'SEQ', '  d := BYTE (((INT d) PLUS 1) /\\ 255)', '  r := INT c'],
+           pairs()[::7], declared=['BYTE c:'])
+    worker('another name for an element of BYTEs', ['BYTE c IS m[p[0]]:', 'SEQ', '  c := BYTE (p[1] /\\ 255)', '  m[3] := c', '  SEQ i = 0 FOR SIZE m',
+           '    r := (r TIMES 3) PLUS (INT m[i])'], pairs()[::5], declared=['[7]BYTE m:'])
+    worker('another name for another name', [*fill, 'INT x IS a[p[0] /\\ 7]:', 'INT y IS (x):', 'SEQ', '  y := y PLUS p[1]', '  x := y TIMES 2',
+           f'  {total}'], pairs()[::3], declared=['[4]INT a:'])
+    worker('two names that may be of one element', [*fill, 'INT x IS a[p[0] /\\ 3]:', 'INT y IS a[p[1] /\\ 3]:', 'SEQ', '  x, y := y PLUS 1, x PLUS 2',
+           f'  {total}'], pairs(), declared=['[4]INT a:'])
+    worker('another name in each turn', [*fill, 'SEQ i = 0 FOR 6', '  INT x IS a[(i PLUS p[0]) \\ 3]:', '  x := (x TIMES 3) PLUS i', total],
+           [packet(a, 5) for a in ENDS], declared=['[4]INT a:'])
+    worker('another name that hides a name of its own', [*fill, 'x := p[0] /\\ 3', 'INT x IS a[x]:', 'INT a IS x:', 'SEQ', '  a := a PLUS 9', '  r := x',
+           'r := (r TIMES 3) PLUS (x PLUS a[p[0] /\\ 3])'], pairs()[::3], declared=['[4]INT a:', 'INT x:'])
+    worker('another name that is passed', [*fill, 'INT x IS a[p[0]]:', 'change (x, a[1], x)', total], pairs()[::3],
+           declared=['[4]INT a:', 'PROC change (INT x, INT y, VAL INT v)', '  SEQ', '    x := x PLUS 1', '    y := (y PLUS x) PLUS v', ':'])
+    worker('another name in a PROC', [*fill, 'step (a, p[0], r)', 'step (p, p[1], r)', 'step (a, 2, p[1])', f'{total} PLUS (r PLUS (p[0] TIMES p[1]))'],
+           pairs()[::3], declared=['[4]INT a:', 'PROC step ([]INT b, VAL INT n, INT sum)', '  INT x IS b[n]:', '  INT all IS sum:', '  SEQ',
+                                   '    x := x PLUS 1', '    all := (all TIMES 5) PLUS x', ':'])
+    head = 'PROC worker (CHAN OF INT packet, CHAN OF INT result)'
+    text('another name receives', [head, '  [4]INT a:', '  INT i:', '  INT x IS a[i]:', '  INT y IS a[2]:', '  SEQ', '    packet ? x', '    i := 2',
+         '    y := a[0] PLUS x', '    result ! y', ':'], [packet(a) for a in ENDS])
+
+
+def other_arrays():
+    """Other names that are declared for arrays and tables."""
+    for type_ in ('[]INT', '[4]INT', '[n]INT'):
+        worker(f'another name for an array, as {type_}', [f'{type_} b IS a:', 'SEQ', '  b[p[0]] := p[1]', '  a[1] := a[1] PLUS b[2]', '  SEQ i = 0 FOR SIZE b',
+               '    r := (r TIMES 7) PLUS a[i]'], pairs()[::5], declared=['VAL INT n IS 4:', '[4]INT a:'])
+        worker(f'an array that is only read under its other name, as {type_}', [f'VAL {type_} t IS a:', 'SEQ', '  a[p[0]] := p[1]',
+               '  SEQ i = 0 FOR SIZE t', '    r := (r TIMES 7) PLUS t[i]'], pairs()[::5], declared=['VAL INT n IS 4:', '[4]INT a:'])
+        worker(f'another name for a table, as {type_}', [f'VAL {type_} u IS t:', 'VAL INT k IS u[3]:', 'r := u[p[0]] PLUS k'], pairs()[::5],
+               declared=['VAL INT n IS 4:', 'VAL []INT t IS [7, -1, MOSTNEG INT, 12]:'])
+    worker('another name for bytes', ['w[0], w[1] := p[0], p[1]', '[]BYTE m IS n:', 'SEQ', '  m[5] := m[2]', '  r := w[0] >< w[1]'], pairs()[::5],
+           declared=['[2]INT w:', '[]BYTE n RETYPES w:'])
+    worker('bytes of another name', ['[]INT w IS (p):', '[8]BYTE m RETYPES w:', 'SEQ', "  m[5] := 'a'", '  r := p[0] >< w[1]'], pairs()[::5])
+    worker('an array that is copied by another name', ['[]INT b IS a:', 'SEQ', '  b := [1, 2]', '  VAL []INT t IS p:', '  b := t', '  p[0] := 3',
+           '  r := (a[0] TIMES 3) PLUS a[1]'], pairs()[::5], declared=['[2]INT a:'])
+    worker('other names in a PROC for its parameters', ['fold (a, p, p[0], r)', 'fold (p, a, 1, r)', 'r := (r TIMES 3) PLUS (p[0] PLUS a[0])'], pairs()[::3],
+           declared=['[3]INT a:', 'PROC fold ([]INT x, VAL []INT y, VAL INT n, INT sum)', '  []INT b IS x:', '  VAL []INT t IS y:', '  VAL []INT u IS t:',
+                     '  INT e IS b[n]:', '  SEQ', '    SEQ i = 0 FOR SIZE u', '      b[i /\\ 1] := b[i /\\ 1] PLUS u[i]', '    e := e PLUS 1',
+                     '    sum := (sum TIMES 5) PLUS e', ':'])
+    worker('an array that is passed by another name', ['VAL []INT t IS p:', '[]INT b IS p:', 'fill (b, t)', 'r := p[0] MINUS p[1]'], pairs()[::5],
+           declared=['PROC fill ([2]INT b, VAL []INT t)', '  SEQ', '    b[0] := 6', '    b[1] := t[0] PLUS t[1]', ':'])
+    text('other names before the worker', ['VAL []BYTE t IS "abc*#FF":', 'VAL []BYTE u IS t:', 'VAL [4]BYTE s IS (u):', 'VAL INT n IS SIZE s:',
+         'PROC worker (CHAN OF [2]INT packet, CHAN OF INT result)', '  [2]INT p:', '  []INT q IS p:', '  [n]BYTE m:', '  SEQ', '    packet ? q', '    m := s',
+         '    result ! ((INT u[p[0]]) TIMES 256) PLUS (INT m[p[1] /\\ 3])', ':'], pairs()[::5])
+
+
 def stops():
     """STOP wherever it stands, and what stops."""
     worker('an IF without guards', ['IF', 'r := p[0]'], pairs()[:3])
@@ -272,7 +338,8 @@ def shared():
 
 
 def main():
-    parts = (operators, conversions, truth, registers, subscripts, assignments, parameters, choices, messages, spellings, declarations, stops, shared)
+    parts = (operators, conversions, truth, registers, subscripts, assignments, parameters, choices, messages, spellings, declarations, stops, shared,
+             other_names, other_arrays)
     for part in parts:
         part()
 

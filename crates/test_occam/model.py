@@ -269,6 +269,10 @@ class Parser:
             array = line.next()
             line.want(':')
             return ('retypes', of, names[0], array)
+        if line.take('IS'):
+            value = line.expression()
+            line.want(':')
+            return ('other', of, names[0], value)
         while line.take(','):
             names.append(line.next())
         line.want(':')
@@ -600,6 +604,9 @@ class Machine:
         elif kind == 'retypes':
             _, (of, _), name, array = declaration
             names[name] = Array(of, names[array].memory, names[array].is_table)
+        elif kind == 'other':
+            _, (of, size), name, tree = declaration
+            names[name] = self.target(tree, names) if size is None else self.array(tree, names, of)
         elif kind == 'proc':
             _, name, parameters, body = declaration
             names[name] = ('proc', None, parameters, body, dict(names))

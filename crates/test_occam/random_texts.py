@@ -37,9 +37,10 @@ class Entry:
 class Maker:
     def __init__(self, seed):
         self.random = random.Random(seed)
-        # Whether INT has its other name, and whether BOOLs have a CASE.
+        # Whether INT has its other name, whether BOOLs have a CASE, and whether variables and arrays have other names.
         self.is_long = seed % 8 == 5
         self.has_truth_cases = seed % 4 == 2
+        self.has_other_names = seed % 4 == 3
         self.scope = {}
         self.out = []
         self.indent = 0
@@ -284,7 +285,9 @@ class Maker:
     def declaration(self, depth):
         pick = self.random.random()
         name = self.new()
-        if pick < 0.25:
+        if self.has_other_names and self.chance(0.3):
+            self.other_name(name)
+        elif pick < 0.25:
             of = self.of(INT, INT, BOOL, BYTE)
             type_ = f'{of} ' if self.chance(0.7) else ''
             text = self.whole(of, self.random.randint(0, 3)) if self.levels or depth else self.constant(of)
@@ -330,6 +333,24 @@ class Maker:
             is_open = self.chance(0.4)
             self.line(f'[{"" if is_open else size}]{of} {name} RETYPES {array}:')
             self.scope[name] = Entry('array', of, size, is_open=is_open and entry.is_open)
+
+    def other_name(self, name):
+        """Another name for a variable or an element, or for an array; or for an array or a table, to be read."""
+        pick = self.random.random()
+        if pick < 0.45:
+            of = self.of(INT, INT, BOOL, BYTE)
+            target = self.target(of)
+            if target:
+                self.line(f'{of} {name} IS {target}:')
+                self.scope[name] = Entry('variable', of)
+            return
+        kind, kinds = ('array', ('array',)) if pick < 0.7 else ('table', self.of(('array',), ('table',)))
+        array = self.pick(lambda e: e.kind in kinds)
+        if array:
+            entry = self.scope[array]
+            size = '' if entry.is_open or self.chance(0.5) else self.computed(entry.size)
+            self.line(f'{"VAL " if kind == "table" else ""}[{size}]{entry.of} {name} IS {array}:')
+            self.scope[name] = Entry(kind, entry.of, entry.size, is_open=entry.is_open)
 
     def parameters(self, passings):
         found = []

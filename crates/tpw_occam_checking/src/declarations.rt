@@ -129,18 +129,19 @@ fn named_value<'t, 'a>(
     }
 }
 
-/// A table of a shape.
-fn named_table<'t, 'a>(
+/// An array or a table of a shape, which is not written to under its name.
+fn named_array<'t, 'a>(
     checker: &mut Checker<'t, 'a>,
     frame: Frame,
     e: &'t Tree<'a>,
     shape: Shape,
 ) -> Result<Made<'t, 'a>, Interrupt> {
-    if !is_table(e) {
-        return Err(checker.fault(span_of(e), FaultKind::TableWanted));
-    }
     let view = checker.array(frame, e, shape, MAX_DEPTH)?;
-    Ok(unbound(Meaning::Array(view)))
+    checker.cells.read_array(view.storage);
+    Ok(unbound(Meaning::Array(View {
+        access: Access::Read,
+        ..view
+    })))
 }
 
 /// The kind of the elements of a list: that of its first constant.
@@ -198,7 +199,7 @@ fn value<'t, 'a>(
     match of {
         None if is_table(e) => {
             let shape = shape_of_table(checker, frame, e)?;
-            named_table(checker, frame, e, shape)
+            named_array(checker, frame, e, shape)
         }
         None => single(checker, declared, None, name, e, level),
         Some(of) if matches!(size_of(of), Size::One) => {
@@ -206,7 +207,7 @@ fn value<'t, 'a>(
         }
         Some(of) => {
             let shape = checker.shape(frame, of, name.span)?;
-            named_table(checker, frame, e, shape)
+            named_array(checker, frame, e, shape)
         }
     }
 }
@@ -327,6 +328,28 @@ fn retyped<'t, 'a>(
     Ok(unbound(Meaning::Array(view)))
 }
 
+/// Another name for a variable, an element or an array. In front of the worker's SEQ an element's subscript is worked
+/// out at once.
+fn abbreviation<'t, 'a>(
+    checker: &mut Checker<'t, 'a>,
+    declared: Declared,
+    of: &'t Type<'a>,
+    name: Name<'a>,
+    e: &'t Tree<'a>,
+    level: Level,
+) -> Result<Made<'t, 'a>, Interrupt> {
+    let depth = declared.levels(level);
+    let passed = checker.other_name(declared.frame, of, name, e, depth)?;
+    if passed.is_bound && level == Level::Worker {
+        let kind = NoteKind::BeforePacket { name: name.text };
+        checker.findings.note(name.span, kind)?;
+    }
+    Ok(Made {
+        meaning: passed.meaning,
+        is_bound: passed.is_bound,
+    })
+}
+
 /// A PROC: its parameters, its body and its scope.
 fn procedure<'t, 'a>(
     checker: &mut Checker<'t, 'a>,
@@ -397,6 +420,9 @@ pub(crate) fn declare<'t, 'a>(
         }
         Declaration::Retypes { of, name, array } => {
             (*name, retyped(checker, frame, of, *name, *array))
+        }
+        Declaration::Abbreviation { of, name, value: e } => {
+            (*name, abbreviation(checker, declared, of, *name, e, level))
         }
         Declaration::Procedure {
             name,

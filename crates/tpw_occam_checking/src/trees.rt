@@ -19,6 +19,7 @@ pub(crate) fn declared_place(declaration: &Declaration<'_>) -> Option<Span> {
         Declaration::Value { name, .. } => Some(name.span),
         Declaration::Variables { names, .. } => Some(first_of(names)?.span),
         Declaration::Retypes { name, .. } => Some(name.span),
+        Declaration::Abbreviation { name, .. } => Some(name.span),
         Declaration::Procedure { name, .. } => Some(name.span),
         Declaration::Function { name, .. } => Some(name.span),
         Declaration::Wrong { names } => Some(first_of(names)?.span),

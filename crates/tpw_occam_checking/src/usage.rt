@@ -389,8 +389,17 @@ fn declaration<'t, 'a>(
         }
         Declaration::Retypes { of, name, array } => {
             sizes(usage, scope, &of.sizes);
-            let _ = usage.use_name(scope, *array);
-            usage.declare(scope, *name, Some(Unused::Value), Places::NONE)
+            let other = usage.use_name(scope, *array);
+            usage.declare_other(scope, *name, other)
+        }
+        Declaration::Abbreviation { of, name, value } => {
+            sizes(usage, scope, &of.sizes);
+            expression(usage, scope, value, MAX_LEVELS);
+            let other = match written_name(value) {
+                Some((other, _)) => usage.use_name(scope, other),
+                None => None,
+            };
+            usage.declare_other(scope, *name, other)
         }
         Declaration::Procedure {
             name,

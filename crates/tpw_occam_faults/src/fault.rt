@@ -65,8 +65,6 @@ pub enum FaultKind<'a> {
     TableHere,
     /// An array or a table is wanted.
     ArrayWanted,
-    /// A table that is written out is wanted.
-    TableWanted,
     /// A variable or an element is wanted.
     VariableWanted,
     /// An array has other elements.
@@ -178,7 +176,6 @@ impl FaultKind<'_> {
                 | FaultKind::NoByte { .. }
                 | FaultKind::TableHere
                 | FaultKind::ArrayWanted
-                | FaultKind::TableWanted
                 | FaultKind::VariableWanted
                 | FaultKind::Elements { .. }
                 | FaultKind::BoolElements
@@ -380,7 +377,6 @@ fn text_of(kind: FaultKind<'_>) -> &'static str {
         FaultKind::TableHere =>
             "a table stands where a value is wanted: declare it by VAL, and take an element",
         FaultKind::ArrayWanted => "an array or a table is wanted here",
-        FaultKind::TableWanted => "a table is wanted here: [e, ..] or a text",
         FaultKind::VariableWanted => "a variable or an element is wanted here",
         FaultKind::NoSize => "an array that is declared has a size, as in [16]INT",
         FaultKind::BoolElements => "elements are INTs or BYTEs",

@@ -1,4 +1,4 @@
--- What three texts mean, computed on the definitions. The first:
+-- What four texts mean, computed on the definitions. The first:
 --
 --     VAL INT n IS 3:
 --     PROC p (VAL INT v, INT y)
@@ -61,6 +61,25 @@
 --           TRUE
 --             STOP
 --         r ! (INT k) + s (a)
+--     :
+--
+-- .. and the fourth:
+--
+--     VAL []INT t IS [8, 9]:
+--     VAL []INT u IS t:
+--     PROC w (CHAN OF [2]INT c, CHAN OF INT r, CHAN OF INT T)
+--       [2]INT a:
+--       []INT b IS a:
+--       SEQ
+--         c ? b
+--         INT x IS b[a[1]]:
+--         INT y IS x:
+--         VAL []INT v IS b:
+--         SEQ
+--           a[1] := 1
+--           y := u[1]
+--           T ! v[0]
+--         r ! a[0] + a[1]
 --     :
 use Rattle.std.proofs.Common.{◌≡◌, ℕ, true, false, List, [], ◌∷◌, Option, Some, None, refl}
 use Rattle.std.specs.Borrow.{Bor}
@@ -332,3 +351,44 @@ module _ (place : Span) (text : Bor (List ℕ)) (expression : Box Expression Glo
       ≡ Some (Some (record { result = 106 ∷ 0 ∷ 0 ∷ 0 ∷ []; flag = true; traced = 6 ∷ 0 ∷ 0 ∷ 0 ∷ [] }))
   unfolding meaning_of_text
   stops_and_goes_on = refl
+
+  abbrev other : written.Type → ℕ → Expression → Process → Process
+  other of c e p = declared (declaration.Abbreviation of (name c) e) p
+
+  abbrev table : ℕ → Expression → Declaration
+  table c e = declaration.Value (Some (int of_any_size)) (name c) e
+
+  -- u, v are 117, 118
+  abbrev changing : Process
+  changing = other (int sizes.End) 120 (element 98 (element 97 (number 49)))
+      (other (int sizes.End) 121 (variable 120)
+      (declared (table 118 (variable 98)) (sequence
+      (then (assign (element 97 (number 49)) (number 49))
+      (then (assign (variable 121) (element 117 (number 49)))
+      (then (process.Send (name 84) (element 118 (number 48)) place) processes.End))))))
+
+  abbrev fourth_body : Process
+  fourth_body = declared (declaration.Variables (int (of_size 50)) (one_name 97))
+      (other (int of_any_size) 98 (variable 97) (sequence
+      (then (process.Receive (name 99) (variable 98) place)
+      (then changing
+      (then (process.Send (name 114) (dyadic two.Add (element 97 (number 48)) (element 97 (number 49))) place) processes.End)))))
+
+  abbrev fourth : Source
+  fourth = record {
+    declarations =
+        behind (table 116 (tree.Table (record expressions' { value = pair (number 56) (number 57) }) place))
+        (behind (table 117 (variable 116)) (behind (procedure 119 channels fourth_body) declarations.End));
+  }
+
+  -- the subscript changes, and the name stays that of the element
+  pub stays : given fourth (7 ∷ 0 ∷ 0 ∷ 0 ∷ 0 ∷ 0 ∷ 0 ∷ 0 ∷ [])
+      ≡ Some (Some (record { result = 10 ∷ 0 ∷ 0 ∷ 0 ∷ []; flag = false; traced = 9 ∷ 0 ∷ 0 ∷ 0 ∷ [] }))
+  unfolding meaning_of_text
+  stays = refl
+
+  -- a subscript of 5 is 1, and sets the flag
+  pub is_beyond : given fourth (7 ∷ 0 ∷ 0 ∷ 0 ∷ 5 ∷ 0 ∷ 0 ∷ 0 ∷ [])
+      ≡ Some (Some (record { result = 16 ∷ 0 ∷ 0 ∷ 0 ∷ []; flag = true; traced = 7 ∷ 0 ∷ 0 ∷ 0 ∷ [] }))
+  unfolding meaning_of_text
+  is_beyond = refl

@@ -19,7 +19,7 @@ use Rattle.tpw_occam_meaning.specs.declared.tree.Cases.{Cases}
 use Rattle.tpw_occam_meaning.specs.declared.tree.Cases.TheVariants as cases
 use Rattle.tpw_occam_meaning.specs.Assignments.{assignment, whole_target}
 use Rattle.tpw_occam_meaning.specs.Calls.{called}
-use Rattle.tpw_occam_meaning.specs.Declarations.{value_declared, variables, arrays, naming, retyped, procedure, function}
+use Rattle.tpw_occam_meaning.specs.Declarations.{value_declared, abbreviated, variables, arrays, naming, retyped, procedure, function}
 use Rattle.tpw_occam_meaning.specs.Effects.{Effect, skipped, stopped, followed_by, guarded_by, selected_by, repeated, given}
 use Rattle.tpw_occam_meaning.specs.Messages.{carried, message_of, tracing}
 use Rattle.tpw_occam_meaning.specs.Expressions.{value_of, constant, type_of}
@@ -109,6 +109,7 @@ abbrev mutual
       by_sizes of.sizes (variables of.of list after names d)
       (and_then (shape_of of true names) (λ shape. arrays shape.kind shape.size list after names d))
   declared (declaration.Retypes of name array) after names d = naming name (retyped of array names) after names d
+  declared (declaration.Abbreviation of name e) after names d = abbreviated of name e after names d
   declared (declaration.Procedure' name takes p body) after names d =
       naming name (procedure takes (run body) names) after names d
   declared (declaration.Function of name takes e) after names d = naming name (function of takes e names) after names d

@@ -24,6 +24,12 @@ pub enum Declaration<'a> {
         name: Name<'a>,
         array: Name<'a>,
     },
+    /// `INT x IS a[e]:`, `[]INT row IS a:`: another name.
+    Abbreviation {
+        of: Type<'a>,
+        name: Name<'a>,
+        value: Expression<'a>,
+    },
     /// `PROC p (..)`, its body, and `:`
     Procedure {
         name: Name<'a>,
@@ -160,6 +166,11 @@ impl Drop for Declaration<'_> {
                 of: _type,
                 name: _,
                 array: _,
+            } => {}
+            Declaration::Abbreviation {
+                of: _type,
+                name: _,
+                value: _value,
             } => {}
             Declaration::Procedure {
                 name: _,

@@ -102,8 +102,21 @@ fn function<'a>(
     })
 }
 
-/// A declaration that begins with a type: variables, another name of an array, or a function. `start` is the type's
-/// place.
+/// `INT x IS a[e]`, behind the type, where `IS` stands.
+fn abbreviation<'a>(
+    draft: &mut Draft<'a>,
+    of: TypeNode,
+    parts: &[Part<'a>],
+    at: usize,
+    end: Span,
+) -> Result<DeclarationNode<'a>, Stop> {
+    let (front, spelled) = around(parts, at);
+    let name = name(front, place(behind(parts, at), end))?;
+    let value = value(draft, spelled, end)?;
+    Ok(DeclarationNode::Abbreviation { of, name, value })
+}
+
+/// A declaration that begins with a type: variables, another name, or a function. `start` is the type's place.
 fn typed<'a>(
     draft: &mut Draft<'a>,
     of: TypeNode,
@@ -118,6 +131,9 @@ fn typed<'a>(
         };
     }
     let (parts, end) = up_to_colon(parts, end)?;
+    if let Some(at) = position_of_keyword(parts, Keyword::Is) {
+        return abbreviation(draft, of, parts, at, end);
+    }
     let Some(at) = position_of_keyword(parts, Keyword::Retypes) else {
         let names = names(draft, parts, end)?;
         return Ok(DeclarationNode::Variables { of, names });

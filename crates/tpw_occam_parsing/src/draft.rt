@@ -127,6 +127,11 @@ pub enum DeclarationNode<'a> {
         name: Name<'a>,
         array: Name<'a>,
     },
+    Abbreviation {
+        of: TypeNode,
+        name: Name<'a>,
+        value: ExpressionId,
+    },
     Procedure {
         name: Name<'a>,
         parameters: Stretch,

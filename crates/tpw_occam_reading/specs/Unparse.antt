@@ -36,6 +36,8 @@ declaration_spelled (declaration.Value of name value) =
 declaration_spelled (declaration.Variables of names) = type_spelled of (names_spelled names (Sign symbol.Colon ∷ []))
 declaration_spelled (declaration.Retypes of name array) =
     type_spelled of (named name ∷ Word keyword.Retypes ∷ named array ∷ Sign symbol.Colon ∷ [])
+declaration_spelled (declaration.Abbreviation of name value) =
+    type_spelled of (named name ∷ Word keyword.Is ∷ spelled value (Sign symbol.Colon ∷ []))
 declaration_spelled (declaration.Function of name takes value) =
     of_primitive of ∷ Word keyword.Function ∷ named name ∷ Sign symbol.OpenRound
     ∷ parameters_spelled takes (Sign symbol.CloseRound ∷ Word keyword.Is ∷ spelled value (Sign symbol.Colon ∷ []))

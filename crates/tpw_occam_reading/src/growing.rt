@@ -52,6 +52,19 @@ fn retypes<'a>(of: Result<Type<'a>, AllocError>, name: Name<'a>, array: Name<'a>
     })
 }
 
+fn abbreviation<'a>(
+    of: Result<Type<'a>, AllocError>,
+    name: Name<'a>,
+    value: Made<'a>,
+) -> Declared<'a> {
+    let value = value?;
+    Ok(Declaration::Abbreviation {
+        of: of?,
+        name,
+        value,
+    })
+}
+
 fn procedure<'a>(
     alloc: Global,
     name: Name<'a>,
@@ -98,6 +111,10 @@ fn plain<'a>(alloc: Global, draft: &Draft<'a>, node: DeclarationNode<'a>) -> Dec
         }
         DeclarationNode::Retypes { of, name, array } => {
             retypes(of_type(alloc, draft, of), name, array)
+        }
+        DeclarationNode::Abbreviation { of, name, value: e } => {
+            let of = of_type(alloc, draft, of);
+            abbreviation(of, name, expression(alloc, draft, e, MAX_ROOM))
         }
         DeclarationNode::Function {
             of,

@@ -78,6 +78,16 @@ fn declared(declaration: &Declaration<'_>, items: &[Item<'_>]) -> Option<()>
             let items = taken(Token::Keyword(Keyword::Retypes), items)?;
             last(Token::Symbol(Symbol::Colon), name(*array, items)?)
         }
+        Declaration::Abbreviation {
+            of,
+            name: found,
+            value,
+        } => {
+            let items = of_type(of, items)?;
+            let items = name(*found, items)?;
+            let items = taken(Token::Keyword(Keyword::Is), items)?;
+            last(Token::Symbol(Symbol::Colon), expression(value, items)?)
+        }
         Declaration::Function {
             of,
             name: found,
@@ -199,6 +209,10 @@ fn declaration_in<'l, 'a>(
             Some(rest)
         }
         Declaration::Retypes { .. } => {
+            declared(declaration, items)?;
+            Some(rest)
+        }
+        Declaration::Abbreviation { .. } => {
             declared(declaration, items)?;
             Some(rest)
         }

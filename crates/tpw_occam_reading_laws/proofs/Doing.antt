@@ -9,6 +9,7 @@ use Rattle.tpw_occam_terms.specs.declared.name.Name.{Name}
 use Rattle.tpw_occam_lexing.specs.declared.symbol.Symbol.TheVariants as symbol
 use Rattle.tpw_occam_lexing.specs.Lexemes.{Sign}
 use Rattle.tpw_occam_meaning.specs.declared.expression.Expression.{Expression}
+use Rattle.tpw_occam_meaning.specs.declared.expression.Expression.TheVariants as tree
 use Rattle.tpw_occam_meaning.specs.declared.expression.Expressions.{Expressions}
 use Rattle.tpw_occam_meaning.specs.declared.expression.Expressions.TheVariants.{End, More'}
 use Rattle.tpw_occam_meaning.specs.declared.types.Names as list
@@ -26,15 +27,16 @@ use Rattle.tpw_occam_meaning.specs.declared.tree.Choices.TheVariants as choices
 use Rattle.tpw_occam_meaning.specs.declared.tree.Cases.{Cases}
 use Rattle.tpw_occam_meaning.specs.declared.tree.Cases.TheVariants as cases
 use Rattle.tpw_occam_meaning.specs.Assignments.{assignment, whole_target}
-use Rattle.tpw_occam_meaning.specs.Calls.{called}
-use Rattle.tpw_occam_meaning.specs.Declarations.{value_declared, variables, arrays, array_view, naming, retyped, procedure, function, is_table, table_entry, type_of_value, may_be_declared}
+use Rattle.tpw_occam_meaning.specs.Calls.{lent, referred, called}
+use Rattle.tpw_occam_meaning.specs.Declarations.{value_declared, abbreviated, variables, arrays, array_view, naming, retyped, procedure, function, is_array, array_entry, table_entry, type_of_value, may_be_declared}
 use Rattle.tpw_occam_meaning.specs.Effects.{Effect, within_variable, within_array}
 use Rattle.tpw_occam_meaning.specs.Expressions.{value_of, type_of, constant}
 use Rattle.tpw_occam_meaning.specs.Maybe.{and_then, where_true}
 use Rattle.tpw_occam_meaning.specs.Messages.{carried, message_of}
-use Rattle.tpw_occam_meaning.specs.Names.{Word, Kept, Channel, Protocol, Traces, Fixed, Variable, Whole, Form, Entry, Is, Procedure, Function, Names, found, with_name, taking}
+use Rattle.tpw_occam_meaning.specs.Names.{Word, Kept, Channel, Protocol, Traces, Place, Fixed, Variable, Element, Whole, Form, Entry, Is, Procedure, Function, Names, found, with_name, taking}
 use Rattle.tpw_occam_meaning.specs.Processes.{run, all_run, first_true, selected, otherwise, declared, all_constants, are_distinct, constants_of, elses}
 use Rattle.tpw_occam_meaning.specs.Types.{shape_of, forms_of, is_value, bytes_of}
+use Rattle.tpw_occam_meaning.specs.Values.{element_type}
 use Rattle.tpw_occam_reading.specs.Spelled.{spelled}
 use Rattle.tpw_occam_reading_laws.proofs.Plain.{plain, all_plain, name_of}
 use Rattle.tpw_occam_reading_laws.proofs.PlainTypes.{plain_type, plain_type_if, plain_names, plain_parameters}
@@ -43,11 +45,11 @@ use Rattle.tpw_occam_reading_laws.proofs.Wellformed.{value_needs}
 use Rattle.tpw_occam_reading_laws.proofs.Order.{Below, below_refl, below_eq, below_then, found_below, NamesBelow}
 use Rattle.tpw_occam_reading_laws.proofs.Meanings.{value_below, type_same, constant_below}
 use Rattle.tpw_occam_reading_laws.proofs.TypeMeanings.{shape_below, forms_below}
-use Rattle.tpw_occam_reading_laws.proofs.Statements.{assignment_below, called_below, carried_same, message_below, is_table_same, table_below, type_of_value_below, retyped_below}
+use Rattle.tpw_occam_reading_laws.proofs.Statements.{assignment_below, called_below, carried_same, message_below, is_array_same, referred_below, table_below, array_entry_below, type_of_value_below, retyped_below}
 use Rattle.tpw_occam_reading_laws.proofs.Sameness.{SameDeclaration, Same, SameSteps, SameChoices, SameCases}
 use Rattle.tpw_occam_reading_laws.proofs.Faultless.{run_needs}
 use Rattle.tpw_occam_reading_laws.proofs.ProcessReadings.{one_process}
-use Rattle.tpw_occam_reading_laws.proofs.Agreement.{Agree, agree_refl, agree_left_none, agree_between, agree_then, agree_any, agree_where, agree_if, agree_given, agree_by_sizes}
+use Rattle.tpw_occam_reading_laws.proofs.Agreement.{Agree, agree_refl, agree_left_none, agree_between, agree_below, agree_as, agree_then, agree_any, agree_where, agree_if, agree_given, agree_by_sizes}
 use Rattle.tpw_occam_reading_laws.proofs.Agreement.{Joined, joined_same, joined_procedure, joined_function, WithNames, agree_taking}
 
 -- ---- expressions, types, names of channels
@@ -99,7 +101,7 @@ agree_value_declared : (s t : Option written.Type) → plain_type_if s ≡ plain
     → (e f : Expression) → plain e ≡ plain f → (after other : Names → ℕ → Effect) → WithNames after other
     → (m n : Names) → Joined m n → (d : ℕ) → Agree (value_declared s a e after m d) (value_declared t b f other n d)
 agree_value_declared s t k a b l e f h after other w m n j d =
-    agree_if (is_table e) (is_table f) (sym (is_table_same e) ∙ ap is_table h ∙ is_table_same f)
+    agree_if (is_array s e) (is_array t f) (sym (is_array_same s e) ∙ (λ i. is_array (k i) (h i)) ∙ is_array_same t f)
     (agree_naming (table_entry s e m) (table_entry t f n)
     (agree_between (table_below s e m j.upper j.left) (table_below t f n j.upper j.right) (λ i. table_entry (k i) (h i) j.upper))
     a b l after other w m n j d)
@@ -107,6 +109,37 @@ agree_value_declared s t k a b l e f h after other w m n j d =
     (λ of. agree_then (agree_value e f h of m n d j) (λ v. agree_where (may_be_declared v) (may_be_declared v)
     (agree_given d v _ _ (λ word x. w.at (with_name a (Is (Fixed of word)) m) (with_name b (Is (Fixed of word)) n)
     (joined_same j a.text.now b.text.now l (Is (Fixed of word))) x)))))
+
+-- .. behind another name for a variable or an element
+one_referred : (e : Expression) (of : Primitive) (m : Names) (d : ℕ) (next other : Place → ℕ → Effect)
+    → ((place : Place) (k : ℕ) → Agree (next place k) (other place k)) → Agree (referred e of m d next) (referred e of m d other)
+one_referred (tree.Name name) of m d next other h = agree_then (agree_refl {o = lent of (found name m)}) (λ place. h place d)
+one_referred (tree.Element' p a q i span) of m d next other h =
+    agree_then agree_refl (λ view. agree_then agree_refl (λ a. agree_as of (element_type view.kind)
+    (agree_then agree_refl (λ i. agree_given d _ _ _ (λ word k. h (Element view word) k)))))
+one_referred (tree.Bracketed' p e span) of m d next other h = one_referred e of m d next other h
+one_referred anything of m d next other h = agree_left_none
+
+agree_referred : (p q : Primitive) → p ≡ q → (e f : Expression) → plain e ≡ plain f → (m n : Names) → Joined m n → (d : ℕ)
+    → (next other : Place → ℕ → Effect) → ((place : Place) (k : ℕ) → Agree (next place k) (other place k))
+    → Agree (referred e p m d next) (referred f q n d other)
+agree_referred p q s e f h m n j d next other a =
+    subst (λ z. Agree (referred e p m d next) (referred f z n d other)) s
+    (agree_below (referred_below e p m j.upper d next next j.left (λ place k. below_refl))
+    (referred_below f p n j.upper d other other j.right (λ place k. below_refl))
+    (subst (λ z. Agree (referred (plain e) p j.upper d next) (referred z p j.upper d other)) h
+    (one_referred (plain e) p j.upper d next other a)))
+
+agree_abbreviated : (s t : written.Type) → plain_type s ≡ plain_type t → (a b : Name) → a.text.now ≡ b.text.now
+    → (e f : Expression) → plain e ≡ plain f → (after other : Names → ℕ → Effect) → WithNames after other
+    → (m n : Names) → Joined m n → (d : ℕ) → Agree (abbreviated s a e after m d) (abbreviated t b f other n d)
+agree_abbreviated s t k a b l e f h after other w m n j d =
+    agree_by_sizes s.sizes t.sizes _ _ _ _ (ap (λ z. z.sizes) k)
+    (agree_referred s.of t.of (ap (λ z. z.of) k) e f h m n j d _ _ (λ place x.
+    w.at (with_name a (Is place) m) (with_name b (Is place) n) (joined_same j a.text.now b.text.now l (Is place)) x))
+    (agree_naming (array_entry (shape_of s true m) e m) (array_entry (shape_of t true n) f n)
+    (agree_between (array_entry_below s e m j.upper j.left) (array_entry_below t f n j.upper j.right)
+    (λ i. array_entry (shape_of (k i) true j.upper) (h i) j.upper)) a b l after other w m n j d)
 
 variables_plain : (of : Primitive) (names : list.Names) (after : Names → ℕ → Effect) (m : Names) (d : ℕ)
     → variables of (plain_names names) after m d ≡ variables of names after m d
@@ -231,6 +264,8 @@ agree_declared (declaration.Retypes s a x) (declaration.Retypes t b y) h r after
     agree_naming (retyped s x m) (retyped t y n)
     (agree_between (retyped_below s x m j.upper j.left) (retyped_below t y n j.upper j.right) (λ i. retyped (h.0 i) (name_of (h.2 i)) j.upper))
     a b h.1 after other w m n j d
+agree_declared (declaration.Abbreviation s a e) (declaration.Abbreviation t b f) h r after other w m n j d =
+    agree_abbreviated s t h.0 a b h.1 e f h.2 after other w m n j d
 agree_declared (declaration.Procedure' x a p body) (declaration.Procedure' y b q instead) h r after other w m n j d =
     agree_procedure a b h.1 (run body) (run instead) r x y h.0 after other w m n j d
 agree_declared (declaration.Function p x a e) (declaration.Function q y b f) h r after other w m n j d =

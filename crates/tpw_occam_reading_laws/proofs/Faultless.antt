@@ -23,7 +23,7 @@ use Rattle.tpw_occam_meaning.specs.declared.tree.Choices.{Choices}
 use Rattle.tpw_occam_meaning.specs.declared.tree.Choices.TheVariants as choices
 use Rattle.tpw_occam_meaning.specs.declared.tree.Cases.{Cases}
 use Rattle.tpw_occam_meaning.specs.declared.tree.Cases.TheVariants as cases
-use Rattle.tpw_occam_meaning.specs.Declarations.{value_declared, variables, arrays, naming, is_table, table_entry, type_of_value, may_be_declared}
+use Rattle.tpw_occam_meaning.specs.Declarations.{value_declared, abbreviated, variables, arrays, naming, is_array, table_entry, type_of_value, may_be_declared}
 use Rattle.tpw_occam_meaning.specs.Effects.{Effect, given}
 use Rattle.tpw_occam_meaning.specs.Expressions.{type_of, value_of}
 use Rattle.tpw_occam_meaning.specs.Maybe.{and_then, where_true}
@@ -32,10 +32,10 @@ use Rattle.tpw_occam_meaning.specs.Names.{Word, Traces, Fixed, Is, Names, found,
 use Rattle.tpw_occam_meaning.specs.Processes.{run, all_run, first_true, selected, otherwise, declared, all_constants, constants_of, elses}
 use Rattle.tpw_occam_meaning.specs.Types.{by_sizes}
 use Rattle.tpw_occam_reading_laws.proofs.Plain.{IsWhole, AreWhole}
-use Rattle.tpw_occam_reading_laws.proofs.PlainTypes.{IsTypeIf, AreSizes}
+use Rattle.tpw_occam_reading_laws.proofs.PlainTypes.{IsType, IsTypeIf, AreSizes}
 use Rattle.tpw_occam_reading_laws.proofs.Wellformed.{Needs, needs_none, needs_fact, needs_map, needs_both, needs_first, needs_then, needs_where, value_needs}
 use Rattle.tpw_occam_reading_laws.proofs.TypeMeanings.{constant_needs, shape_needs, forms_needs}
-use Rattle.tpw_occam_reading_laws.proofs.Statements.{assignment_needs, given_needs, called_needs, message_needs, table_needs, type_of_value_needs, retyped_needs}
+use Rattle.tpw_occam_reading_laws.proofs.Statements.{assignment_needs, given_needs, referred_needs, called_needs, message_needs, table_needs, array_entry_needs, type_of_value_needs, retyped_needs}
 use Rattle.tpw_occam_reading_laws.proofs.Sameness.{DeclarationWhole, ProcessWhole, StepsWhole, ChoicesWhole, CasesWhole, ConstantsWhole, ElseWhole}
 
 -- ---- declarations
@@ -59,7 +59,7 @@ by_sizes_both (sizes.Of' e p others) n m = m
 
 value_declared_needs : {F : Type 0} (of : Option written.Type) (name : Name) (e : Expression) (after : Names → ℕ → Effect) (m : Names) (d : ℕ)
     → ((m : Names) (d : ℕ) → Needs F (after m d)) → Needs ((IsTypeIf of × IsWhole e) × F) (value_declared of name e after m d)
-value_declared_needs {F} of name e after m d h = by (is_table e)
+value_declared_needs {F} of name e after m d h = by (is_array of e)
   where
     by : (b : Bool) → Needs ((IsTypeIf of × IsWhole e) × F)
         (if b then naming name (table_entry of e m) after m d
@@ -70,6 +70,13 @@ value_declared_needs {F} of name e after m d h = by (is_table e)
         needs_map (λ w. ((w.0, w.1.0), w.1.1)) (needs_both (type_of_value_needs of e m) (λ found_type. needs_both (value_needs e found_type m d) (λ v.
         needs_where (may_be_declared v) (given_needs d v _ (λ word n. h (with_name name (Is (Fixed found_type word)) m) n)))))
 
+abbreviated_needs : {F : Type 0} (of : written.Type) (name : Name) (e : Expression) (after : Names → ℕ → Effect) (m : Names) (d : ℕ)
+    → ((m : Names) (d : ℕ) → Needs F (after m d)) → Needs ((IsType of × IsWhole e) × F) (abbreviated of name e after m d)
+abbreviated_needs of name e after m d h =
+    needs_map (λ w. ((w.0, w.1.0), w.1.1))
+    (by_sizes_both of.sizes (referred_needs e of.of m d _ (λ place n. h (with_name name (Is place) m) n))
+    (needs_map (λ w. (w.0.0, (w.0.1, w.1))) (needs_both (array_entry_needs of e m) (λ entry. h (with_name name entry m) d))))
+
 pub declared_needs : {F : Type 0} (x : Declaration) (after : Names → ℕ → Effect) (m : Names) (d : ℕ)
     → ((m : Names) (d : ℕ) → Needs F (after m d)) → Needs (DeclarationWhole x × F) (declared x after m d)
 declared_needs (declaration.Value of name e) after m d h = value_declared_needs of name e after m d h
@@ -78,6 +85,7 @@ declared_needs (declaration.Variables of names) after m d h =
     (needs_both (shape_needs of true m) (λ shape. arrays_needs shape.kind shape.size names after m d h))
 declared_needs (declaration.Retypes of name array) after m d h =
     needs_both (retyped_needs of array m) (λ entry. h (with_name name entry m) d)
+declared_needs (declaration.Abbreviation of name e) after m d h = abbreviated_needs of name e after m d h
 declared_needs (declaration.Procedure' name takes p body) after m d h =
     needs_both (needs_first _ (forms_needs takes m)) (λ entry. h (with_name name entry m) d)
 declared_needs (declaration.Function of name takes e) after m d h =

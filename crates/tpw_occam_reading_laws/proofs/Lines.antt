@@ -129,6 +129,7 @@ declaration_sort : (x : Declaration) → DeclarationWhole x → (d : ℕ) (more 
 declaration_sort (declaration.Value of name value) w d more = refl
 declaration_sort (declaration.Variables of names) w d more = sizes_sort of.sizes of.of _
 declaration_sort (declaration.Retypes of name array) w d more = sizes_sort of.sizes of.of _
+declaration_sort (declaration.Abbreviation of name value) w d more = sizes_sort of.sizes of.of _
 declaration_sort (declaration.Procedure' name takes p body) w d more = refl
 declaration_sort (declaration.Function of name takes value) w d more = sizes_sort sizes.End of _
 declaration_sort (declaration.Wrong names) w d more = absurd w

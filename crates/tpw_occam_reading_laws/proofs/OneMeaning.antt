@@ -123,6 +123,7 @@ has_line : (x : Declaration) → DeclarationWhole x → (d : ℕ) (more : List W
 has_line (declaration.Value of name value) w d more h = cc
 has_line (declaration.Variables of names) w d more h = cc
 has_line (declaration.Retypes of name array) w d more h = cc
+has_line (declaration.Abbreviation of name value) w d more h = cc
 has_line (declaration.Procedure' name takes p body) w d more h = cc
 has_line (declaration.Function of name takes value) w d more h = cc
 has_line (declaration.Wrong names) w d more h = absurd w

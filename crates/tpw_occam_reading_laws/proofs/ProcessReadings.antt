@@ -41,6 +41,7 @@ abbrev first_of : Declaration → First
 first_of (declaration.Value of name value) = ByVal
 first_of (declaration.Variables of names) = ByType
 first_of (declaration.Retypes of name array) = ByType
+first_of (declaration.Abbreviation of name value) = ByType
 first_of (declaration.Procedure' name takes p body) = ByOther
 first_of (declaration.Function of name takes value) = ByType
 first_of (declaration.Wrong names) = ByOther
@@ -49,6 +50,7 @@ declaration_first : (x : Declaration) → DeclarationWhole x → (d : ℕ) (more
 declaration_first (declaration.Value of name value) w d more = refl
 declaration_first (declaration.Variables of names) w d more = type_first of _
 declaration_first (declaration.Retypes of name array) w d more = type_first of _
+declaration_first (declaration.Abbreviation of name value) w d more = type_first of _
 declaration_first (declaration.Procedure' name takes p body) w d more = refl
 declaration_first (declaration.Function of name takes value) w d more = type_first (record { sizes = sizes.End; of = of }) _
 declaration_first (declaration.Wrong names) w d more = absurd w
@@ -78,6 +80,17 @@ names_no_function (names.More' n p others) rest h = cc
 
 retypes_no_function : (bytes : List ℕ) (rest others : List Lexeme) → (lexeme.Name bytes ∷ rest) ≡ (Word keyword.Function ∷ others) → ⊥
 retypes_no_function bytes rest others h = cc
+
+-- names in front of a colon are no name in front of IS, and RETYPES is not IS
+names_no_is : (a : list.Names) (bytes : List ℕ) (rest : List Lexeme)
+    → names_spelled a (Sign symbol.Colon ∷ []) ≡ (lexeme.Name bytes ∷ Word keyword.Is ∷ rest) → ⊥
+names_no_is names.End bytes rest h = cc
+names_no_is (names.More' n p names.End) bytes rest h = cc
+names_no_is (names.More' n p (names.More' m q others)) bytes rest h = cc
+
+retypes_no_is : (bytes other : List ℕ) (rest others : List Lexeme)
+    → (lexeme.Name bytes ∷ Word keyword.Retypes ∷ rest) ≡ (lexeme.Name other ∷ Word keyword.Is ∷ others) → ⊥
+retypes_no_is bytes other rest others h = cc
 
 pub record OneDeclaration (x y : Declaration) (more others : List WrittenLine) : Type 0 where
   pub same : SameDeclaration x y
@@ -127,6 +140,22 @@ one_declaration (declaration.Retypes a m r) (declaration.Retypes b n s) v w d mo
     record { same = (t.0, one_bytes t.1, one_bytes (same_tail (same_tail t.1))); behind = behinds h }
 one_declaration (declaration.Retypes a m r) (declaration.Function p n t f) v w d more others h =
     absurd (retypes_no_function m.text.now _ _ ((one_type a (record { sizes = sizes.End; of = p }) v tt _ _ (heads h)).1))
+one_declaration (declaration.Abbreviation a m e) (declaration.Abbreviation b n f) v w d more others h =
+    let t = one_type a b v.0 w.0 _ _ (heads h) in
+    let x = one_expression e f v.1 w.1 (Sign symbol.Colon ∷ []) (Sign symbol.Colon ∷ []) tt tt (same_tail (same_tail t.1)) in
+    record { same = (t.0, one_bytes t.1, x.0); behind = behinds h }
+one_declaration (declaration.Abbreviation a m e) (declaration.Variables b l) v w d more others h =
+    absurd (names_no_is l m.text.now _ (sym ((one_type a b v.0 w _ _ (heads h)).1)))
+one_declaration (declaration.Variables a k) (declaration.Abbreviation b n f) v w d more others h =
+    absurd (names_no_is k n.text.now _ ((one_type a b v w.0 _ _ (heads h)).1))
+one_declaration (declaration.Abbreviation a m e) (declaration.Retypes b n s) v w d more others h =
+    absurd (retypes_no_is n.text.now m.text.now _ _ (sym ((one_type a b v.0 w _ _ (heads h)).1)))
+one_declaration (declaration.Retypes a m r) (declaration.Abbreviation b n f) v w d more others h =
+    absurd (retypes_no_is m.text.now n.text.now _ _ ((one_type a b v w.0 _ _ (heads h)).1))
+one_declaration (declaration.Abbreviation a m e) (declaration.Function p n t f) v w d more others h =
+    absurd (retypes_no_function m.text.now _ _ ((one_type a (record { sizes = sizes.End; of = p }) v.0 tt _ _ (heads h)).1))
+one_declaration (declaration.Function p m a e) (declaration.Abbreviation b n f) v w d more others h =
+    absurd (retypes_no_function n.text.now _ _ (sym ((one_type (record { sizes = sizes.End; of = p }) b tt w.0 _ _ (heads h)).1)))
 one_declaration (declaration.Procedure' m a p x) (declaration.Procedure' n b q y) v w d more others h =
     let t = one_parameters a b v w [] [] (same_tail (same_tail (same_tail (heads h)))) in
     record {

@@ -27,6 +27,7 @@ abbrev pub DeclarationWhole : Declaration → Type 0
 DeclarationWhole (declaration.Value of name value) = IsTypeIf of × IsWhole value
 DeclarationWhole (declaration.Variables of names) = IsType of
 DeclarationWhole (declaration.Retypes of name array) = IsType of
+DeclarationWhole (declaration.Abbreviation of name value) = IsType of × IsWhole value
 DeclarationWhole (declaration.Procedure' name takes p body) = AreParameters takes
 DeclarationWhole (declaration.Function of name takes value) = AreParameters takes
 DeclarationWhole (declaration.Wrong names) = ⊥
@@ -93,6 +94,8 @@ SameDeclaration (declaration.Variables of a) (declaration.Variables other_of b) 
     (plain_type of ≡ plain_type other_of) × (plain_names a ≡ plain_names b)
 SameDeclaration (declaration.Retypes of m a) (declaration.Retypes other_of n b) =
     (plain_type of ≡ plain_type other_of) × (m.text.now ≡ n.text.now) × (a.text.now ≡ b.text.now)
+SameDeclaration (declaration.Abbreviation of m e) (declaration.Abbreviation other_of n f) =
+    (plain_type of ≡ plain_type other_of) × (m.text.now ≡ n.text.now) × (plain e ≡ plain f)
 SameDeclaration (declaration.Procedure' m a p body) (declaration.Procedure' n b q other) =
     (m.text.now ≡ n.text.now) × (plain_parameters a ≡ plain_parameters b) × SameLines body other
 SameDeclaration (declaration.Function of m a e) (declaration.Function other_of n b f) =

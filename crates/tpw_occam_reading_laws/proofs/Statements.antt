@@ -7,10 +7,12 @@ use Rattle.tpw_occam_meaning.specs.declared.expression.Expression.{Expression}
 use Rattle.tpw_occam_meaning.specs.declared.expression.Expression.TheVariants as tree
 use Rattle.tpw_occam_meaning.specs.declared.expression.Expressions.{Expressions}
 use Rattle.tpw_occam_meaning.specs.declared.expression.Expressions.TheVariants.{End, More'}
+use Rattle.tpw_occam_meaning.specs.declared.types.Sizes.{Sizes}
+use Rattle.tpw_occam_meaning.specs.declared.types.Sizes.TheVariants as sizes
 use Rattle.tpw_occam_meaning.specs.declared.types.Type as written
 use Rattle.tpw_occam_meaning.specs.Assignments.{target_in, target_of, written_array, all_assigned, whole_target, copied, assignment}
 use Rattle.tpw_occam_meaning.specs.Calls.{lent, referred, same_protocol, traces_of, entered, called}
-use Rattle.tpw_occam_meaning.specs.Declarations.{is_table, type_in_table, shape_of_table, type_of_value, table_entry, retyped}
+use Rattle.tpw_occam_meaning.specs.Declarations.{is_table, is_array, type_in_table, shape_of_table, type_of_value, array_entry, table_entry, retyped}
 use Rattle.tpw_occam_meaning.specs.Effects.{Effect, given}
 use Rattle.tpw_occam_meaning.specs.Expressions.{view_in}
 use Rattle.tpw_occam_meaning.specs.Maybe.{and_then, where_true}
@@ -18,9 +20,10 @@ use Rattle.tpw_occam_meaning.specs.Messages.{message_of, carried, received}
 use Rattle.tpw_occam_meaning.specs.Names.{Word, Constant, Kept, View, Place, Form, OfValue, OfVariable, OfArray, OfChannel, Protocol, OneWord, Several, Channel, Traces, Fixed, Whole, Carrier, Element}
 use Rattle.tpw_occam_meaning.specs.Names.{Body, behind, Entry, Is, Procedure, Function, Nothing, Names, found}
 use Rattle.tpw_occam_meaning.specs.States.{State}
+use Rattle.tpw_occam_meaning.specs.Types.{shape_of, by_sizes}
 use Rattle.tpw_occam_meaning.specs.Values.{Value, Known, Varying, element_type}
 use Rattle.tpw_occam_reading_laws.proofs.Plain.{plain, all_plain, name_of, is_name, IsWhole, AreWhole}
-use Rattle.tpw_occam_reading_laws.proofs.PlainTypes.{plain_name_of, plain_type, plain_type_if, IsType, IsTypeIf}
+use Rattle.tpw_occam_reading_laws.proofs.PlainTypes.{plain_name_of, plain_sizes, plain_type, plain_type_if, IsType, IsTypeIf}
 use Rattle.tpw_occam_reading_laws.proofs.Order.{Below, below_refl, below_none, below_eq, below_then, below_where, below_as, BodyBelow, behind_below, EntryBelow, NamesBelow, found_below, same_lookup}
 use Rattle.tpw_occam_reading_laws.proofs.Wellformed.{Needs, needs_none, needs_fact, needs_map, needs_both, needs_first, needs_then, needs_where, needs_as, named_needs, value_needs, array_needs}
 use Rattle.tpw_occam_reading_laws.proofs.Meanings.{named_same, type_same, value_below, array_below}
@@ -134,7 +137,7 @@ given_below d (Known word false) next other h = h (Constant word) d
 given_below d (Known word true) next other h = below_then (h (Kept d) (d + 1)) (λ f. below_refl)
 given_below d (Varying f) next other h = below_then (h (Kept d) (d + 1)) (λ f. below_refl)
 
-referred_needs : {F : Type 0} (e : Expression) (of : Primitive) (names : Names) (d : ℕ) (next : Place → ℕ → Effect)
+pub referred_needs : {F : Type 0} (e : Expression) (of : Primitive) (names : Names) (d : ℕ) (next : Place → ℕ → Effect)
     → ((place : Place) (n : ℕ) → Needs F (next place n)) → Needs (IsWhole e × F) (referred e of names d next)
 referred_needs (tree.Name name) of names d next h = needs_then _ (λ place. needs_map (λ f. (tt, f)) (h place d))
 referred_needs (tree.Element' p a q i span) of names d next h =
@@ -144,7 +147,7 @@ referred_needs (tree.Element' p a q i span) of names d next h =
 referred_needs (tree.Bracketed' p e span) of names d next h = referred_needs e of names d next h
 referred_needs other of names d next h = needs_none
 
-referred_below : (e : Expression) (of : Primitive) (m n : Names) (d : ℕ) (next other : Place → ℕ → Effect) → NamesBelow m n
+pub referred_below : (e : Expression) (of : Primitive) (m n : Names) (d : ℕ) (next other : Place → ℕ → Effect) → NamesBelow m n
     → ((place : Place) (k : ℕ) → Below (next place k) (other place k)) → Below (referred e of m d next) (referred (plain e) of n d other)
 referred_below (tree.Name name) of m n d next other h b =
     below_then (below_eq (same_lookup (lent of) (λ forms b c. refl) (λ of forms b c. refl) (found name m) (found (name_of name.text.now) n) (found_below name m n h)))
@@ -251,6 +254,15 @@ is_table_same (tree.Text spelled span) = refl
 is_table_same (tree.Bracketed' p e span) = is_table_same e
 is_table_same other = refl
 
+sized_same : (s : Sizes) → by_sizes (plain_sizes s) false true ≡ by_sizes s false true
+sized_same sizes.End = refl
+sized_same (sizes.Open' p others) = refl
+sized_same (sizes.Of' e p others) = refl
+
+pub is_array_same : (of : Option written.Type) (e : Expression) → is_array (plain_type_if of) (plain e) ≡ is_array of e
+is_array_same None e = is_table_same e
+is_array_same (Some of) e = sized_same of.sizes
+
 type_in_table_same : (e : Expression) (m n : Names) → NamesBelow m n → type_in_table (plain e) n ≡ type_in_table e m
 type_in_table_same (tree.Table' p End span) m n h = refl
 type_in_table_same (tree.Table' p (More' q e r more) span) m n h = type_same e m n h
@@ -272,6 +284,14 @@ table_needs of e names = needs_both (shape_of_table_needs of e names) (λ shape.
 pub table_below : (of : Option written.Type) (e : Expression) (m n : Names) → NamesBelow m n
     → Below (table_entry of e m) (table_entry (plain_type_if of) (plain e) n)
 table_below of e m n h = below_then (shape_of_table_below of e m n h) (λ shape. below_then (array_below e shape m n h) (λ view. below_refl))
+
+pub array_entry_needs : (of : written.Type) (e : Expression) (names : Names)
+    → Needs (IsType of × IsWhole e) (array_entry (shape_of of true names) e names)
+array_entry_needs of e names = needs_both (shape_needs of true names) (λ shape. needs_first _ (array_needs e shape names))
+
+pub array_entry_below : (of : written.Type) (e : Expression) (m n : Names) → NamesBelow m n
+    → Below (array_entry (shape_of of true m) e m) (array_entry (shape_of (plain_type of) true n) (plain e) n)
+array_entry_below of e m n h = below_then (shape_below of true m n h) (λ shape. below_then (array_below e shape m n h) (λ view. below_refl))
 
 pub type_of_value_needs : (of : Option written.Type) (e : Expression) (names : Names) → Needs (IsTypeIf of) (type_of_value of e names)
 type_of_value_needs None e names = needs_fact tt

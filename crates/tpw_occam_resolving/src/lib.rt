@@ -19,8 +19,10 @@ mod types;
 mod values;
 
 pub use arrays::{Array, view};
+pub use calls::{Lent, Place, meaning_of, referred};
 pub use declarations::{
-    are_values, forms_of, is_table, may_be_declared, retyped, table_declared, type_of_value,
+    are_values, array_abbreviated, forms_of, is_array, may_be_declared, retyped, table_declared,
+    type_of_value,
 };
 pub use depths::{depth_behind, next, word_passed};
 pub use expressions::{array, value};

@@ -16,7 +16,8 @@ use crate::arrays::{Array, view};
 use crate::calls::{meaning_of, referred, same_protocol, traces_of};
 use crate::cases::{all_constants, are_distinct, constants_of, has_else, selection};
 use crate::declarations::{
-    are_values, forms_of, is_table, may_be_declared, retyped, table_declared, type_of_value,
+    are_values, array_abbreviated, forms_of, is_array, may_be_declared, retyped, table_declared,
+    type_of_value,
 };
 use crate::depths::{depth_behind, next, word_passed};
 use crate::expressions::{array, value};
@@ -223,7 +224,7 @@ fn declared<'t, 'a>(
     }
     match declaration {
         Declaration::Value { of, name, value: e } => {
-            if is_table(e) {
+            if is_array(of, e) {
                 let table = table_declared(alloc, scope, of, e, room)?;
                 return array_declared(alloc, scope, d, *name, &table, rest, room - 1);
             }
@@ -250,6 +251,13 @@ fn declared<'t, 'a>(
         Declaration::Retypes { of, name, array } => {
             let seen = retyped(alloc, scope, of, *array, room)?;
             array_declared(alloc, scope, d, *name, &seen, rest, room - 1)
+        }
+        Declaration::Abbreviation { of, name, value: e } => {
+            if is_single(&of.sizes) {
+                return place_declared(alloc, scope, d, of.of, *name, e, rest, room - 1);
+            }
+            let named = array_abbreviated(alloc, scope, of, e, room)?;
+            array_declared(alloc, scope, d, *name, &named, rest, room - 1)
         }
         Declaration::Procedure {
             name,
@@ -296,7 +304,7 @@ fn declared<'t, 'a>(
     }
 }
 
-/// The process behind another name for an array, or one for a table.
+/// The process behind another name for an array or a table.
 #[cycle(process)]
 fn array_declared<'t, 'a>(
     alloc: Global,
@@ -315,6 +323,31 @@ fn array_declared<'t, 'a>(
     }
     let within = Scope::Within(name.text, Meaning::Whole(view(&*array)), &*scope);
     process(alloc, &within, d, rest, room - 1)
+}
+
+/// The process behind another name for a variable or an element, whose subscript is worked out there.
+#[cycle(process)]
+fn place_declared<'t, 'a>(
+    alloc: Global,
+    scope: &Scope<'_, 't, 'a>,
+    d: usize,
+    of: Primitive,
+    name: Name<'a>,
+    e: &Expression<'a>,
+    rest: &'t Tree<'a>,
+    room: u32,
+) -> Result<Process, Fault>
+    ensures { IfOk result (λ made. effect_of made ≡ calls.referred e.now of (names_of scope.now) d
+        (λ place n. text.run rest.now (with_name name.entry (Is place) (names_of scope.now)) n)) }
+{
+    if room == 0 {
+        return Err(Fault::Deep);
+    }
+    let lent = referred(alloc, scope, d, e, of, room)?;
+    let n = depth_behind(d, &lent.subscript)?;
+    let within = Scope::Within(name.text, meaning_of(&lent), &*scope);
+    let body = process(alloc, &within, n, rest, room - 1)?;
+    Ok(Process::passed_to(alloc, None, d, lent.subscript, body)?)
 }
 
 /// The process behind the declaration of a PROC.

@@ -30,6 +30,9 @@ decreases-function_declared l = l.room
 abbrev pub decreases-otherwise : goal.decreases-otherwise
 decreases-otherwise l = l.room
 
+abbrev pub decreases-place_declared : goal.decreases-place_declared
+decreases-place_declared l = l.room
+
 abbrev pub decreases-procedure_declared : goal.decreases-procedure_declared
 decreases-procedure_declared l = l.room
 

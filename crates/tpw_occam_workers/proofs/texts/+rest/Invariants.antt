@@ -21,6 +21,9 @@ decreases-declared l = l.room
 abbrev pub decreases-function_declared : goal.decreases-function_declared
 decreases-function_declared l = l.room
 
+abbrev pub decreases-place_declared : goal.decreases-place_declared
+decreases-place_declared l = l.room
+
 abbrev pub decreases-procedure_declared : goal.decreases-procedure_declared
 decreases-procedure_declared l = l.room
 
