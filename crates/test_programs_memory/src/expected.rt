@@ -39,7 +39,7 @@ pub struct Case<'a> {
 }
 
 /// The words of a command line are these at most.
-pub const CASES: [Case<'_>; 10] = [
+pub const CASES: [Case<'_>; 11] = [
     Case {
         words: &["tpw", "asm", "--line", "fib"],
         input: Text::Lines(FIBONACCI_TEXT),
@@ -97,6 +97,12 @@ pub const CASES: [Case<'_>; 10] = [
         status: 0,
     },
     Case {
+        words: &["tpw", "eval", "--statements", "--words", "41"],
+        input: Text::Lines(RISE),
+        expected: Text::Lines(RISE_STATEMENTS),
+        status: 0,
+    },
+    Case {
         words: &[
             "tpw",
             "run",
@@ -125,6 +131,16 @@ PROC rise (CHAN OF INT packet, CHAN OF INT result)
       x := x + i
     result ! x
 :
+";
+
+const RISE_STATEMENTS: &str = "\
+line 4: x=41  ; packet ? x
+line 5: i=0  ; SEQ i = 0 FOR 2
+line 6: x=41  ; x := x + i
+line 5: i=1  ; SEQ i = 0 FOR 2
+line 6: x=42  ; x := x + i
+line 7: result 2a000000  ; result ! x
+0  flag 0  42
 ";
 
 const RISE_IN_ASSEMBLY: &str = "\

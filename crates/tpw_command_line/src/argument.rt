@@ -27,6 +27,8 @@ pub(crate) enum Kind {
     Texts(&'static str),
     /// By an option with a number.
     Number(&'static str),
+    /// By an option with a number, which is refused without another option.
+    NumberRequiring(&'static str, &'static str),
     /// By an option with a number from 1 to 64.
     Members(&'static str),
 }
@@ -58,6 +60,9 @@ fn with_kind<'a>(arg: Arg<'a>, kind: &Kind) -> Result<Arg<'a>, Error> {
         Kind::FlagConflicting(others) => flag(arg).conflicts_with_all(*others)?,
         Kind::Texts(value) => repeated(arg, *value),
         Kind::Number(value) => valued(arg, *value).value_parser(value_parser!(usize)),
+        Kind::NumberRequiring(value, other) => valued(arg, *value)
+            .value_parser(value_parser!(usize))
+            .requires_arg(*other)?,
         Kind::Members(value) => {
             valued(arg, *value).value_parser(value_parser!(usize).range(1..=64))
         }

@@ -94,15 +94,20 @@ fn expecting(alloc: Global, matches: &ArgMatches<'_>) -> Result<Option<Expecting
     }
 }
 
+/// How results are written.
+pub fn style_given(matches: &ArgMatches<'_>) -> Style {
+    Style {
+        hexadecimal: matches.get_flag(HEX),
+        trace: matches.get_flag(TRACE),
+    }
+}
+
 /// The packets that are asked for, and how what is made of them is shown.
 pub fn output_options(alloc: Global, matches: &ArgMatches<'_>) -> Result<OutputOptions, Ending> {
     Ok(OutputOptions {
         source: packet_source(alloc, matches)?,
         expect: expecting(alloc, matches)?,
-        style: Style {
-            hexadecimal: matches.get_flag(HEX),
-            trace: matches.get_flag(TRACE),
-        },
+        style: style_given(matches),
         raw: matches.get_flag(RAW),
     })
 }

@@ -5,10 +5,10 @@ use crate::assembler::{ASM, line_name};
 use crate::command_line::matches_of;
 use crate::disassembler::DIS;
 use crate::ending::Ending;
-use crate::evaluator::EVAL;
+use crate::evaluator::{EVAL, FollowOptions, following_of};
 use crate::explainer::WHY;
 use crate::lister::LIST;
-use crate::options::{DENY_WARNINGS, FILE, IN_OCCAM};
+use crate::options::{DENY_WARNINGS, FILE, IN_OCCAM, STATEMENTS};
 use crate::output_options::OutputOptions;
 use crate::profiler::{PROFILE, ProfileOptions, profiling_of};
 use crate::refusal::Refusal;
@@ -40,6 +40,8 @@ pub enum Task {
     Translate,
     /// The meaning of packets by a text in occam.
     Evaluate(OutputOptions),
+    /// The statements of a packet by a text in occam, and its meaning.
+    Follow(FollowOptions),
     Disassemble,
 }
 
@@ -73,7 +75,7 @@ fn input_of(alloc: Global, matches: &ArgMatches<'_>) -> Result<Input, Ending> {
 /// The language of the worker of a command, where it reads one.
 fn language_of(matches: &ArgMatches<'_>, task: &Task, input: &Input) -> Language {
     match task {
-        Task::Translate | Task::Evaluate(_) => Language::Occam,
+        Task::Translate | Task::Evaluate(_) | Task::Follow(_) => Language::Occam,
         Task::Disassemble => Language::Assembly,
         Task::Work(_) | Task::Assemble(_) if matches.get_flag(IN_OCCAM) => Language::Occam,
         Task::Work(_) | Task::Assemble(_) => Language::of(input),
@@ -86,6 +88,7 @@ fn check_standard(task: &Task, input: &Input) -> Result<(), Refusal> {
         Task::Work(Work::Run(RunOptions { output, .. })) | Task::Evaluate(output) => {
             (output.source.is_standard(), output.is_standard())
         }
+        Task::Follow(following) => (following.packet.source.is_standard(), false),
         Task::Work(Work::Profile(profiling)) => (profiling.source.is_standard(), false),
         Task::Work(Work::Step(stepping)) => (stepping.is_standard(), false),
         Task::Work(Work::Judge(_)) | Task::Assemble(_) | Task::Translate | Task::Disassemble => {
@@ -112,6 +115,15 @@ fn check_language(task: &Task, language: Language) -> Result<(), Refusal> {
     }
 }
 
+/// The task of `eval`: the statements of one packet where they are asked for, else what each packet means.
+fn evaluation_of(alloc: Global, matches: &ArgMatches<'_>) -> Result<Task, Ending> {
+    if matches.get_flag(STATEMENTS) {
+        Ok(Task::Follow(following_of(alloc, matches)?))
+    } else {
+        Ok(Task::Evaluate(output_options(alloc, matches)?))
+    }
+}
+
 /// The task of a command by its name, with its arguments.
 fn task_of(alloc: Global, name: &str, matches: &ArgMatches<'_>) -> Result<Task, Ending> {
     Ok(match name {
@@ -122,7 +134,7 @@ fn task_of(alloc: Global, name: &str, matches: &ArgMatches<'_>) -> Result<Task, 
         WHY => Task::Work(Work::Judge(Report::Why)),
         ASM => Task::Assemble(line_name(alloc, matches)?),
         OCCAM => Task::Translate,
-        EVAL => Task::Evaluate(output_options(alloc, matches)?),
+        EVAL => evaluation_of(alloc, matches)?,
         DIS => Task::Disassemble,
         _ => return Err(Ending::Refused(Refusal::NoCommand)),
     })

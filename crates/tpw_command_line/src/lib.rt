@@ -28,6 +28,7 @@ mod words;
 
 pub use asked::{Asked, Report, Task, Work, asked_by};
 pub use ending::Ending;
+pub use evaluator::FollowOptions;
 pub use options::{FROM, UNTIL};
 pub use output_options::OutputOptions;
 pub use packet_source::{Expecting, Origin, PacketFile, PacketSource};

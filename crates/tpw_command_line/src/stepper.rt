@@ -99,8 +99,8 @@ pub struct Picked {
 }
 
 impl Picked {
-    /// The packet.
-    fn packet<T: Files, R: Read>(
+    /// The packet, of `bytes` bytes.
+    pub fn packet<T: Files, R: Read>(
         &self,
         alloc: Global,
         inputs: &mut Inputs<'_, T, R>,
@@ -154,15 +154,20 @@ impl StepOptions {
     }
 }
 
+/// The packet that is picked of those that are given.
+pub fn picked(alloc: Global, matches: &ArgMatches<'_>) -> Result<Picked, Ending> {
+    Ok(Picked {
+        source: packet_source(alloc, matches)?,
+        number: matches.get_one::<usize>(NUMBER).unwrap_or(0),
+    })
+}
+
 /// The packet, where one is given.
 fn packet_given(alloc: Global, matches: &ArgMatches<'_>) -> Result<Option<Picked>, Ending> {
     if !has_packets(matches) {
         return Ok(None);
     }
-    Ok(Some(Picked {
-        source: packet_source(alloc, matches)?,
-        number: matches.get_one::<usize>(NUMBER).unwrap_or(0),
-    }))
+    Ok(Some(picked(alloc, matches)?))
 }
 
 /// The options that are given.

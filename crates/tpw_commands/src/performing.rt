@@ -14,13 +14,15 @@ use std::time::Clock;
 use tp_accept::Accepted;
 use tp_image::layout::WORD_BYTES;
 use tpw_command_line::{
-    Asked, Ending, OutputOptions, PacketSource, ProfileOptions, Report, RunOptions, StepOptions,
-    Work,
+    Asked, Ending, FollowOptions, OutputOptions, PacketSource, ProfileOptions, Report, RunOptions,
+    StepOptions, Work,
 };
 use tpw_files::{Failure, Inputs, Outcome, Terminal};
 use tpw_inputs::{Built, Occam};
 use tpw_judging::{write_list, write_why};
-use tpw_running::{Prepared, Subject, evaluate_packets, write_check, write_run};
+use tpw_running::{
+    Prepared, Subject, Text, evaluate_packets, follow_packet, write_check, write_run,
+};
 use tpw_stepping::{Counted, excerpt_of, write_profile, write_step};
 use tpw_why::Verdict;
 
@@ -231,5 +233,38 @@ pub fn evaluate_text<T: Files, R: Read, W: Write, E: Write>(
     let expected = output.expected(alloc, inputs, occam.result_bytes())?;
     let form = output.form(&expected);
     let core = &occam.compiled.core;
-    Ok(evaluate_packets(alloc, core, &packets, form, writer, terminal.errors)?)
+    Ok(evaluate_packets(
+        alloc,
+        occam.text,
+        core,
+        &packets,
+        form,
+        writer,
+        terminal.errors,
+    )?)
+}
+
+/// Evaluates the packet that is asked for on a text in occam, and writes what its statements do, and what the text means by
+/// it.
+pub fn follow_text<T: Files, R: Read, W: Write>(
+    alloc: Global,
+    inputs: &mut Inputs<'_, T, R>,
+    occam: &Occam<'_>,
+    writer: &mut W,
+    following: &FollowOptions,
+) -> Result<Outcome, Ending>
+    requires { IsCompiled occam.now.text.now occam.now.compiled }
+    ensures { IfErr result (λ e. status_of e ≡ 2 → W.contents writer.new ≡ W.contents writer.old) }
+{
+    let packet = following.packet.packet(alloc, inputs, occam.packet_bytes())?;
+    let lines: Vec<&str> = occam.text.lines().collect(alloc)?;
+    let names = occam.names(alloc)?;
+    let text = Text {
+        lines: &lines,
+        names: &names,
+    };
+    let number = following.packet.number;
+    let style = following.style;
+    let core = &occam.compiled.core;
+    Ok(follow_packet(alloc, core, text, &packet, number, style, writer)?)
 }

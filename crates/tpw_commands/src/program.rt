@@ -8,7 +8,7 @@ ghost use Rattle.tpw_occam.specs.Compilation.{IsCompiled};
 
 use crate::assembling::{assemble_text, write_image};
 use crate::output::{Output, settle};
-use crate::performing::{check_acceptance, evaluate_text, perform_on};
+use crate::performing::{check_acceptance, evaluate_text, follow_text, perform_on};
 use crate::reporting::{report, report_failure};
 use crate::translating::translate;
 use std::alloc::Global;
@@ -99,6 +99,13 @@ where
                 return Ok(Outcome::Bad);
             }
             evaluate_text(alloc, inputs, &occam, writer, terminal, output)
+        }
+        Task::Follow(following) => {
+            let occam = read_reported(alloc, terminal.errors, input, text)?;
+            if is_denied(asked, &occam.compiled.warnings) {
+                return Ok(Outcome::Bad);
+            }
+            follow_text(alloc, inputs, &occam, writer, following)
         }
         Task::Translate => {
             let occam = read_reported(alloc, terminal.errors, input, text)?;

@@ -6,11 +6,12 @@ ghost use Rattle.tpw_inputs.specs.Refusals.{IsOfOccam, IsFault};
 ghost use Rattle.tpw_occam.specs.Compilation.{IsCompiled};
 
 use crate::budget::over_budget;
+use crate::symbols::words_of;
 use std::alloc::{AllocError, Global};
 use tp_accept::RefusalCode;
 use tp_image::layout::WORD_BYTES;
 use tp_image::write_image;
-use tpw_debug::Diagnostic;
+use tpw_debug::{Diagnostic, Named};
 use tpw_files::{Failure, InputFault, text_of};
 use tpw_occam::{CompiledText, Defect, OccamFault, compile_text};
 
@@ -66,6 +67,11 @@ impl Occam<'_> {
         ensures most { result ≤ 256 }
     {
         WORD_BYTES * self.compiled.program.result as usize
+    }
+
+    /// The names of its variables and arrays.
+    pub fn names(&self, alloc: Global) -> Result<Vec<Named<'_>>, Failure> {
+        words_of(alloc, &self.compiled.located)
     }
 
     /// The bytes of its image, accepted or not.

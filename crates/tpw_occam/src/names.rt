@@ -138,6 +138,33 @@ fn stretches(
     Ok(all)
 }
 
+/// Whether a FUNCTION's parameter and something else that is declared, one of which is this, may have one place in a line
+/// under two names.
+fn is_shared(text: &[&str], declared: &[Declared], one: &Declared, line: u32) -> bool {
+    let name = said_at(text, one.name);
+    declared.iter().any(|other| {
+        let is_there = other.lines.contains(&line) || other.name.line == line as usize;
+        let is_passed = one.of_function || other.of_function;
+        other.place == one.place && is_there && is_passed && said_at(text, other.name) != name
+    })
+}
+
+/// The lines in which something that is declared has its place alone.
+fn lines_of(
+    alloc: Global,
+    text: &[&str],
+    declared: &[Declared],
+    one: &Declared,
+) -> Result<BTreeSet<u32>, AllocError> {
+    let mut lines = BTreeSet::new(alloc);
+    for line in &one.lines {
+        if !is_shared(text, declared, one, *line) {
+            lines.insert(*line)?;
+        }
+    }
+    Ok(lines)
+}
+
 /// Adds the names of an item, each once.
 fn add_names<'t>(
     alloc: Global,
@@ -154,7 +181,8 @@ fn add_names<'t>(
     for one in declared.iter().filter(|one| one.place == place) {
         if let Some(name) = said_at(text, one.name) {
             let line = u32::try_from(one.name.line).unwrap_or(u32::MAX);
-            for Stretch { from, to } in stretches(alloc, code, line, &one.lines)? {
+            let lines = lines_of(alloc, text, declared, one)?;
+            for Stretch { from, to } in stretches(alloc, code, line, &lines)? {
                 let located = Located {
                     name,
                     line,

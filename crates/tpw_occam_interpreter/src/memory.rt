@@ -6,7 +6,8 @@ ghost use Rattle.tpw_occam_interpreter.specs.Memories.{state_in};
 /// The most bytes that a worker may trace.
 pub const MAX_TRACED: usize = 256;
 
-/// The words of cells, the bytes of arrays, the error flag, the packet, the traces so far, and the result.
+/// The words of cells, the bytes of arrays, the error flag, the packet, the traces so far, and the result. The lines mean
+/// nothing.
 #[derive(Drop)]
 pub struct Memory {
     pub cells: Vec<u32>,
@@ -15,6 +16,10 @@ pub struct Memory {
     pub packet: Vec<u8>,
     pub traced: Vec<u8>,
     pub result: Vec<u8>,
+    /// The line of the text that is at work; 0 in front of the first process that has one.
+    pub line: u32,
+    /// The line in which the flag was set first.
+    pub flag_line: Option<u32>,
 }
 
 /// A memory, in which some cells have other words while an expression is evaluated.

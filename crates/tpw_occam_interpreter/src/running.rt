@@ -2,7 +2,7 @@
 
 ghost use Rattle.std.specs.Prelude.{◌≡◌, ◌<◌, length, OnOk, Err};
 ghost use Rattle.tpw_occam_core.specs.Meaning.{most_traced};
-ghost use Rattle.tpw_occam_meaning.specs.States.{with_array};
+ghost use Rattle.tpw_occam_meaning.specs.States.{with_array, stored};
 ghost use Rattle.tpw_occam_scoped.specs.Meaning as scoped;
 ghost use Rattle.tpw_occam_scoped.specs.declared.process.Process.TheVariants as scoped_process;
 ghost use Rattle.tpw_occam_interpreter.specs.Memories.{state_of};
@@ -11,9 +11,11 @@ use crate::arrays::kept;
 use crate::expressions::value;
 use crate::memory::{Cells, Memory, bytes};
 use crate::messages::{bytes_in, send, trace};
+use crate::watch::{Watch, WatchFault, bind_name};
 use std::alloc::{AllocError, Global};
-use tpw_occam_core::{Answer, Kind, bind, checked_subscript, element, pure, size};
-use tpw_occam_scoped::{Assignment, Bytes, Process, Target};
+use tpw_occam_core::{Answer, Kind, Place, bind, checked_subscript, element, pure, size};
+use tpw_occam_scoped::{Assignment, Bytes, Expression, Process, Target};
+use tpw_occam_terms::Span;
 
 /// Why a process is not run to its end.
 #[derive(Clone, Copy, Debug, PartialEq, Eq)]
@@ -22,6 +24,8 @@ pub enum Halt {
     Lost,
     /// A growth was refused.
     Memory,
+    /// It is not followed on.
+    Unwatched(WatchFault),
 }
 
 impl From<AllocError> for Halt {
@@ -34,8 +38,18 @@ impl From<AllocError> for Halt {
     }
 }
 
+impl From<WatchFault> for Halt {
+    ghost use Rattle.tpw_occam_interpreter.specs.declared.running.Halt.TheVariants as halt;
+
+    ghost from_gives = { λ fault e. e ≡ halt.Unwatched fault };
+
+    fn from(fault: WatchFault) -> Halt {
+        Halt::Unwatched(fault)
+    }
+}
+
 /// The subscript of a target, checked. A cell has none.
-fn subscript_of(memory: &Memory, target: &Target) -> Answer
+fn subscript_of<W: Watch>(memory: &Memory, watch: &mut W, target: &Target) -> Answer
     ensures { result ≡ scoped.subscript_of target.now (state_of memory.now) }
 {
     match target {
@@ -45,7 +59,7 @@ fn subscript_of(memory: &Memory, target: &Target) -> Answer
             kind,
             subscript,
         } => {
-            let i = value(&Cells::Of(memory), subscript);
+            let i = value(&Cells::Of(memory), watch, subscript);
             let count = size(*kind, bytes(&Cells::Of(memory), *array));
             bind(i, checked_subscript(count, i.word))
         }
@@ -66,81 +80,157 @@ fn put(memory: &mut Memory, target: &Target, i: u32, word: u32) -> Result<(), Al
 }
 
 /// A target takes a word, where its subscript and the word may set the flag.
-fn assigned(memory: &mut Memory, target: &Target, i: Answer, v: Answer) -> Result<(), AllocError>
+fn assigned<W: Watch>(
+    memory: &mut Memory,
+    watch: &mut W,
+    target: &Target,
+    i: Answer,
+    v: Answer,
+) -> Result<(), AllocError>
     ensures { OnOk result (state_of memory.new ≡ scoped.assigned target.now i v (state_of memory.old)) }
 {
     put(memory, target, i.word, v.word)?;
     memory.raise(v.flag || i.flag);
+    watch.assign(&*memory, target, i.word);
     Ok(())
 }
 
 /// Evaluates all subscripts and values, then writes them, the last first.
-fn assign(memory: &mut Memory, list: &[Assignment]) -> Result<(), AllocError>
+fn assign<W: Watch>(
+    memory: &mut Memory,
+    watch: &mut W,
+    list: &[Assignment],
+) -> Result<(), AllocError>
     ensures { OnOk result (state_of memory.new ≡ scoped.all_assigned list.now (state_of memory.old)) }
 {
     match list {
         [] => Ok(()),
         [first, more @ ..] => {
-            let i = subscript_of(memory, &first.target);
-            let v = value(&Cells::Of(&*memory), &first.value);
-            assign(memory, more)?;
-            assigned(memory, &first.target, i, v)
+            let i = subscript_of(&*memory, watch, &first.target);
+            let v = value(&Cells::Of(&*memory), watch, &first.value);
+            assign(memory, watch, more)?;
+            assigned(memory, watch, &first.target, i, v)
         }
     }
 }
 
 /// An array takes the bytes of another, or of a table.
-fn copy(alloc: Global, memory: &mut Memory, to: usize, from: &Bytes) -> Result<(), AllocError>
+fn copy<W: Watch>(
+    alloc: Global,
+    memory: &mut Memory,
+    watch: &mut W,
+    to: usize,
+    from: &Bytes,
+) -> Result<(), AllocError>
     ensures { OnOk result
         (state_of memory.new ≡ with_array to (scoped.bytes_in from.now (state_of memory.old)) (state_of memory.old)) }
 {
-    let bytes = Vec::from_slice(alloc, bytes_in(&Cells::Of(&*memory), from))?;
-    memory.set_array(alloc, to, bytes)
+    let copied = Vec::from_slice(alloc, bytes_in(&Cells::Of(&*memory), from))?;
+    watch.fill(to, bytes(&Cells::Of(&*memory), to), &copied);
+    memory.set_array(alloc, to, copied)
 }
 
 /// A target takes the first word of the packet.
-fn receive_word(memory: &mut Memory, target: &Target) -> Result<(), AllocError>
+fn receive_word<W: Watch>(
+    memory: &mut Memory,
+    watch: &mut W,
+    target: &Target,
+) -> Result<(), AllocError>
     ensures { OnOk result
         (state_of memory.new ≡ scoped.run (scoped_process.ReceiveWord target.now) (state_of memory.old)) }
 {
-    let i = subscript_of(memory, target);
+    let i = subscript_of(&*memory, watch, target);
     let word = element(Kind::Word, &memory.packet, 0);
-    assigned(memory, target, i, pure(word))
+    assigned(memory, watch, target, i, pure(word))
 }
 
 /// An array takes the packet.
-fn receive_array(alloc: Global, memory: &mut Memory, to: usize) -> Result<(), AllocError>
+fn receive_array<W: Watch>(
+    alloc: Global,
+    memory: &mut Memory,
+    watch: &mut W,
+    to: usize,
+) -> Result<(), AllocError>
     ensures { OnOk result
         (state_of memory.new ≡ with_array to (state_of memory.old).packet (state_of memory.old)) }
 {
     let packet = Vec::from_slice(alloc, &memory.packet)?;
+    watch.fill(to, &[], &packet);
     memory.set_array(alloc, to, packet)
 }
 
+/// The line of a value that a cell has: the one at work, or in front of the first that of the value's name.
+fn line_of_value(memory: &Memory, name: Option<Span>) -> u32 {
+    match name {
+        Some(name) if memory.line == 0 => u32::try_from(name.line).unwrap_or(u32::MAX),
+        _ => memory.line,
+    }
+}
+
+/// Comes to a line of the text. Returns the line that it comes from.
+pub(crate) fn come_to<W: Watch>(
+    memory: &mut Memory,
+    watch: &mut W,
+    line: u32,
+) -> Result<u32, WatchFault>
+    ensures { OnOk result (state_of memory.new ≡ state_of memory.old) }
+{
+    let before = memory.come_to(line);
+    watch.come_to(line, memory.flag)?;
+    Ok(before)
+}
+
+/// A cell has a value, under a name or without one.
+fn store_named<W: Watch>(
+    memory: &mut Memory,
+    watch: &mut W,
+    name: Option<Span>,
+    cell: usize,
+    e: &Expression,
+) -> Result<(), WatchFault>
+    ensures { OnOk result (state_of memory.new
+        ≡ stored cell (scoped.value_of e.now (state_of memory.old)) (state_of memory.old)) }
+{
+    let line = line_of_value(&*memory, name);
+    let around = come_to(memory, watch, line)?;
+    let answer = value(&Cells::Of(&*memory), watch, e);
+    memory.store(cell, answer)?;
+    bind_name(watch, name, answer.word);
+    come_to(memory, watch, around)?;
+    Ok(())
+}
+
 /// Runs a process. The packet is lost where more is traced than may be.
-pub(crate) fn run(alloc: Global, memory: &mut Memory, p: &Process) -> Result<(), Halt>
+pub(crate) fn run<W: Watch>(
+    alloc: Global,
+    memory: &mut Memory,
+    watch: &mut W,
+    p: &Process,
+) -> Result<(), Halt>
     ensures done { OnOk result (state_of memory.new ≡ scoped.run p.now (state_of memory.old)) }
     ensures lost { result ≡ Err Halt.Lost → most_traced < length (scoped.run p.now (state_of memory.old)).traced }
 {
     match p {
         Process::Skip => {}
         Process::Stop => memory.raise(true),
-        Process::Assign(list) => assign(memory, list)?,
-        Process::Copy { to, from } => copy(alloc, memory, *to, from)?,
+        Process::Assign(list) => assign(memory, watch, list)?,
+        Process::Copy { to, from } => copy(alloc, memory, watch, *to, from)?,
         Process::Sequence(first, second) => {
-            run(alloc, memory, first)?;
-            run(alloc, memory, second)?;
+            run(alloc, memory, watch, first)?;
+            run(alloc, memory, watch, second)?;
         }
         Process::Repeat {
+            name,
             cell,
             start,
             count,
             body,
-            ..
         } => {
             for turn in 0..*count {
-                memory.write(*cell, start.wrapping_add(turn))?;
-                run(alloc, memory, body)?;
+                let index = start.wrapping_add(turn);
+                memory.write(*cell, index)?;
+                watch.bind(*name, index);
+                run(alloc, memory, watch, body)?;
             }
         }
         Process::If {
@@ -148,39 +238,49 @@ pub(crate) fn run(alloc: Global, memory: &mut Memory, p: &Process) -> Result<(),
             guarded,
             rest,
         } => {
-            let answer = value(&Cells::Of(&*memory), guard);
+            let answer = value(&Cells::Of(&*memory), watch, guard);
             memory.raise(answer.flag);
             let branch = if answer.word == 0 { rest } else { guarded };
-            run(alloc, memory, branch)?;
+            run(alloc, memory, watch, branch)?;
         }
-        Process::Variable { cell, body, .. } => {
+        Process::Variable {
+            name,
+            cell,
+            body,
+            ..
+        } => {
             memory.write(*cell, 0)?;
-            run(alloc, memory, body)?;
+            watch.declare(Place::Variable(*cell), *name)?;
+            run(alloc, memory, watch, body)?;
         }
         Process::Value {
+            name,
             cell,
             value: bound,
             body,
-            ..
         } => {
-            let answer = value(&Cells::Of(&*memory), bound);
-            memory.store(*cell, answer)?;
-            run(alloc, memory, body)?;
+            store_named(memory, watch, *name, *cell, bound)?;
+            run(alloc, memory, watch, body)?;
         }
         Process::Array {
+            name,
             array,
             bytes,
             body,
-            ..
         } => {
             memory.clear_array(alloc, *array, *bytes as usize)?;
-            run(alloc, memory, body)?;
+            watch.declare(Place::Array(*array), *name)?;
+            run(alloc, memory, watch, body)?;
         }
-        Process::ReceiveWord(target) => receive_word(memory, target)?,
-        Process::ReceiveArray(to) => receive_array(alloc, memory, *to)?,
-        Process::Trace(m) => trace(alloc, memory, m)?,
-        Process::Send(m) => send(alloc, memory, m)?,
-        Process::At { body, .. } => run(alloc, memory, body)?,
+        Process::ReceiveWord(target) => receive_word(memory, watch, target)?,
+        Process::ReceiveArray(to) => receive_array(alloc, memory, watch, *to)?,
+        Process::Trace(m) => trace(alloc, memory, watch, m)?,
+        Process::Send(m) => send(alloc, memory, watch, m)?,
+        Process::At { line, body } => {
+            let around = come_to(memory, watch, *line)?;
+            run(alloc, memory, watch, body)?;
+            come_to(memory, watch, around)?;
+        }
     }
     Ok(())
 }

@@ -9,7 +9,8 @@ ghost use Rattle.tpw_occam_interpreter.specs.Workers.{IsGiven};
 
 use crate::expressions::value;
 use crate::memory::{Cells, MAX_TRACED, Memory};
-use crate::running::{Halt, run};
+use crate::running::{Halt, come_to, run};
+use crate::watch::{Unwatched, Watch, WatchFault};
 use std::alloc::{AllocError, Global};
 use tpw_occam_core::Answer;
 use tpw_occam_scoped::{Expression, Process};
@@ -20,6 +21,8 @@ pub struct Given {
     pub result: Vec<u8>,
     pub flag: bool,
     pub traced: Vec<u8>,
+    /// The line of the text in which the flag was set first, which means nothing.
+    pub flag_line: Option<u32>,
 }
 
 /// The memory in which a worker begins.
@@ -33,6 +36,8 @@ pub fn begin(alloc: Global, packet: &[u8]) -> Result<Memory, AllocError>
         packet: Vec::from_slice(alloc, packet)?,
         traced: Vec::new(alloc),
         result: Vec::new(alloc),
+        line: 0,
+        flag_line: None,
     })
 }
 
@@ -40,7 +45,7 @@ pub fn begin(alloc: Global, packet: &[u8]) -> Result<Memory, AllocError>
 pub fn value_in(memory: &Memory, e: &Expression) -> Answer
     ensures { result ≡ scoped.value_of e.now (state_of memory.now) }
 {
-    value(&Cells::Of(memory), e)
+    value(&Cells::Of(memory), &mut Unwatched, e)
 }
 
 /// The result in the end: nothing where more is traced than may be.
@@ -54,17 +59,36 @@ fn outcome(memory: Memory) -> Option<Given>
         result: memory.result,
         flag: memory.flag,
         traced: memory.traced,
+        flag_line: memory.flag_line,
     })
+}
+
+/// The result of a packet, whose run is followed; nothing where the packet is lost, since more is traced than may be.
+pub fn run_watched<W: Watch>(
+    alloc: Global,
+    p: &Process,
+    packet: &[u8],
+    watch: &mut W,
+) -> Result<Option<Given>, WatchFault>
+    ensures { IfOk result (IsGiven (scoped.meaning p.now packet.now)) }
+{
+    let mut memory = begin(alloc, packet)?;
+    let ran = run(alloc, &mut memory, watch, p);
+    come_to(&mut memory, watch, 0)?;
+    match ran {
+        Ok(()) => Ok(outcome(memory)),
+        Err(Halt::Lost) => Ok(None),
+        Err(Halt::Memory) => Err(WatchFault::Memory),
+        Err(Halt::Unwatched(fault)) => Err(fault),
+    }
 }
 
 /// The result of a packet; nothing where the packet is lost, since more is traced than may be.
 pub fn run_worker(alloc: Global, p: &Process, packet: &[u8]) -> Result<Option<Given>, AllocError>
     ensures { IfOk result (IsGiven (scoped.meaning p.now packet.now)) }
 {
-    let mut memory = begin(alloc, packet)?;
-    match run(alloc, &mut memory, p) {
-        Ok(()) => Ok(outcome(memory)),
-        Err(Halt::Lost) => Ok(None),
-        Err(Halt::Memory) => Err(AllocError),
+    match run_watched(alloc, p, packet, &mut Unwatched) {
+        Ok(given) => Ok(given),
+        Err(_) => Err(AllocError),
     }
 }

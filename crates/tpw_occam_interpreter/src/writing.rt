@@ -73,10 +73,29 @@ impl Memory {
         put_word(&mut self.cells, x, word)
     }
 
+    /// Comes to a line of the text. Returns the line that it comes from.
+    pub(crate) fn come_to(&mut self, line: u32) -> u32
+        ensures { state_of self.new ≡ state_of self.old }
+    {
+        let before = self.line;
+        self.line = line;
+        before
+    }
+
+    /// The line in which the flag was set first, where it may be set now.
+    fn flag_line_behind(&self, flag: bool) -> Option<u32> {
+        if flag && !self.flag {
+            Some(self.line)
+        } else {
+            self.flag_line
+        }
+    }
+
     /// The flag, once set, stays set.
     pub(crate) fn raise(&mut self, flag: bool)
         ensures { state_of self.new ≡ state.flagged flag (state_of self.old) }
     {
+        self.flag_line = self.flag_line_behind(flag);
         self.flag = self.flag || flag;
     }
 

@@ -90,7 +90,7 @@ value_by (expression.And' p e q f) s t cells arrays =
     λ i. bind (value_by e s t cells arrays i) (λ a. both a (value_by f s t cells arrays i))
 value_by (expression.Or' p e q f) s t cells arrays =
     λ i. bind (value_by e s t cells arrays i) (λ a. either a (value_by f s t cells arrays i))
-value_by (expression.Within' x p e q f) s t cells arrays =
+value_by (expression.Within' name x p e q f) s t cells arrays =
     λ i. bind (value_by e s t cells arrays i) (λ a.
     value_by f (state.with_cell x a s) (state.with_cell x a t) (ap (λ (c : ℕ → ℕ). λ y. if y == x then a else c y) cells) arrays i)
 

@@ -90,6 +90,7 @@ pub fn expression(
             cell,
             value,
             within,
+            ..
         } => {
             let value = expression(alloc, tables, scope, value, room - 1)?;
             let Some(n) = tables.free_variable(scope, *cell, Kind::Word) else {

@@ -95,6 +95,7 @@ impl Tables {
                 cell,
                 value,
                 within,
+                ..
             } => {
                 self.need_variable(*cell, Kind::Word)?;
                 self.need_expression(alloc, value)?;

@@ -238,7 +238,7 @@ fn passed<'t, 'a>(
                 n,
                 room - 1,
             )?;
-            Ok(passed_value.passed_into(alloc, d, rest)?)
+            Ok(passed_value.passed_into(alloc, Some(name.span), d, rest)?)
         }
         Form::OfArray(shape) => {
             let passed_array = array(alloc, scope, e, shape, room - 1)?;

@@ -40,7 +40,7 @@ value_of (Not' p e) s = bind (value_of e s) (λ a. pure (truth (a == 0)))
 value_of (LowByte' p e) s = bind (value_of e s) low_byte
 value_of (And' p e q f) s = bind (value_of e s) (λ a. both a (value_of f s))
 value_of (Or' p e q f) s = bind (value_of e s) (λ a. either a (value_of f s))
-value_of (Within' x p e q f) s = bind (value_of e s) (λ a. value_of f (with_cell x a s))
+value_of (Within' name x p e q f) s = bind (value_of e s) (λ a. value_of f (with_cell x a s))
 
 -- ---- assignments
 

@@ -1,8 +1,10 @@
 //! Expressions.
 
 use tpw_occam_core::{Kind, Operator};
+use tpw_occam_terms::Span;
 
-/// An expression. Cells and arrays are named by numbers.
+/// An expression. Cells and arrays are named by numbers. The `name` of a cell is the place of its name in the text, which
+/// means nothing.
 pub enum Expression {
     Constant(u32),
     /// The word of a cell.
@@ -39,8 +41,9 @@ pub enum Expression {
     And(Box<Expression>, Box<Expression>),
     /// `OR`: the right operand is evaluated only where the left is FALSE.
     Or(Box<Expression>, Box<Expression>),
-    /// An expression within which a cell has a value.
+    /// An expression within which a cell has a value, under a name or without one.
     Within {
+        name: Option<Span>,
         cell: usize,
         value: Box<Expression>,
         within: Box<Expression>,
@@ -77,6 +80,7 @@ impl Drop for Expression {
             | Expression::And(_one, _other)
             | Expression::Or(_one, _other)
             | Expression::Within {
+                name: _,
                 cell: _,
                 value: _one,
                 within: _other,

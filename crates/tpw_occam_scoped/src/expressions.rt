@@ -11,6 +11,7 @@ ghost use Rattle.tpw_occam_scoped.specs.Meaning.{value_of};
 use crate::expression::Expression;
 use std::alloc::{AllocError, Global};
 use tpw_occam_core::{Kind, Operator};
+use tpw_occam_terms::Span;
 
 impl Expression {
     /// `a[e]`, of an array.
@@ -110,6 +111,7 @@ impl Expression {
     /// An expression within which a cell has a value.
     pub fn within(
         alloc: Global,
+        name: Option<Span>,
         cell: usize,
         value: Expression,
         within: Expression,
@@ -118,6 +120,7 @@ impl Expression {
             value_of e ≡ (λ s. bind (value_of value s) (λ a. value_of within (with_cell cell a s)))) }
     {
         Ok(Expression::Within {
+            name,
             cell,
             value: Box::new(alloc, value)?,
             within: Box::new(alloc, within)?,

@@ -12,6 +12,7 @@ ghost use Rattle.tpw_occam_core.specs.Arithmetic as arithmetic;
 use crate::expression::Expression;
 use std::alloc::{AllocError, Global};
 use tpw_occam_core::{Answer, Operator};
+use tpw_occam_terms::Span;
 
 /// A value: a word and its flag, the same in each state, or what an expression has.
 #[derive(Drop)]
@@ -46,18 +47,24 @@ impl Value {
     }
 
     /// An expression behind a value that is passed: one that is no constant lies in a cell.
-    pub fn passed_into(self, alloc: Global, cell: usize, rest: Value) -> Result<Value, AllocError>
+    pub fn passed_into(
+        self,
+        alloc: Global,
+        name: Option<Span>,
+        cell: usize,
+        rest: Value,
+    ) -> Result<Value, AllocError>
         ensures { IfOk result (λ v. value_made v ≡ passed_into cell (value_made self) (value_made rest)) }
     {
         match self {
             Value::Known(answer) => {
                 if answer.flag {
-                    within(alloc, cell, Value::Known(answer), rest)
+                    within(alloc, name, cell, Value::Known(answer), rest)
                 } else {
                     Ok(rest)
                 }
             }
-            Value::Varying(e) => within(alloc, cell, Value::Varying(e), rest),
+            Value::Varying(e) => within(alloc, name, cell, Value::Varying(e), rest),
         }
     }
 
@@ -92,11 +99,19 @@ fn flagged(alloc: Global, word: u32) -> Result<Expression, AllocError>
 }
 
 /// A value within which another one lies in a cell.
-fn within(alloc: Global, cell: usize, value: Value, rest: Value) -> Result<Value, AllocError>
+fn within(
+    alloc: Global,
+    name: Option<Span>,
+    cell: usize,
+    value: Value,
+    rest: Value,
+) -> Result<Value, AllocError>
     ensures { IfOk result (λ v. value_made v ≡ text_values.Varying (λ s.
         bind (text_values.at (value_made value) s) (λ a. text_values.at (value_made rest) (with_cell cell a s)))) }
 {
     let value = value.expression(alloc)?;
     let rest = rest.expression(alloc)?;
-    Ok(Value::Varying(Expression::within(alloc, cell, value, rest)?))
+    Ok(Value::Varying(Expression::within(
+        alloc, name, cell, value, rest,
+    )?))
 }

@@ -7,14 +7,14 @@ use Rattle.tpw_occam_interpreter.proofs.Growing.{lost_before, lost_turn}
 use Rattle.tpw_occam_interpreter.proofs.running.+run.Goals as goal
 
 pub returns-in_err-run-in-Sequence-clause-lost : goal.returns-in_err-run-in-Sequence-clause-lost
-returns-in_err-run-in-Sequence-clause-lost t c h =
+returns-in_err-run-in-Sequence-clause-lost g t c h =
     let s = state_of c.args.memory.now in
     let first = c.in-Sequence.first.value in
     let lost : most_traced < length (run first s).traced = search rules in
     rw c.in-Sequence.is (lost_before c.in-Sequence.second.value (run first s) lost)
 
 pub returns-in_err-run-in-Repeat-clause-lost : goal.returns-in_err-run-in-Repeat-clause-lost
-returns-in_err-run-in-Repeat-clause-lost t c h =
+returns-in_err-run-in-Repeat-clause-lost g t c h =
     let s = state_of c.args.memory.now in
     let r = c.in-Repeat in
     let lost : most_traced < length (run r.body.value

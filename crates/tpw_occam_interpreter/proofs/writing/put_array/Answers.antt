@@ -1,4 +1,4 @@
-use Rattle.std.proofs.Common.{◌≡◌, ◌==◌, ◌<◌, ap, ◌∙◌, if◌then◌else◌, arith, length}
+use Rattle.std.proofs.Common.{◌==◌, ◌<◌, ap, ◌∙◌, if◌then◌else◌, arith, length}
 use Rattle.tpw_occam_interpreter.proofs.ArrayRows.{row_set}
 use Rattle.tpw_occam_interpreter.proofs.writing.put_array.Goals as goal
 
