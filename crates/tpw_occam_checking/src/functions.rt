@@ -13,7 +13,7 @@ use tpw_occam_typing::{
 
 /// The call that stands alone behind `:=`, and what is passed in it.
 fn call_alone<'t, 'a>(values: &'t Expressions<'a>) -> Option<(Name<'a>, &'t Expressions<'a>)> {
-    match only(values)? {
+    match bare(only(values)?) {
         Tree::Call { name, arguments } => Some((*name, arguments)),
         _ => None,
     }

@@ -71,9 +71,15 @@ called other arguments names d = None
 
 -- ---- FUNCTIONs with a body
 
--- the call that stands alone behind :=, and what is passed in it
+-- the call that an expression is, and what is passed in it
+abbrev pub call_in : Expression → Option (Name × Expressions)
+call_in (tree.Call' name p arguments) = Some (name, arguments)
+call_in (tree.Bracketed' p e span) = call_in e
+call_in other = None
+
+-- .. that stands alone behind :=
 abbrev pub call_alone : Expressions → Option (Name × Expressions)
-call_alone (More' p (tree.Call' name q arguments) r End) = Some (name, arguments)
+call_alone (More' p e q End) = call_in e
 call_alone values = None
 
 -- The targets take the results of a FUNCTION with a body; they are passed to it as variables are to a PROC, before its

@@ -147,7 +147,7 @@ fn count(list: Stretch) -> usize {
 /// Whether expressions are one call alone, which may give several results.
 fn is_call_alone(draft: &Draft<'_>, list: Stretch) -> bool {
     let first = draft.listed.get(list.from).copied();
-    match first.and_then(|id| draft.expression(id)) {
+    match first.and_then(|id| unbracketed(draft, id)) {
         Some(ExpressionNode::Call { .. }) => count(list) == 1,
         _ => false,
     }

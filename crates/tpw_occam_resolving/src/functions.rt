@@ -36,19 +36,25 @@ pub(crate) struct Call<'r, 't, 'a> {
     pub(crate) arguments: &'r Expressions<'a>,
 }
 
-/// The call that stands alone behind `:=`, and what is passed in it.
-pub(crate) fn call_alone<'r, 'a>(
-    values: &'r Expressions<'a>,
-) -> Option<(Name<'a>, &'r Expressions<'a>)>
+/// The call that an expression is, and what is passed in it.
+fn call_in<'r, 'a>(e: &'r Expression<'a>) -> Option<(Name<'a>, &'r Expressions<'a>)>
+    ensures { MatchOption result (text.call_in e.now ≡ None) (λ call. text.call_in e.now ≡ Some (call.0, call.1.now)) }
+{
+    match e {
+        Expression::Call { name, arguments } => Some((*name, &**arguments)),
+        Expression::Bracketed { within, .. } => call_in(within),
+        _ => None,
+    }
+}
+
+/// The call that stands alone behind `:=`.
+fn call_alone<'r, 'a>(values: &'r Expressions<'a>) -> Option<(Name<'a>, &'r Expressions<'a>)>
     ensures { MatchOption result (text.call_alone values.now ≡ None)
         (λ call. text.call_alone values.now ≡ Some (call.0, call.1.now)) }
 {
     match values {
         Expressions::More(e, more) => match &**more {
-            Expressions::End => match &**e {
-                Expression::Call { name, arguments } => Some((*name, &**arguments)),
-                _ => None,
-            },
+            Expressions::End => call_in(e),
             Expressions::More(_, _) => None,
         },
         Expressions::End => None,
@@ -56,7 +62,7 @@ pub(crate) fn call_alone<'r, 'a>(
 }
 
 /// The forms that the targets of results have to have.
-pub(crate) fn result_forms(alloc: Global, types: &Primitives) -> Result<Vec<Form>, Fault>
+fn result_forms(alloc: Global, types: &Primitives) -> Result<Vec<Form>, Fault>
     ensures { IfOk result (λ forms. map form_of forms.items ≡ map OfVariable (all_types types.now)) }
 {
     match types {
@@ -69,7 +75,7 @@ pub(crate) fn result_forms(alloc: Global, types: &Primitives) -> Result<Vec<Form
 }
 
 /// Places, and one more behind them.
-pub(crate) fn with_place<'s>(
+fn with_place<'s>(
     alloc: Global,
     places: &[Place<'s>],
     place: Place<'s>,
@@ -92,7 +98,7 @@ fn place_target(alloc: Global, place: Place<'_>) -> Result<Typed, Fault>
 }
 
 /// The results of a body, each of which goes to a place; the last is written first.
-pub(crate) fn given<'t, 'a>(
+fn given<'t, 'a>(
     alloc: Global,
     scope: &Scope<'_, 't, 'a>,
     d: usize,
