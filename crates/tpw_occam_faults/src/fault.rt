@@ -350,7 +350,10 @@ fn write_function<W: fmt::Write>(f: &mut fmt::Formatter<W>, kind: FaultKind<'_>)
             let line = declared.line;
             write!(f, "`{name}`, of line {line}, gives ")?;
             write_count(f, found)?;
-            write!(f, ": as many variables are wanted in front of :=, not {wanted}")
+            write!(
+                f,
+                ": as many variables are wanted in front of :=, not {wanted}"
+            )
         }
         FaultKind::ResultCount { wanted, found } => {
             f.write_str("this FUNCTION has types for ")?;

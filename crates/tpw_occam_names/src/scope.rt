@@ -75,12 +75,7 @@ pub enum Meaning<'s, 't, 'a> {
     Procedure(&'s [Form], &'t Parameters<'a>, &'t Process<'a>),
     Function(Primitive, &'s [Form], &'t Parameters<'a>, &'t Expression<'a>),
     /// A FUNCTION with a body.
-    Routine(
-        &'t Primitives,
-        &'s [Form],
-        &'t Parameters<'a>,
-        &'t ValueProcess<'a>,
-    ),
+    Routine(&'t Primitives, &'s [Form], &'t Parameters<'a>, &'t ValueProcess<'a>),
 }
 
 /// The names that are in scope, from the innermost on.

@@ -174,11 +174,7 @@ fn result_type(parts: &[Part<'_>], end: Span) -> Result<Primitive, Stop> {
 }
 
 /// The types of results, with commas between.
-fn result_types<'a>(
-    draft: &mut Draft<'a>,
-    parts: &[Part<'a>],
-    end: Span,
-) -> Result<Stretch, Stop> {
+fn result_types<'a>(draft: &mut Draft<'a>, parts: &[Part<'a>], end: Span) -> Result<Stretch, Stop> {
     let mut all = Vec::new(draft.alloc);
     let mut rest = parts;
     for _ in 0..=parts.len() {

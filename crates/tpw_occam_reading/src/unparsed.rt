@@ -6,9 +6,7 @@ ghost use Rattle.tpw_occam_reading.specs.Seen.{seen, seen_lines};
 ghost use Rattle.tpw_occam_reading.specs.Unparse.{line, head_of, function_head, results_spelled, declaration_spelled, process_spelled, declaration_lines, body_lines, process_lines, steps_lines, choices_lines, cases_lines, all_lines, unparse};
 
 use crate::marks::{primitive_token, taken};
-use crate::spelled::{
-    expression, listed, name, names, of_type, of_type_if, parameters, types,
-};
+use crate::spelled::{expression, listed, name, names, of_type, of_type_if, parameters, types};
 use tpw_occam_lexing::{Item, Keyword, Line, Symbol, Token};
 use tpw_occam_meaning::{
     Cases, Choices, Declaration, Declarations, Expressions, Parameters, Primitives, Process,

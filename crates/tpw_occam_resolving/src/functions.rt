@@ -196,16 +196,7 @@ pub(crate) fn assigned<'t, 'a>(
             };
             let wanted = result_forms(alloc, types)?;
             let places = Vec::new(alloc);
-            taken(
-                alloc,
-                scope,
-                d,
-                call,
-                &wanted,
-                targets,
-                &places,
-                room - 1,
-            )
+            taken(alloc, scope, d, call, &wanted, targets, &places, room - 1)
         }
         _ => assignment(alloc, scope, d, targets, values, room),
     }

@@ -107,7 +107,14 @@ fn without_line<'t, 'a>(
         Tree::Declared {
             declaration,
             process,
-        } => declared(alloc, scope, d, declaration, Rest::Process(process), room - 1),
+        } => declared(
+            alloc,
+            scope,
+            d,
+            declaration,
+            Rest::Process(process),
+            room - 1,
+        ),
         Tree::Case {
             selector,
             cases,
