@@ -149,15 +149,10 @@ impl<'t, 'a> Checker<'t, 'a> {
     }
 
     /// Reports, in the body of a FUNCTION, an assignment to a variable or an array that is declared outside of it.
-    pub fn check_own(
-        &mut self,
-        frame: Frame,
-        cell: usize,
-        name: Name<'a>,
-    ) -> Result<(), Interrupt> {
-        match frame.valued {
-            Some(valued) if cell < valued.outer => {
-                let span = valued.call.unwrap_or(name.span);
+    pub fn check_own(&mut self, frame: Frame, cell: usize, span: Span) -> Result<(), Interrupt> {
+        match (frame.valued, self.cells.name(cell)) {
+            (Some(valued), Some(name)) if cell < valued.outer => {
+                let span = valued.call.unwrap_or(span);
                 Err(self.fault(span, FaultKind::Outside { name: name.text }))
             }
             _ => Ok(()),
@@ -169,10 +164,10 @@ impl<'t, 'a> Checker<'t, 'a> {
         &mut self,
         frame: Frame,
         storage: Storage,
-        name: Name<'a>,
+        span: Span,
     ) -> Result<(), Interrupt> {
         match storage {
-            Storage::Array(array) => self.check_own(frame, array, name),
+            Storage::Array(array) => self.check_own(frame, array, span),
             Storage::Table(_) => Ok(()),
         }
     }
