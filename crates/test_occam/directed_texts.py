@@ -161,6 +161,76 @@ def parameters():
            declared=['VAL INT n IS 3:', 'INT y:', 'PROC put (VAL INT x)', '  y := x PLUS n', ':', 'VAL INT n IS 4:'])
 
 
+def functions():
+    """FUNCTIONs with a body: of one result and of several, and what their results go to."""
+    root = ['INT FUNCTION root (VAL INT x)', '  INT r:', '  VALOF', '    SEQ bit = 0 FOR 16', '      VAL INT more IS r \\/ (32768 >> bit):', '      IF',
+            '        (more TIMES more) <= x', '          r := more', '        TRUE', '          SKIP', '    RESULT r', ':']
+    divided = ['INT, INT FUNCTION divided (VAL INT a, VAL INT b)', '  VALOF', '    SKIP', '    RESULT a / b, a \\ b', ':']
+    worker('a root', ['r := root (p[0])'], pairs()[::12], declared=root)
+    worker('a quotient and a remainder', ['q, s := divided (p[0], p[1])', 'r := (q TIMES 1000) PLUS s'], pairs(), declared=['INT q, s:', *divided])
+    worker('results that are exchanged', ['q, s := p[0], p[1]', 'q, s := turned (q, s)', 'r := (q TIMES 3) PLUS s'], pairs()[::5],
+           declared=['INT q, s:', 'INT, INT FUNCTION turned (VAL INT a, b)', '  VALOF', '    SKIP', '    RESULT b, a', ':'])
+    worker('results that are one variable', ['q, q := divided (p[0], p[1])', 'r := q'], pairs()[::5], declared=['INT q:', *divided])
+    worker('results of three types', ['b, c, x := tried (p[0])', 'r := ((INT b) TIMES 1000) PLUS ((INT c) PLUS (x TIMES 3))'], pairs()[::12],
+           declared=['BOOL b:', 'BYTE c:', 'INT x:', 'BOOL, BYTE, INT FUNCTION tried (VAL INT x)', '  VALOF', '    SKIP',
+                     '    RESULT x > 5, BYTE (x /\\ 255), ~x', ':'])
+    step = ['INT FUNCTION step (VAL INT x)', '  INT y:', '  VALOF', '    SEQ', '      y := x PLUS 1', '      y := y TIMES x', '    RESULT y MINUS x', ':']
+    worker('a result that its argument takes', ['x := p[0]', 'x := step (x)', 'r := x'], pairs()[::12], declared=['INT x:', *step])
+    worker('a call in brackets', ['r := (step (p[0]))'], pairs()[::12], declared=step)
+    worker('an element takes a result', ['i := p[0] /\\ 3', 'a[i] := step (p[1])', 'a[i] := step (a[i])', 'SEQ i = 0 FOR 4', '  r := (r TIMES 3) PLUS a[i]'],
+           pairs()[::5], declared=['[4]INT a:', 'INT i:', *step])
+    worker('an element beyond its array takes a result', ['a[p[0]] := step (p[1])', 'SEQ i = 0 FOR 3', '  r := (r TIMES 3) PLUS a[i]'], pairs()[::5],
+           declared=['[3]INT a:', *step])
+    both = ['INT, INT FUNCTION both (VAL INT x)', '  VALOF', '    SKIP', '    RESULT x PLUS 5, x PLUS 7', ':']
+    worker('an element and its subscript take results', ['i := p[0] /\\ 1', 'p[i], i := both (i)', 'r := (p[0] TIMES 3) PLUS ((p[1] TIMES 5) PLUS i)'],
+           pairs()[::5], declared=['INT i:', *both])
+    worker('a subscript and its element take results', ['i := p[0] /\\ 1', 'i, p[i] := both (p[i])', 'r := (p[0] TIMES 3) PLUS ((p[1] TIMES 5) PLUS i)'],
+           pairs()[::5], declared=['INT i:', *both])
+    worker('elements that may be one take results', ['p[p[0] /\\ 1], p[p[1] /\\ 1] := both (p[0])', 'r := (p[0] TIMES 3) PLUS p[1]'], pairs()[::5], declared=both)
+    worker('a byte takes a result', ['m[p[0] /\\ 7] := low (p[1])', 'SEQ i = 0 FOR 8', '  r := (r TIMES 3) PLUS (INT m[i])'], pairs()[::5],
+           declared=['[8]BYTE m:', 'BYTE FUNCTION low (VAL INT x)', '  VALOF', '    SKIP', '    RESULT BYTE (x /\\ 255)', ':'])
+    worker('a subscript of another FUNCTION', ['p[low (p[1])] := step (p[0])', 'r := p[0] PLUS (p[1] TIMES 3)'], pairs()[::5],
+           declared=['INT FUNCTION low (VAL INT x) IS (x TIMES x) /\\ 1:', *step])
+    worker('locals are 0 at each call', ['SEQ i = 0 FOR 3', '  SEQ', '    x := once (i)', '    r := (r TIMES 10) PLUS x'], pairs()[:2],
+           declared=['INT x:', 'INT FUNCTION once (VAL INT i)', '  INT n:', '  [3]INT a:', '  VALOF', '    SEQ', '      a[i] := a[i] + (n + 2)',
+                     '      n := n + a[i]', '    RESULT n + a[2 - i]', ':'])
+    worker('a FUNCTION within a PROC', ['put (p[0], x)', 'put (x, r)'], pairs()[::12],
+           declared=['INT x:', 'PROC put (VAL INT v, INT to)', *[f'  {line}' for line in step], '  INT y:', '  SEQ', '    y := step (v)', '    to := y PLUS v', ':'])
+    worker('a FUNCTION that calls another', ['r := twice (p[0])'], pairs()[::12],
+           declared=[*step, 'INT FUNCTION half (VAL INT x) IS x / 2:', 'INT FUNCTION twice (VAL INT x)', '  INT y:', '  VALOF', '    SEQ', '      y := step (x)',
+                     '      y := step (half (y))', '    RESULT y PLUS half (x)', ':'])
+    worker('a PROC within a FUNCTION', ['r := sum (p[0], p[1])'], pairs()[::5],
+           declared=['INT FUNCTION sum (VAL INT a, b)', '  INT s:', '  PROC add (VAL INT x)', '    s := s PLUS x', '  :', '  VALOF', '    SEQ', '      add (a)',
+                     '      add (b)', '      add (s)', '    RESULT s', ':'])
+    worker('a PROC of the outside within a FUNCTION', ['r := sum (p[0], p[1])'], pairs()[::5],
+           declared=['PROC add (INT s, VAL INT x)', '  s := s PLUS (x TIMES 3)', ':', 'INT FUNCTION sum (VAL INT a, b)', '  INT s:', '  VALOF', '    SEQ',
+                     '      add (s, a)', '      add (s, b)', '    RESULT s', ':'])
+    worker('arrays and tables as arguments', ['x := sum (p)', 'r := sum ([1, 2, x])'], pairs()[::5],
+           declared=['INT x:', 'INT FUNCTION sum (VAL []INT a)', '  INT s:', '  VALOF', '    SEQ i = 0 FOR SIZE a', '      s := (s TIMES 3) PLUS a[i]', '    RESULT s', ':'])
+    worker('an element of its argument takes a result', ['p[0] := sum (p)', 'r := p[0] PLUS (p[1] TIMES 5)'], pairs()[::5],
+           declared=['INT FUNCTION sum (VAL [2]INT a)', '  VALOF', '    SKIP', '    RESULT a[0] PLUS (a[1] TIMES 3)', ':'])
+    worker('names of where a FUNCTION is declared', ['y := 7', 'r := shown (p[0])'], pairs()[::12],
+           declared=['VAL INT n IS 3:', 'INT y:', 'INT FUNCTION shown (VAL INT x)', '  VALOF', '    SKIP', '    RESULT (x PLUS n) PLUS (y TIMES 5)', ':',
+                     'VAL INT n IS 4:'])
+    worker('the flag of a result', ['r := sum (p[0], p[1])'], pairs(),
+           declared=['INT FUNCTION sum (VAL INT a, b)', '  VALOF', '    SKIP', '    RESULT a + b', ':'])
+    worker('the flag of a process', ['r := sum (p[0], p[1])'], pairs(),
+           declared=['INT FUNCTION sum (VAL INT a, b)', '  INT s:', '  VALOF', '    s := a * b', '    RESULT s PLUS 1', ':'])
+    worker('the flag of an argument that is not used', ['r := first (p[1], p[0] + p[1])'], pairs(),
+           declared=['INT FUNCTION first (VAL INT a, b)', '  VALOF', '    SKIP', '    RESULT a', ':'])
+    worker('STOP within VALOF', ['r := guarded (p[0])'], pairs()[::12],
+           declared=['INT FUNCTION guarded (VAL INT x)', '  VALOF', '    IF', '      x > 0', '        SKIP', '      TRUE', '        STOP', '    RESULT x PLUS 1', ':'])
+    worker('a CASE within VALOF', ['r := named (p[0])'], pairs()[::12],
+           declared=['INT FUNCTION named (VAL INT x)', '  INT y:', '  VALOF', '    CASE x', '      0, 7', '        y := 5', '      MOSTNEG INT', '        y := 6',
+                     '      ELSE', '        y := x', '    RESULT y', ':'])
+    worker('a value in front of VALOF', ['r := squared (p[0])'], pairs()[::12],
+           declared=['INT FUNCTION squared (VAL INT x)', '  VAL INT y IS x TIMES x:', '  INT z:', '  VALOF', '    z := y PLUS 1', '    RESULT z TIMES y', ':'])
+    worker('a declaration within VALOF', ['r := squared (p[0])'], pairs()[::12],
+           declared=['INT FUNCTION squared (VAL INT x)', '  INT y:', '  VALOF', '    INT x:', '    SEQ', '      x := 3', '      y := x', '    RESULT x PLUS y', ':'])
+    text('a FUNCTION before the worker', [*step, 'PROC worker (CHAN OF INT packet, CHAN OF INT result)', '  INT x:', '  SEQ', '    packet ? x',
+         '    x := step (x)', '    result ! x', ':'], [packet(a) for a in ENDS])
+
+
 def choices():
     worker('no guard is true', ['IF', '  p[0] = 1', '    r := 1', '  p[1] = 1', '    r := 2'], pairs())
     worker('the first guard that is true', ['IF', '  p[0] > 1', '    r := 1', '  p[0] > 0', '    r := 2', '  TRUE', '    r := 3'], pairs()[::14])
@@ -338,7 +408,7 @@ def shared():
 
 
 def main():
-    parts = (operators, conversions, truth, registers, subscripts, assignments, parameters, choices, messages, spellings, declarations, stops, shared,
+    parts = (operators, conversions, truth, registers, subscripts, assignments, parameters, functions, choices, messages, spellings, declarations, stops, shared,
              other_names, other_arrays)
     for part in parts:
         part()

@@ -5,7 +5,8 @@ use std::alloc::AllocError;
 use tpw_occam_core::Kind;
 use tpw_occam_faults::{FaultKind, Interrupt, NoteKind};
 use tpw_occam_meaning::{
-    Declaration, Expression as Tree, Expressions, Names, Parameters, Process, Type,
+    Declaration, Expression as Tree, Expressions, Names, Parameters, Primitives, Process, Type,
+    ValueProcess,
 };
 use tpw_occam_terms::{Name, Primitive};
 use tpw_occam_typing::{
@@ -383,6 +384,24 @@ fn function<'t, 'a>(
     }))
 }
 
+/// A FUNCTION with a body: its parameters, which are VAL.
+fn routine<'t, 'a>(
+    checker: &mut Checker<'t, 'a>,
+    frame: Frame,
+    of: &'t Primitives,
+    parameters: &'t Parameters<'a>,
+    body: &'t ValueProcess<'a>,
+) -> Result<Made<'t, 'a>, Interrupt> {
+    checker.check_values(parameters)?;
+    let signature = checker.signature(frame, parameters, Callee::Procedure)?;
+    Ok(unbound(Meaning::Routine {
+        of,
+        signature,
+        body,
+        scope: frame.scope,
+    }))
+}
+
 /// Names whose declaration was not read.
 fn wrong<'t, 'a>(
     checker: &mut Checker<'t, 'a>,
@@ -435,6 +454,12 @@ pub(crate) fn declare<'t, 'a>(
             parameters,
             value,
         } => (*name, function(checker, frame, *of, parameters, value)),
+        Declaration::Routine {
+            of,
+            name,
+            parameters,
+            body,
+        } => (*name, routine(checker, frame, of, parameters, body)),
     };
     let made = or_else(made, unbound(Meaning::Wrong))?;
     add_per_call(checker, name, before)?;

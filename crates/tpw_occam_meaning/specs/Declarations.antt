@@ -1,6 +1,6 @@
 -- Declarations: what is done behind them, with the names and the numbers that they take.
 use Rattle.std.specs.Prelude.{ℕ, ◌+◌, ◌/◌, ◌%◌, Bool, true, false, not, ◌==◌, if◌then◌else◌}
-use Rattle.std.specs.Prelude.{Option, Some, None}
+use Rattle.std.specs.Prelude.{Option, Some, None, List}
 use Rattle.std.specs.List.{list_all}
 use Rattle.tpw_occam_core.specs.declared.kind.Kind.{Kind}
 use Rattle.tpw_occam_core.specs.declared.kind.Kind.TheVariants as elements
@@ -18,7 +18,7 @@ use Rattle.tpw_occam_meaning.specs.Calls.{referred}
 use Rattle.tpw_occam_meaning.specs.Effects.{Effect, given, within_variable, within_array}
 use Rattle.tpw_occam_meaning.specs.Expressions.{value_of, array_of, type_of, view_in, fitting}
 use Rattle.tpw_occam_meaning.specs.Maybe.{and_then, where_true}
-use Rattle.tpw_occam_meaning.specs.Names.{Array, View, Fixed, Variable, Whole, Shape, Entry, Is, Procedure, Function}
+use Rattle.tpw_occam_meaning.specs.Names.{Array, View, Place, Fixed, Variable, Whole, Shape, Entry, Is, Procedure, Function, Routine}
 use Rattle.tpw_occam_meaning.specs.Names.{Names, found, with_name, taking}
 use Rattle.tpw_occam_meaning.specs.Types.{bytes_of, shape_of, by_sizes, forms_of, is_value}
 use Rattle.tpw_occam_meaning.specs.Values.{Value, Known, Varying, kind_of}
@@ -118,3 +118,8 @@ abbrev pub function : Primitive → Parameters → Expression → Names → Opti
 function of takes e names =
     and_then (forms_of takes names) (λ forms. where_true (list_all is_value forms)
     (Some (Function of forms (taking takes (value_of e of) names))))
+
+abbrev pub routine : List Primitive → Parameters → (List Place → Names → ℕ → Effect) → Names → Option Entry
+routine types takes body names =
+    and_then (forms_of takes names) (λ forms. where_true (list_all is_value forms)
+    (Some (Routine types forms (λ results. taking takes (body results) names))))

@@ -6,7 +6,7 @@ use Rattle.tpw_occam_meaning.specs.declared.types.Sizes.{Sizes}
 use Rattle.tpw_occam_meaning.specs.declared.types.Sizes.TheVariants as sizes
 use Rattle.tpw_occam_meaning.specs.declared.types.Parameters.{Parameters}
 use Rattle.tpw_occam_meaning.specs.Maybe.{and_then, where_true}
-use Rattle.tpw_occam_meaning.specs.Names.{Word, Constant, Kept, Place, Form, Body, Entry, Procedure, Function, Names, bound, taking}
+use Rattle.tpw_occam_meaning.specs.Names.{Word, Constant, Kept, Place, Form, Body, Entry, Procedure, Function, Routine, Names, bound, taking}
 use Rattle.tpw_occam_meaning.specs.Effects.{Effect, given}
 use Rattle.tpw_occam_meaning.specs.Types.{by_sizes}
 use Rattle.tpw_occam_meaning.specs.States.{State}
@@ -158,6 +158,20 @@ pub joined_function : {m n : Names} → Joined m n → (a b : List ℕ) → a �
 joined_function j a b e of forms gives other h =
     joined_more j a b e (Function of forms gives) (Function of forms other) (Function of forms (joint_body gives other))
     (joint_body gives other, refl, body_left gives other) (joint_body gives other, refl, body_right gives other h)
+
+pub record RoutinesAgree (does other : List Place → Body (State → State)) : Type 0 where
+  pub at : (results : List Place) → BodiesAgree (does results) (other results)
+
+abbrev joint_routine : (List Place → Body (State → State)) → (List Place → Body (State → State)) → List Place → Body (State → State)
+joint_routine does other results = joint_body (does results) (other results)
+
+pub joined_routine : {m n : Names} → Joined m n → (a b : List ℕ) → a ≡ b → (types : List Primitive) (forms : List Form)
+    (does other : List Place → Body (State → State)) → RoutinesAgree does other
+    → Joined ((a, Routine types forms does) ∷ m) ((b, Routine types forms other) ∷ n)
+joined_routine j a b e types forms does other h =
+    joined_more j a b e (Routine types forms does) (Routine types forms other) (Routine types forms (joint_routine does other))
+    (joint_routine does other, refl, record { at = λ results. body_left (does results) (other results) })
+    (joint_routine does other, refl, record { at = λ results. body_right (does results) (other results) (h.at results) })
 
 -- ---- bodies by their parameters
 

@@ -144,7 +144,7 @@ fn form<'t, 'a>(
 }
 
 /// A form in front of others.
-fn with_form(form: Form, forms: Vec<Form>) -> Result<Vec<Form>, Fault>
+pub(crate) fn with_form(form: Form, forms: Vec<Form>) -> Result<Vec<Form>, Fault>
     ensures { IfOk result (λ all. map form_of all.items ≡ form_of form ∷ map form_of forms.items) }
 {
     let mut all = forms;

@@ -20,6 +20,7 @@ module _ (b : Box Declarations Global) (x : Declaration) (c : Box Declarations G
   by_cases (declaration.Abbreviation of name e) = refl
   by_cases (declaration.Procedure' name takes p body) = refl
   by_cases (declaration.Function of name takes e) = refl
+  by_cases (declaration.Routine' types name takes p body) = refl
   by_cases (declaration.Wrong list) = refl
 
   -- one that is not the last

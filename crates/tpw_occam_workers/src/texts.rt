@@ -5,8 +5,9 @@ ghost use Rattle.tpw_occam_meaning.specs.Calls as calls;
 ghost use Rattle.tpw_occam_meaning.specs.Declarations as text_declarations;
 ghost use Rattle.tpw_occam_meaning.specs.Expressions.{value_of};
 ghost use Rattle.tpw_occam_meaning.specs.Maybe.{and_then};
-ghost use Rattle.tpw_occam_meaning.specs.Names.{Is, Whole, Procedure, Function, bound, with_name, taking};
+ghost use Rattle.tpw_occam_meaning.specs.Names.{Is, Whole, Procedure, Function, Routine, bound, with_name, taking};
 ghost use Rattle.tpw_occam_meaning.specs.Processes as processes;
+ghost use Rattle.tpw_occam_meaning.specs.Types.{all_types};
 ghost use Rattle.tpw_occam_meaning.specs.Texts as text;
 ghost use Rattle.tpw_occam_meaning.specs.Texts.{MeansText};
 ghost use Rattle.tpw_occam_names.specs.Scopes.{names_of, form_of};
@@ -21,7 +22,8 @@ use crate::steps::{finished, first};
 use std::alloc::Global;
 use tpw_occam_core::Kind;
 use tpw_occam_meaning::{
-    Declaration, Declarations, Expression, Names, Parameters, Process as Tree, Processes, Source,
+    Declaration, Declarations, Expression, Names, Parameters, Primitives, Process as Tree,
+    Processes, Source, ValueProcess,
 };
 use tpw_occam_names::{Channel, Fault, Form, Meaning, Protocol, Scope, Storage, View};
 use tpw_occam_resolving::{
@@ -291,6 +293,29 @@ fn declared<'t, 'a>(
                 room - 1,
             )
         }
+        Declaration::Routine {
+            of,
+            name,
+            parameters,
+            body,
+        } => {
+            let forms = forms_of(alloc, scope, parameters, room)?;
+            if !are_values(&forms) {
+                return Err(Fault::Wrong);
+            }
+            routine_declared(
+                alloc,
+                scope,
+                d,
+                of,
+                *name,
+                &forms,
+                parameters,
+                body,
+                rest,
+                room - 1,
+            )
+        }
         _ => Err(Fault::Wrong),
     }
 }
@@ -387,6 +412,35 @@ fn function_declared<'t, 'a>(
         return Err(Fault::Deep);
     }
     let within = Scope::Within(name.text, Meaning::Function(of, &*forms, takes, e), &*scope);
+    behind(alloc, &within, d, rest, room - 1)
+}
+
+/// The rest behind the declaration of a FUNCTION with a body.
+#[cycle(rest)]
+fn routine_declared<'t, 'a>(
+    alloc: Global,
+    scope: &Scope<'_, 't, 'a>,
+    d: usize,
+    types: &'t Primitives,
+    name: Name<'a>,
+    forms: &[Form],
+    takes: &'t Parameters<'a>,
+    body: &'t ValueProcess<'a>,
+    rest: Rest<'t, 'a>,
+    room: u32,
+) -> Result<Process, Fault>
+    ensures { IfOk result (λ made. effect_of made ≡ after_of rest.entry (with_name name.entry
+        (Routine (all_types types.now) (map form_of forms.now)
+        (λ results. taking takes.now (processes.valued body.now results) (names_of scope.now))) (names_of scope.now)) d) }
+{
+    if room == 0 {
+        return Err(Fault::Deep);
+    }
+    let within = Scope::Within(
+        name.text,
+        Meaning::Routine(types, &*forms, takes, body),
+        &*scope,
+    );
     behind(alloc, &within, d, rest, room - 1)
 }
 

@@ -35,3 +35,6 @@ decreases-variables l = l.room
 
 abbrev pub decreases-worker : goal.decreases-worker
 decreases-worker l = l.room
+
+abbrev pub decreases-routine_declared : goal.decreases-routine_declared
+decreases-routine_declared l = l.room

@@ -1,4 +1,4 @@
-use Rattle.tpw_occam_resolving.proofs.processes.+process.Given as goal
+use Rattle.tpw_occam_resolving.proofs.+process.Given as goal
 
 abbrev pub decreases-all : goal.decreases-all
 decreases-all l = l.room
@@ -50,3 +50,18 @@ decreases-some l = l.room
 
 abbrev pub decreases-without_line : goal.decreases-without_line
 decreases-without_line l = l.room
+
+abbrev pub decreases-behind : goal.decreases-behind
+decreases-behind l = l.room
+
+abbrev pub decreases-valued : goal.decreases-valued
+decreases-valued l = l.room
+
+abbrev pub decreases-assigned : goal.decreases-assigned
+decreases-assigned l = l.room
+
+abbrev pub decreases-taken : goal.decreases-taken
+decreases-taken l = l.room
+
+abbrev pub decreases-routine_declared : goal.decreases-routine_declared
+decreases-routine_declared l = l.room
