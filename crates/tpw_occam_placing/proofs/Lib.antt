@@ -1,3 +1,4 @@
+pub mod Seeing
 pub mod Holding
 pub mod Arrays
 pub mod PlacingWithin

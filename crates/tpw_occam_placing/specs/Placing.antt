@@ -1,5 +1,5 @@
 -- Cells and arrays of a scoped core, each of which lies in a variable or an array of a worker while it is in scope.
-use Rattle.std.specs.Prelude.{◌≡◌, ℕ, Bool, true, false, ◌==◌, if◌then◌else◌, Option, Some, None, List, [], length}
+use Rattle.std.specs.Prelude.{◌≡◌, ℕ, Bool, true, false, ◌||◌, ◌==◌, if◌then◌else◌, Option, Some, None, List, [], length}
 use Rattle.std.specs.Prelude.{slice_get, slice_index, slice_index_or}
 use Rattle.tpw_occam_core.specs.declared.worker.Storage.{Storage}
 use Rattle.tpw_occam_core.specs.declared.expression.Expression.{Expression}
@@ -10,13 +10,15 @@ use Rattle.tpw_occam_core.specs.declared.process.Process.{Process}
 use Rattle.tpw_occam_core.specs.Meaning.{Store, first_bytes}
 use Rattle.tpw_occam_core.specs.Meaning as core
 use Rattle.tpw_occam_core.specs.Sound.{storage_of, bytes_of, is_table}
-use Rattle.tpw_occam_meaning.specs.States.{State}
+use Rattle.tpw_occam_meaning.specs.States.{State, with_cell}
 use Rattle.tpw_occam_scoped.specs.declared.expression.Expression.{Expression as Scoped}
 use Rattle.tpw_occam_scoped.specs.declared.process.Target.{Target as ScopedTarget}
 use Rattle.tpw_occam_scoped.specs.declared.process.Assignment.{Assignment as ScopedAssignment}
 use Rattle.tpw_occam_scoped.specs.declared.process.Message.{Message as ScopedMessage}
 use Rattle.tpw_occam_scoped.specs.declared.process.Process.{Process as ScopedProcess}
 use Rattle.tpw_occam_scoped.specs.Meaning as scoped
+use Rattle.tpw_occam_placing.specs.declared.aliases.Aliases.{Aliases}
+use Rattle.tpw_occam_placing.specs.declared.aliases.Aliases.TheVariants.{None as NoAlias, Alias'}
 use Rattle.tpw_occam_placing.specs.declared.tables.Tables.{Tables}
 use Rattle.tpw_occam_placing.specs.declared.scope.Scope.{Scope}
 use Rattle.tpw_occam_placing.specs.declared.scope.Scope.TheVariants.{Empty, Variable', Array'}
@@ -64,10 +66,25 @@ pub record Holds (tables : Tables) (scope : Scope) (s : State) (t : Store) : Typ
   pub flag : t.flag ≡ s.flag
   pub traced : t.traced ≡ s.traced
 
+-- a state in which each of these cells has the word of another
+abbrev pub seen : Aliases → State → State
+seen NoAlias s = s
+seen (Alias' x of p before) s = with_cell x ((seen before s).cells of) (seen before s)
+
+-- a cell is one of these, or has the word of one
+abbrev pub is_mentioned : Aliases → ℕ → Bool
+is_mentioned NoAlias x = false
+is_mentioned (Alias' y of p before) x = x == y || x == of || is_mentioned before x
+
 -- in each state, an expression has the value that a scoped one has
 abbrev pub IsPlaced : Tables → Scope → Scoped → Expression → Type 0
 IsPlaced tables scope e made =
     (s : State) (t : Store) → Holds tables scope s t → core.value_of made t ≡ scoped.value_of e s
+
+-- .. where cells have the words of others
+abbrev pub IsPlacedIn : Tables → Scope → Aliases → Scoped → Expression → Type 0
+IsPlacedIn tables scope aliases e made =
+    (s : State) (t : Store) → Holds tables scope s t → core.value_of made t ≡ scoped.value_of e (seen aliases s)
 
 -- a target has a scoped one's subscript, and takes a word as that does
 pub record IsTarget (tables : Tables) (scope : Scope) (a : ScopedTarget) (b : Target) : Type 0 where

@@ -2,6 +2,7 @@
 //! scope. What is declared in scopes that are never open together may lie in the same.
 #![tactic(auto)]
 
+mod aliases;
 mod assignments;
 mod expressions;
 mod names;

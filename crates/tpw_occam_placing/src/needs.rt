@@ -91,6 +91,10 @@ impl Tables {
                 self.need_expression(alloc, left)?;
                 self.need_expression(alloc, right)
             }
+            // (what is another cell's word has no place of its own)
+            Expression::Within { value, within, .. } if matches!(**value, Expression::Cell(_)) => {
+                self.need_expression(alloc, within)
+            }
             Expression::Within {
                 cell,
                 value,
