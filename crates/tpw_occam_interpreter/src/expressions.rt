@@ -94,7 +94,10 @@ pub(crate) fn value<W: Watch>(cells: &Cells<'_>, watch: &mut W, e: &Expression) 
             within,
         } => {
             let a = value(cells, watch, bound);
-            bind_name(watch, *name, a.word);
+            // (an argument that is a variable has its own name)
+            if !matches!(**bound, Expression::Cell(_)) {
+                bind_name(watch, *name, a.word);
+            }
             bind(
                 a,
                 value(&Cells::With(*cell, a.word, &*cells), watch, within),

@@ -129,7 +129,8 @@ impl Found {
                 within,
             } => {
                 self.add_expression(alloc, tables, value)?;
-                if let Some(name) = name {
+                // (an argument that is a variable has its own name)
+                if let (Some(name), false) = (name, matches!(**value, Expression::Cell(_))) {
                     let place = tables.variable_for(*cell, Kind::Word).map(Place::Variable);
                     self.add_parameter(alloc, *name, place)?;
                 }
