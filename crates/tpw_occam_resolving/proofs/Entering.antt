@@ -12,7 +12,7 @@ use Rattle.tpw_occam_meaning.specs.Calls.{referred, same_protocol, traces_of, en
 use Rattle.tpw_occam_meaning.specs.Effects.{Effect, given}
 use Rattle.tpw_occam_meaning.specs.Expressions.{value_of, array_of, within, passed}
 use Rattle.tpw_occam_meaning.specs.Maybe.{and_then, where_true}
-use Rattle.tpw_occam_meaning.specs.Names.{Word, Constant, View, Protocol, Traces, Place, Fixed, Whole, Carrier, Entry, Is, Names}
+use Rattle.tpw_occam_meaning.specs.Names.{Word, Constant, View, Protocol, Traces, Place, Fixed, Whole, Carrier, Is, Names}
 use Rattle.tpw_occam_meaning.specs.Names.{Shape, Form, OfValue, OfVariable, OfArray, OfChannel, behind, taking}
 use Rattle.tpw_occam_meaning.specs.Values.{Value, Known, Varying}
 use Rattle.tpw_occam_scoped.specs.Made.{word_passed, depth_behind, passed_to, passed_into}
@@ -132,16 +132,6 @@ module _ (names own : Names) (arguments m' : Expressions) (e : Box Expression Gl
       ∙ ap (λ b. where_true b (next protocol)) same
       ∙ (λ i. entered (sym m-is i) others (behind (Carrier Traces protocol) (taking takes f own)) names d)
       ∙ ap (λ g. entered m' others g names d) (behind_taking f takes more name (Carrier Traces protocol) own begins) ∙ sym rest-is)
-
--- another name for a variable or an element is declared
-pub place_declared : (names : Names) (e : Expression) (of : Primitive) (name : List ℕ) (after : Names → ℕ → Effect) (d : ℕ)
-    (v : Value) (rest r : Effect) (place : Place) (entry : Entry) (n : ℕ) →
-    ((next : Place → ℕ → Effect) → referred e of names d next ≡ passed_to d v (next place (depth_behind d v))) →
-    n ≡ depth_behind d v → entry ≡ Is place → rest ≡ after ((name, entry) ∷ names) n → r ≡ passed_to d v rest →
-    r ≡ referred e of names d (λ place n. after ((name, Is place) ∷ names) n)
-place_declared names e of name after d v rest r place entry n refers n-is entry-is rest-is r-is =
-    r-is ∙ ap (passed_to d v) (rest-is ∙ (λ i. after ((name, entry-is i) ∷ names) (n-is i)))
-    ∙ sym (refers (λ place n. after ((name, Is place) ∷ names) n))
 
 module _ (names own : Names) (arguments : Expressions) (forms : List Form) (takes : Parameters) (d : ℕ)
     (arguments-is : arguments ≡ End) (forms-is : forms ≡ []) (takes-is : takes ≡ parameters.End) where

@@ -23,7 +23,7 @@ use std::alloc::Global;
 use tpw_occam_core::Kind;
 use tpw_occam_meaning::{
     Declaration, Declarations, Expression, Names, Parameters, Primitives, Process as Tree,
-    Processes, Source, ValueProcess,
+    Processes, Source, Type, ValueProcess,
 };
 use tpw_occam_names::{Channel, Fault, Form, Meaning, Protocol, Scope, Storage, View};
 use tpw_occam_resolving::{
@@ -246,11 +246,7 @@ fn declared<'t, 'a>(
             array_declared(alloc, scope, d, *name, &seen, rest, room - 1)
         }
         Declaration::Abbreviation { of, name, value: e } => {
-            if is_single(&of.sizes) {
-                return place_declared(alloc, scope, d, of.of, *name, e, rest, room - 1);
-            }
-            let named = array_abbreviated(alloc, scope, of, e, room)?;
-            array_declared(alloc, scope, d, *name, &named, rest, room - 1)
+            abbreviated(alloc, scope, d, of, *name, e, rest, room - 1)
         }
         Declaration::Procedure {
             name,
@@ -339,6 +335,31 @@ fn array_declared<'t, 'a>(
     }
     let within = Scope::Within(name.text, Meaning::Whole(view(&*array)), &*scope);
     behind(alloc, &within, d, rest, room - 1)
+}
+
+/// The rest behind another name for a variable, an element or an array.
+#[cycle(rest)]
+fn abbreviated<'t, 'a>(
+    alloc: Global,
+    scope: &Scope<'_, 't, 'a>,
+    d: usize,
+    of: &Type<'a>,
+    name: Name<'a>,
+    e: &Expression<'a>,
+    rest: Rest<'t, 'a>,
+    room: u32,
+) -> Result<Process, Fault>
+    ensures { IfOk result (λ made. effect_of made
+        ≡ text_declarations.abbreviated of.now name.entry e.now (after_of rest.entry) (names_of scope.now) d) }
+{
+    if room == 0 {
+        return Err(Fault::Deep);
+    }
+    if is_single(&of.sizes) {
+        return place_declared(alloc, scope, d, of.of, name, e, rest, room - 1);
+    }
+    let named = array_abbreviated(alloc, scope, of, e, room)?;
+    array_declared(alloc, scope, d, name, &named, rest, room - 1)
 }
 
 /// The rest behind another name for a variable or an element, whose subscript is worked out there.

@@ -4,14 +4,14 @@ use Rattle.tpw_occam_meaning.specs.Calls.{entered}
 use Rattle.tpw_occam_meaning.specs.Effects.{followed_by}
 use Rattle.tpw_occam_meaning.specs.Names.{taking}
 use Rattle.tpw_occam_meaning.specs.Processes.{all_run}
-use Rattle.tpw_occam_names.specs.Scopes.{names_of, entry_of, form_of, shape_of, view_of, word_of, protocol_of}
+use Rattle.tpw_occam_names.specs.Scopes.{names_of, form_of, shape_of, view_of, word_of, protocol_of}
 use Rattle.tpw_occam_scoped.specs.Made.{effect_of, value_made}
 use Rattle.tpw_occam_resolving.specs.Behind.{after_of}
 use Rattle.tpw_occam_resolving.specs.Passing.{place_of}
 use Rattle.tpw_occam_resolving.proofs.Selecting.{case_run}
 use Rattle.tpw_occam_resolving.proofs.Sequencing.{followed_in_pairs}
-use Rattle.tpw_occam_resolving.proofs.Declaring.{procedure_done}
-use Rattle.tpw_occam_resolving.proofs.Entering.{place_declared, value_entered, variable_entered, array_entered, channel_entered}
+use Rattle.tpw_occam_resolving.proofs.Declaring.{procedure_done, single_abbreviated}
+use Rattle.tpw_occam_resolving.proofs.Entering.{value_entered, variable_entered, array_entered, channel_entered}
 use Rattle.tpw_occam_resolving.proofs.+process.Goals as goal
 
 pub declared-returns-in_ok-forms-in-Procedure : goal.declared-returns-in_ok-forms-in-Procedure
@@ -23,13 +23,12 @@ declared-returns-in_ok-forms-in-Procedure t c =
     c.in_ok-forms-in-Procedure.ensures c.deref.ensures.value h)
     c.procedure_declared.ensures
 
-pub place_declared-returns-in_ok-passed_to : goal.place_declared-returns-in_ok-passed_to
-place_declared-returns-in_ok-passed_to t c =
-    place_declared (names_of c.args.scope.now) c.args.e.now c.args.of c.args.name.text.now (after_of c.args.rest) c.args.d
-    (value_made c.in_ok-lent.lent.subscript) (effect_of c.in_ok-body.body) (effect_of c.in_ok-passed_to.field-0)
-    (place_of c.in_ok-lent.lent.place) (entry_of c.meaning_of.result (names_of c.args.scope.now)) c.in_ok-n.n
-    c.in_ok-lent.ensures c.in_ok-n.ensures (c.meaning_of.ensures (names_of c.args.scope.now)) c.in_ok-body.ensures
-    c.in_ok-passed_to.ensures
+pub abbreviated-returns-then-is_single : goal.abbreviated-returns-then-is_single
+abbreviated-returns-then-is_single t c =
+    IfOk-weaker c.place_declared.result _ _
+    (λ made h. single_abbreviated c.args.of.now c.args.name c.args.e.now (after_of c.args.rest) (names_of c.args.scope.now)
+    c.args.d (effect_of made) (sym c.is_single.ensures ∙ c.if-is_single.true) h)
+    c.place_declared.ensures
 
 pub entered-returns-in_ok-passed_to-in-OfValue : goal.entered-returns-in_ok-passed_to-in-OfValue
 entered-returns-in_ok-passed_to-in-OfValue t c =

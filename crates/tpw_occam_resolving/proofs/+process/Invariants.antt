@@ -1,5 +1,8 @@
 use Rattle.tpw_occam_resolving.proofs.+process.Given as goal
 
+abbrev pub decreases-abbreviated : goal.decreases-abbreviated
+decreases-abbreviated l = l.room
+
 abbrev pub decreases-all : goal.decreases-all
 decreases-all l = l.room
 

@@ -1,9 +1,8 @@
+use Rattle.std.proofs.Common.{sym, ◌∙◌}
 use Rattle.std.proofs.lemmas.Result.{IfOk-weaker}
-use Rattle.tpw_occam_names.specs.Scopes.{names_of, entry_of}
-use Rattle.tpw_occam_resolving.specs.Passing.{place_of}
-use Rattle.tpw_occam_resolving.proofs.Declaring.{procedure_done}
-use Rattle.tpw_occam_resolving.proofs.Entering.{place_declared}
-use Rattle.tpw_occam_scoped.specs.Made.{effect_of, value_made}
+use Rattle.tpw_occam_names.specs.Scopes.{names_of}
+use Rattle.tpw_occam_resolving.proofs.Declaring.{procedure_done, single_abbreviated}
+use Rattle.tpw_occam_scoped.specs.Made.{effect_of}
 use Rattle.tpw_occam_workers.specs.Behind.{after_of}
 use Rattle.tpw_occam_workers.proofs.Behind.{text_behind}
 use Rattle.tpw_occam_workers.proofs.texts.+rest.Goals as goal
@@ -16,13 +15,12 @@ declarations-returns-in-More-deref t c =
     (effect_of made) c.in-More.is c.deref.ensures c.in-More-deref.is c.deref-in-More-deref.ensures h)
     c.declared.ensures
 
-pub place_declared-returns-in_ok-passed_to : goal.place_declared-returns-in_ok-passed_to
-place_declared-returns-in_ok-passed_to t c =
-    place_declared (names_of c.args.scope.now) c.args.e.now c.args.of c.args.name.text.now (after_of c.args.rest) c.args.d
-    (value_made c.in_ok-lent.lent.subscript) (effect_of c.in_ok-body.body) (effect_of c.in_ok-passed_to.field-0)
-    (place_of c.in_ok-lent.lent.place) (entry_of c.meaning_of.result (names_of c.args.scope.now)) c.in_ok-n.n
-    c.in_ok-lent.ensures c.in_ok-n.ensures (c.meaning_of.ensures (names_of c.args.scope.now)) c.in_ok-body.ensures
-    c.in_ok-passed_to.ensures
+pub abbreviated-returns-then-is_single : goal.abbreviated-returns-then-is_single
+abbreviated-returns-then-is_single t c =
+    IfOk-weaker c.place_declared.result _ _
+    (λ made h. single_abbreviated c.args.of.now c.args.name c.args.e.now (after_of c.args.rest) (names_of c.args.scope.now)
+    c.args.d (effect_of made) (sym c.is_single.ensures ∙ c.if-is_single.true) h)
+    c.place_declared.ensures
 
 pub declared-returns-in_ok-forms-in-Procedure : goal.declared-returns-in_ok-forms-in-Procedure
 declared-returns-in_ok-forms-in-Procedure t c =

@@ -1,5 +1,8 @@
 use Rattle.tpw_occam_workers.proofs.texts.+rest.Given as goal
 
+abbrev pub decreases-abbreviated : goal.decreases-abbreviated
+decreases-abbreviated l = l.room
+
 abbrev pub decreases-array_declared : goal.decreases-array_declared
 decreases-array_declared l = l.room
 
