@@ -256,7 +256,9 @@ pub fn follow_text<T: Files, R: Read, W: Write>(
     requires { IsCompiled occam.now.text.now occam.now.compiled }
     ensures { IfErr result (λ e. status_of e ≡ 2 → W.contents writer.new ≡ W.contents writer.old) }
 {
-    let packet = following.packet.packet(alloc, inputs, occam.packet_bytes())?;
+    let packet = following
+        .packet
+        .packet(alloc, inputs, occam.packet_bytes())?;
     let lines: Vec<&str> = occam.text.lines().collect(alloc)?;
     let names = occam.names(alloc)?;
     let text = Text {

@@ -30,7 +30,10 @@ fn statements_of<'a>(
 }
 
 /// The names of a text in occam, as names of workspace words.
-pub(crate) fn words_of<'a>(alloc: Global, located: &[Located<'a>]) -> Result<Vec<Named<'a>>, Failure> {
+pub(crate) fn words_of<'a>(
+    alloc: Global,
+    located: &[Located<'a>],
+) -> Result<Vec<Named<'a>>, Failure> {
     let mut words = Vec::new(alloc);
     for name in located {
         words.push(Named {

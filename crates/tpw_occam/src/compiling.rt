@@ -97,7 +97,7 @@ fn without_code(
     match fault {
         CodeFault::Loops { line }
         | CodeFault::Depth { line }
-        | CodeFault::Workspace { line }
+        | CodeFault::Workspace { line, .. }
         | CodeFault::Code { line } => beyond(alloc, text, line, fault, more),
         CodeFault::Assembly(fault) => OccamFault::Compiler(Defect::Program(fault)),
         CodeFault::Misplaced => OccamFault::Compiler(Defect::Misplaced),

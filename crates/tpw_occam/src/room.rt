@@ -83,6 +83,14 @@ fn largest_of(
     Ok(said)
 }
 
+/// How many words are needed in all, where that is known.
+fn needed_in_all(alloc: Global, words: Option<u32>) -> Result<String, AllocError> {
+    match words {
+        Some(words) => format!(in alloc; "{words} are needed; "),
+        None => Ok(String::new(alloc)),
+    }
+}
+
 /// The calls in which the loop stands that goes beyond a limit of loops.
 fn calls_beyond(loops: &[CalledLoop], fault: CodeFault) -> &[u32] {
     let found = match fault {
@@ -110,10 +118,11 @@ pub(crate) fn said_behind(
     fault: CodeFault,
 ) -> Result<String, AllocError> {
     match fault {
-        CodeFault::Workspace { line } => {
+        CodeFault::Workspace { line, words } => {
             let calls = calls_of(alloc, core, worker.receive_line, line)?;
+            let needed = needed_in_all(alloc, words)?;
             let largest = largest_of(alloc, text, worker, declared)?;
-            format!(in alloc; "{calls}: {largest}")
+            format!(in alloc; "{calls}: {needed}{largest}")
         }
         CodeFault::Loops { .. } | CodeFault::Depth { .. } => {
             let loops = loops_of(alloc, core)?;

@@ -179,7 +179,10 @@ fn keep(
 {
     // for each assignment there is a word
     if i >= room.next_temporary {
-        return Err(CodeFault::Workspace { line: room.line });
+        return Err(CodeFault::Workspace {
+            line: room.line,
+            words: None,
+        });
     }
     value(emitter, code, &all[i], room)?;
     code.emit(room.line, Step::Store(Item::Temporary(i), 0))

@@ -115,7 +115,10 @@ impl Allocation {
         ensures { IfOk result (λ room. room ≡ record self { next_temporary = self.next_temporary + 1 }) }
     {
         if self.next_temporary >= MAX_WORKSPACE_WORDS_2 as usize {
-            return Err(CodeFault::Workspace { line: self.line });
+            return Err(CodeFault::Workspace {
+                line: self.line,
+                words: None,
+            });
         }
         Ok(Allocation {
             next_temporary: self.next_temporary + 1,

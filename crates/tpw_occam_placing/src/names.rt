@@ -139,12 +139,7 @@ impl Found {
         }
     }
 
-    fn add_target(
-        &mut self,
-        alloc: Global,
-        tables: &Tables,
-        target: &Target,
-    ) -> Result<(), Fault> {
+    fn add_target(&mut self, alloc: Global, tables: &Tables, target: &Target) -> Result<(), Fault> {
         match target {
             Target::Cell { .. } => Ok(()),
             Target::Element { subscript, .. } => self.add_expression(alloc, tables, subscript),
@@ -268,10 +263,9 @@ impl Found {
             Process::Assign(list) => self.add_assignments(alloc, tables, list),
             Process::ReceiveWord(target) => self.add_target(alloc, tables, target),
             Process::Trace(m) | Process::Send(m) => self.add_message(alloc, tables, m),
-            Process::Skip
-            | Process::Stop
-            | Process::Copy { .. }
-            | Process::ReceiveArray(_) => Ok(()),
+            Process::Skip | Process::Stop | Process::Copy { .. } | Process::ReceiveArray(_) => Ok(
+                (),
+            ),
         }
     }
 }

@@ -111,7 +111,5 @@ fn within(
 {
     let value = value.expression(alloc)?;
     let rest = rest.expression(alloc)?;
-    Ok(Value::Varying(Expression::within(
-        alloc, name, cell, value, rest,
-    )?))
+    Ok(Value::Varying(Expression::within(alloc, name, cell, value, rest)?))
 }

@@ -15,9 +15,9 @@ pub enum CodeFault {
     /// A loop that lies within four others.
     #[error("more than four replicated SEQs within one another")]
     Depth { line: u32 },
-    /// More words than a workspace has, from this line on.
+    /// More words than a workspace has, from this line on; and how many there would be in all, where that is known.
     #[error("more than 512 workspace words, from this line on")]
-    Workspace { line: u32 },
+    Workspace { line: u32, words: Option<u32> },
     /// More code bytes than an image has, from this line on.
     #[error("more than 8,192 code bytes, from this line on")]
     Code { line: u32 },

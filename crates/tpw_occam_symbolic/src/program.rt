@@ -59,13 +59,20 @@ fn result_words(worker: &Worker) -> u32
 /// Refuses items that have more words together than a workspace, at the first use of one that goes beyond it.
 fn check_workspace(uses: &[Used]) -> Result<(), CodeFault> {
     let mut words = START;
+    let mut beyond = None;
     for used in uses {
         words = words.saturating_add(used.words);
         if words > MAX_WORKSPACE_WORDS_2 {
-            return Err(CodeFault::Workspace { line: used.line });
+            beyond = Some(beyond.unwrap_or(used.line));
         }
     }
-    Ok(())
+    match beyond {
+        Some(line) => Err(CodeFault::Workspace {
+            line,
+            words: Some(words),
+        }),
+        None => Ok(()),
+    }
 }
 
 /// Assembles a program. One that is too long is refused at the first line of the text that goes beyond an image's code.

@@ -202,9 +202,10 @@ impl<W: Write> Watch for Statements<'_, '_, W> {
                 }
             }
             Target::Element { array, kind, .. } => {
-                if let (Some(known), Some(bytes)) =
-                    (known_at(&self.arrays, *array), memory.arrays.get(*array))
-                {
+                if let (Some(known), Some(bytes)) = (
+                    known_at(&self.arrays, *array),
+                    memory.arrays.get(*array),
+                ) {
                     self.write_taken(known, bytes, *kind, subscript as usize);
                 }
             }

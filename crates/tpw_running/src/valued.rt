@@ -17,9 +17,9 @@ impl<'a> Text<'a> {
     /// Whether the name of an array stands at a place whose elements are bytes.
     fn has_bytes_at(self, span: Span) -> bool {
         let name = said_at(self.lines, span);
-        self.names
-            .iter()
-            .any(|named| named.name == name && named.line == span.line && named.bytes.is_some())
+        self.names.iter().any(|named| named.name == name
+            && named.line == span.line
+            && named.bytes.is_some())
     }
 }
 
