@@ -205,7 +205,7 @@ def functions():
     worker('a PROC of the outside within a FUNCTION', ['r := sum (p[0], p[1])'], pairs()[::5],
            declared=['PROC add (INT s, VAL INT x)', '  s := s PLUS (x TIMES 3)', ':', 'INT FUNCTION sum (VAL INT a, b)', '  INT s:', '  VALOF', '    SEQ',
                      '      add (s, a)', '      add (s, b)', '    RESULT s', ':'])
-    worker('arrays and tables as arguments', ['x := sum (p)', 'r := sum ([1, 2, x])'], pairs()[::5],
+    worker('arrays and tables as arguments', ['x := sum (p)', 'r := sum ([1, 2, -7])', 'r := r PLUS x'], pairs()[::5],
            declared=['INT x:', 'INT FUNCTION sum (VAL []INT a)', '  INT s:', '  VALOF', '    SEQ i = 0 FOR SIZE a', '      s := (s TIMES 3) PLUS a[i]', '    RESULT s', ':'])
     worker('an element of its argument takes a result', ['p[0] := sum (p)', 'r := p[0] PLUS (p[1] TIMES 5)'], pairs()[::5],
            declared=['INT FUNCTION sum (VAL [2]INT a)', '  VALOF', '    SKIP', '    RESULT a[0] PLUS (a[1] TIMES 3)', ':'])
