@@ -1,6 +1,7 @@
+use Rattle.std.proofs.Common.{sym, ◌∙◌}
 use Rattle.std.proofs.lemmas.Result.{IfOk-weaker}
 use Rattle.tpw_occam_names.specs.Scopes.{names_of}
-use Rattle.tpw_occam_resolving.proofs.Declaring.{procedure_done}
+use Rattle.tpw_occam_resolving.proofs.Declaring.{procedure_done, single_abbreviated}
 use Rattle.tpw_occam_scoped.specs.Made.{effect_of}
 use Rattle.tpw_occam_workers.specs.Behind.{after_of}
 use Rattle.tpw_occam_workers.proofs.Behind.{text_behind}
@@ -13,6 +14,13 @@ declarations-returns-in-More-deref t c =
     c.deref-in-More-deref.result.now c.in-More-deref.field-0 c.in-More-deref.field-1 (names_of c.args.scope.now) c.args.d
     (effect_of made) c.in-More.is c.deref.ensures c.in-More-deref.is c.deref-in-More-deref.ensures h)
     c.declared.ensures
+
+pub abbreviated-returns-then-is_single : goal.abbreviated-returns-then-is_single
+abbreviated-returns-then-is_single t c =
+    IfOk-weaker c.place_declared.result _ _
+    (λ made h. single_abbreviated c.args.of.now c.args.name c.args.e.now (after_of c.args.rest) (names_of c.args.scope.now)
+    c.args.d (effect_of made) (sym c.is_single.ensures ∙ c.if-is_single.true) h)
+    c.place_declared.ensures
 
 pub declared-returns-in_ok-forms-in-Procedure : goal.declared-returns-in_ok-forms-in-Procedure
 declared-returns-in_ok-forms-in-Procedure t c =

@@ -3,31 +3,39 @@ use Rattle.std.proofs.lemmas.Result.{IfOk-weaker}
 use Rattle.tpw_occam_meaning.specs.Calls.{entered}
 use Rattle.tpw_occam_meaning.specs.Effects.{followed_by}
 use Rattle.tpw_occam_meaning.specs.Names.{taking}
-use Rattle.tpw_occam_meaning.specs.Processes.{run, all_run}
+use Rattle.tpw_occam_meaning.specs.Processes.{all_run}
 use Rattle.tpw_occam_names.specs.Scopes.{names_of, form_of, shape_of, view_of, word_of, protocol_of}
 use Rattle.tpw_occam_scoped.specs.Made.{effect_of, value_made}
+use Rattle.tpw_occam_resolving.specs.Behind.{after_of}
 use Rattle.tpw_occam_resolving.specs.Passing.{place_of}
 use Rattle.tpw_occam_resolving.proofs.Selecting.{case_run}
 use Rattle.tpw_occam_resolving.proofs.Sequencing.{followed_in_pairs}
-use Rattle.tpw_occam_resolving.proofs.Declaring.{procedure_done}
+use Rattle.tpw_occam_resolving.proofs.Declaring.{procedure_done, single_abbreviated}
 use Rattle.tpw_occam_resolving.proofs.Entering.{value_entered, variable_entered, array_entered, channel_entered}
-use Rattle.tpw_occam_resolving.proofs.processes.+process.Goals as goal
+use Rattle.tpw_occam_resolving.proofs.+process.Goals as goal
 
 pub declared-returns-in_ok-forms-in-Procedure : goal.declared-returns-in_ok-forms-in-Procedure
 declared-returns-in_ok-forms-in-Procedure t c =
     IfOk-weaker c.procedure_declared.result _ _
-    (λ made h. procedure_done c.args.declaration.now (run c.args.rest.now) (names_of c.args.scope.now) c.args.d
+    (λ made h. procedure_done c.args.declaration.now (after_of c.args.rest) (names_of c.args.scope.now) c.args.d
     c.in-Procedure.name c.in-Procedure.parameters c.in-Procedure.body c.deref-in-Procedure.result.now c.deref.result.now
     c.in_ok-forms-in-Procedure.forms.items (effect_of made) c.in-Procedure.is c.deref-in-Procedure.ensures
     c.in_ok-forms-in-Procedure.ensures c.deref.ensures.value h)
     c.procedure_declared.ensures
+
+pub abbreviated-returns-then-is_single : goal.abbreviated-returns-then-is_single
+abbreviated-returns-then-is_single t c =
+    IfOk-weaker c.place_declared.result _ _
+    (λ made h. single_abbreviated c.args.of.now c.args.name c.args.e.now (after_of c.args.rest) (names_of c.args.scope.now)
+    c.args.d (effect_of made) (sym c.is_single.ensures ∙ c.if-is_single.true) h)
+    c.place_declared.ensures
 
 pub entered-returns-in_ok-passed_to-in-OfValue : goal.entered-returns-in_ok-passed_to-in-OfValue
 entered-returns-in_ok-passed_to-in-OfValue t c =
     value_entered (names_of c.args.scope.now) (names_of c.args.own.now) c.args.arguments.now c.deref-in-OfValue.result.now
     c.in-More.e c.in-More.more (map form_of c.args.forms.now) (map form_of c.in-Some.forms.now) c.deref.result.now
     c.args.takes.now c.in-Some-first.takes.now c.in-Some-first.name.text.now c.in-More.is c.deref.ensures
-    c.deref-in-OfValue.ensures c.in-Some-first.ensures c.args.d (run c.args.body.now) c.in-OfValue.of
+    c.deref-in-OfValue.ensures c.in-Some-first.ensures c.args.d (after_of c.args.body) c.in-OfValue.of
     (value_made c.in_ok-passed-in-OfValue.passed) (effect_of c.in_ok-rest-in-OfValue.rest)
     (effect_of c.in_ok-passed_to-in-OfValue.field-0) (word_of c.word_passed-word.result) c.in_ok-n-in-OfValue.n
     (ap (map form_of) (c.in-Some.ensures.cases.0 ∙ ap (λ x. x ∷ c.in-Some.forms.now) c.in-OfValue.is))
@@ -42,7 +50,7 @@ entered-returns-in_ok-passed_to-in-OfVariable t c =
     variable_entered names own c.args.arguments.now c.deref-in-OfVariable-2.result.now c.in-More.e c.in-More.more
     (map form_of c.args.forms.now) others c.deref-in-OfVariable.result.now c.args.takes.now c.in-Some-first.takes.now
     c.in-Some-first.name.text.now c.in-More.is c.deref-in-OfVariable.ensures c.deref-in-OfVariable-2.ensures
-    c.in-Some-first.ensures c.args.d (run c.args.body.now) c.in-OfVariable.of
+    c.in-Some-first.ensures c.args.d (after_of c.args.body) c.in-OfVariable.of
     (value_made c.in_ok-lent-in-OfVariable.lent.subscript) (effect_of c.in_ok-rest-in-OfVariable.rest)
     (effect_of c.in_ok-passed_to-in-OfVariable.field-0) (place_of c.in_ok-lent-in-OfVariable.lent.place)
     c.in_ok-n-in-OfVariable.n
@@ -50,7 +58,7 @@ entered-returns-in_ok-passed_to-in-OfVariable t c =
     c.in_ok-lent-in-OfVariable.ensures c.in_ok-n-in-OfVariable.ensures
     (c.in_ok-rest-in-OfVariable.ensures
     ∙ ap (λ x. entered c.deref-in-OfVariable-2.result.now others
-    (taking c.in-Some-first.takes.now (run c.args.body.now) ((c.in-Some-first.name.text.now, x) ∷ own)) names c.in_ok-n-in-OfVariable.n)
+    (taking c.in-Some-first.takes.now (after_of c.args.body) ((c.in-Some-first.name.text.now, x) ∷ own)) names c.in_ok-n-in-OfVariable.n)
     (c.meaning_of.ensures own))
     c.in_ok-passed_to-in-OfVariable.ensures
 
@@ -61,7 +69,7 @@ entered-returns-else-not-same_protocol t c =
     c.deref-in-OfChannel-2.result.now c.in-More.e c.in-More.more (map form_of c.args.forms.now)
     (map form_of c.in-Some.forms.now) c.deref-in-OfChannel.result.now c.args.takes.now c.in-Some-first.takes.now
     c.in-Some-first.name.text.now c.in-More.is c.deref-in-OfChannel.ensures c.deref-in-OfChannel-2.ensures
-    c.in-Some-first.ensures c.args.d (run c.args.body.now) (protocol_of c.in-OfChannel.wanted)
+    c.in-Some-first.ensures c.args.d (after_of c.args.body) (protocol_of c.in-OfChannel.wanted)
     (protocol_of c.in_ok-protocol-in-OfChannel.protocol) (effect_of made)
     (ap (map form_of) (c.in-Some.ensures.cases.0 ∙ ap (λ x. x ∷ c.in-Some.forms.now) c.in-OfChannel.is))
     c.in_ok-protocol-in-OfChannel.ensures (sym c.same_protocol.ensures ∙ c.if-not-same_protocol.false) h)
@@ -74,7 +82,7 @@ entered-returns-in_ok-passed-in-OfArray t c =
     c.deref-in-OfArray-2.result.now c.in-More.e c.in-More.more (map form_of c.args.forms.now)
     (map form_of c.in-Some.forms.now) c.deref-in-OfArray.result.now c.args.takes.now c.in-Some-first.takes.now
     c.in-Some-first.name.text.now c.in-More.is c.deref-in-OfArray.ensures c.deref-in-OfArray-2.ensures
-    c.in-Some-first.ensures c.args.d (run c.args.body.now) (shape_of c.in-OfArray.shape) (view_of c.view.result)
+    c.in-Some-first.ensures c.args.d (after_of c.args.body) (shape_of c.in-OfArray.shape) (view_of c.view.result)
     (effect_of made)
     (ap (map form_of) (c.in-Some.ensures.cases.0 ∙ ap (λ x. x ∷ c.in-Some.forms.now) c.in-OfArray.is))
     (c.in_ok-passed-in-OfArray.ensures ∙ ap Some (sym c.view.ensures)) h)

@@ -1,4 +1,7 @@
-use Rattle.tpw_occam_resolving.proofs.processes.+process.Given as goal
+use Rattle.tpw_occam_resolving.proofs.+process.Given as goal
+
+abbrev pub decreases-abbreviated : goal.decreases-abbreviated
+decreases-abbreviated l = l.room
 
 abbrev pub decreases-all : goal.decreases-all
 decreases-all l = l.room
@@ -30,6 +33,9 @@ decreases-function_declared l = l.room
 abbrev pub decreases-otherwise : goal.decreases-otherwise
 decreases-otherwise l = l.room
 
+abbrev pub decreases-place_declared : goal.decreases-place_declared
+decreases-place_declared l = l.room
+
 abbrev pub decreases-procedure_declared : goal.decreases-procedure_declared
 decreases-procedure_declared l = l.room
 
@@ -47,3 +53,18 @@ decreases-some l = l.room
 
 abbrev pub decreases-without_line : goal.decreases-without_line
 decreases-without_line l = l.room
+
+abbrev pub decreases-behind : goal.decreases-behind
+decreases-behind l = l.room
+
+abbrev pub decreases-valued : goal.decreases-valued
+decreases-valued l = l.room
+
+abbrev pub decreases-assigned : goal.decreases-assigned
+decreases-assigned l = l.room
+
+abbrev pub decreases-taken : goal.decreases-taken
+decreases-taken l = l.room
+
+abbrev pub decreases-routine_declared : goal.decreases-routine_declared
+decreases-routine_declared l = l.room
