@@ -1,26 +1,20 @@
 -- What is declared.
-use Rattle.std.proofs.Common.{◌≡◌, ℕ, true, List, map, Some, sym, ap, ◌∙◌, false, refl}
+use Rattle.std.proofs.Common.{◌≡◌, ℕ, true, List, map, Some, sym, ap, ◌∙◌}
 use Rattle.std.specs.List.{list_all}
 use Rattle.std.specs.declared.boxed.Box.{Box}
 use Rattle.std.specs.declared.alloc.Global.{Global}
 use Rattle.tpw_occam_terms.specs.declared.name.Name.{Name}
-use Rattle.tpw_occam_meaning.specs.declared.expression.Expression.{Expression}
 use Rattle.tpw_occam_meaning.specs.declared.tree.Declaration.{Declaration}
 use Rattle.tpw_occam_meaning.specs.declared.tree.Declaration.TheVariants as declaration
 use Rattle.tpw_occam_meaning.specs.declared.tree.Process.{Process}
 use Rattle.tpw_occam_meaning.specs.declared.tree.ValueProcess.{ValueProcess}
 use Rattle.tpw_occam_meaning.specs.declared.types.Primitives.{Primitives}
 use Rattle.tpw_occam_meaning.specs.declared.types.Parameters.{Parameters}
-use Rattle.tpw_occam_meaning.specs.declared.types.Sizes.{Sizes}
-use Rattle.tpw_occam_meaning.specs.declared.types.Sizes.TheVariants as sizes
-use Rattle.tpw_occam_meaning.specs.declared.types.Type as written
-use Rattle.tpw_occam_meaning.specs.Calls.{referred}
-use Rattle.tpw_occam_meaning.specs.Declarations.{abbreviated, array_entry, naming}
 use Rattle.tpw_occam_meaning.specs.Effects.{Effect}
 use Rattle.tpw_occam_meaning.specs.Maybe.{and_then, where_true}
-use Rattle.tpw_occam_meaning.specs.Names.{Procedure, Routine, Names, with_name, taking, Is}
+use Rattle.tpw_occam_meaning.specs.Names.{Procedure, Routine, Names, with_name, taking}
 use Rattle.tpw_occam_meaning.specs.Processes.{run, declared, valued}
-use Rattle.tpw_occam_meaning.specs.Types.{forms_of, is_value, all_types, shape_of, by_sizes}
+use Rattle.tpw_occam_meaning.specs.Types.{forms_of, is_value, all_types}
 use Rattle.tpw_occam_names.specs.declared.scope.Form.{Form}
 use Rattle.tpw_occam_names.specs.Scopes.{form_of}
 
@@ -50,17 +44,3 @@ routine_done p after names d types name takes b body forms found e p-is body-is 
     (Some (Routine (all_types types) forms (λ results. taking takes (valued b.value results) names)))))
     (λ entry. after (with_name name entry names) d)) found-is)
     ∙ sym (ap (λ x. declared x after names d) p-is)
-
--- of a type that is no array
-by_one : {A : Type 0} (s : Sizes) (one other : A) → by_sizes s true false ≡ true → by_sizes s one other ≡ one
-by_one sizes.End one other h = refl
-by_one (sizes.Open' p others) one other h = cc
-by_one (sizes.Of' e p others) one other h = cc
-
-pub single_abbreviated : (of : written.Type) (name : Name) (value : Expression) (after : Names → ℕ → Effect) (names : Names)
-    (d : ℕ) (e : Effect) → by_sizes of.sizes true false ≡ true →
-    e ≡ referred value of.of names d (λ place n. after (with_name name (Is place) names) n) →
-    e ≡ abbreviated of name value after names d
-single_abbreviated of name value after names d e single h =
-    h ∙ sym (by_one of.sizes (referred value of.of names d (λ place n. after (with_name name (Is place) names) n))
-    (naming name (array_entry (shape_of of true names) value names) after names d) single)
