@@ -2,6 +2,8 @@
 use Rattle.std.proofs.Common.{◌≡◌, ℕ, ◌+◌, ◌==◌, Bool, true, false, List, [], ◌∷◌, Option, Some, None, refl, sym, ap, ◌∙◌, subst}
 use Rattle.std.specs.List.{list_all}
 use Rattle.tpw_occam_core.specs.declared.kind.Kind.{Kind}
+use Rattle.tpw_occam_core.specs.Arithmetic.{subscript}
+use Rattle.tpw_occam_core.specs.Meaning.{bind}
 use Rattle.tpw_occam_core.specs.Sound.{are_turns}
 use Rattle.tpw_occam_terms.specs.declared.name.Primitive.{Primitive}
 use Rattle.tpw_occam_terms.specs.declared.name.Primitive.TheVariants.{Int, Bool as Truth}
@@ -28,17 +30,17 @@ use Rattle.tpw_occam_meaning.specs.declared.tree.Choices.{Choices}
 use Rattle.tpw_occam_meaning.specs.declared.tree.Choices.TheVariants as choices
 use Rattle.tpw_occam_meaning.specs.declared.tree.Cases.{Cases}
 use Rattle.tpw_occam_meaning.specs.declared.tree.Cases.TheVariants as cases
-use Rattle.tpw_occam_meaning.specs.Assignments.{assignment, whole_target, results_given}
+use Rattle.tpw_occam_meaning.specs.Assignments.{assignment, whole_target, results_given, written_array}
 use Rattle.tpw_occam_meaning.specs.Calls.{lent, referred, called, call_alone, taken_from}
-use Rattle.tpw_occam_meaning.specs.Declarations.{value_declared, abbreviated, variables, arrays, array_view, naming, retyped, procedure, function, is_array, array_entry, table_entry, type_of_value, may_be_declared, routine, is_table}
+use Rattle.tpw_occam_meaning.specs.Declarations.{value_declared, abbreviated, variables, arrays, array_view, naming, retyped, procedure, function, is_array, array_entry, table_entry, type_of_value, may_be_declared, routine}
 use Rattle.tpw_occam_meaning.specs.Effects.{Effect, within_variable, within_array}
-use Rattle.tpw_occam_meaning.specs.Expressions.{value_of, type_of, constant}
+use Rattle.tpw_occam_meaning.specs.Expressions.{value_of, type_of, constant, named}
 use Rattle.tpw_occam_meaning.specs.Maybe.{and_then, where_true}
 use Rattle.tpw_occam_meaning.specs.Messages.{carried, message_of}
 use Rattle.tpw_occam_meaning.specs.Names.{Word, Kept, Channel, Protocol, Traces, Place, Fixed, Variable, Element, Whole, Form, Entry, Is, Procedure, Function, Names, found, with_name, taking, Routine}
 use Rattle.tpw_occam_meaning.specs.Processes.{run, all_run, first_true, selected, otherwise, declared, all_constants, are_distinct, constants_of, elses, valued}
 use Rattle.tpw_occam_meaning.specs.Types.{shape_of, forms_of, is_value, bytes_of, all_types}
-use Rattle.tpw_occam_meaning.specs.Values.{element_type}
+use Rattle.tpw_occam_meaning.specs.Values.{element_type, of_one}
 use Rattle.tpw_occam_reading.specs.Spelled.{spelled}
 use Rattle.tpw_occam_reading_laws.proofs.Plain.{plain, all_plain, name_of}
 use Rattle.tpw_occam_reading_laws.proofs.PlainTypes.{plain_type, plain_type_if, plain_names, plain_parameters}
@@ -47,7 +49,7 @@ use Rattle.tpw_occam_reading_laws.proofs.Wellformed.{value_needs}
 use Rattle.tpw_occam_reading_laws.proofs.Order.{Below, below_refl, below_eq, below_then, found_below, NamesBelow}
 use Rattle.tpw_occam_reading_laws.proofs.Meanings.{value_below, type_same, constant_below}
 use Rattle.tpw_occam_reading_laws.proofs.TypeMeanings.{shape_below, forms_below}
-use Rattle.tpw_occam_reading_laws.proofs.Statements.{assignment_below, called_below, carried_same, message_below, is_array_same, referred_below, table_below, array_entry_below, type_of_value_below, retyped_below, taken_below, results_given_below, is_table_same}
+use Rattle.tpw_occam_reading_laws.proofs.Statements.{assignment_below, called_below, carried_same, message_below, is_array_same, referred_below, table_below, array_entry_below, type_of_value_below, retyped_below, taken_below, results_given_below}
 use Rattle.tpw_occam_reading_laws.proofs.Sameness.{SameDeclaration, Same, SameSteps, SameChoices, SameCases, SameBody}
 use Rattle.tpw_occam_reading_laws.proofs.Faultless.{run_needs, valued_needs}
 use Rattle.tpw_occam_reading_laws.proofs.ProcessReadings.{one_process, one_body}
@@ -116,8 +118,9 @@ one_referred : (e : Expression) (of : Primitive) (m : Names) (d : ℕ) (next oth
     → ((place : Place) (k : ℕ) → Agree (next place k) (other place k)) → Agree (referred e of m d next) (referred e of m d other)
 one_referred (tree.Name name) of m d next other h = agree_then (agree_refl {o = lent of (found name m)}) (λ place. h place d)
 one_referred (tree.Element' p a q i span) of m d next other h =
-    agree_then agree_refl (λ view. agree_then agree_refl (λ a. agree_as of (element_type view.kind)
-    (agree_then agree_refl (λ i. agree_given d _ _ _ (λ word k. h (Element view word) k)))))
+    agree_then (agree_refl {o = named a m}) (λ view. agree_then (agree_refl {o = written_array view}) (λ a.
+    agree_as of (element_type view.kind) (agree_then (agree_refl {o = value_of i Int m d}) (λ i.
+    agree_given d (of_one (λ i. bind i (subscript view.size)) i) _ _ (λ word k. h (Element view word) k)))))
 one_referred (tree.Bracketed' p e span) of m d next other h = one_referred e of m d next other h
 one_referred anything of m d next other h = agree_left_none
 

@@ -105,7 +105,7 @@ retypes_no_is : (bytes other : List ℕ) (rest others : List Lexeme)
     → (lexeme.Name bytes ∷ Word keyword.Retypes ∷ rest) ≡ (lexeme.Name other ∷ Word keyword.Is ∷ others) → ⊥
 retypes_no_is bytes other rest others h = cc
 
--- types in front of FUNCTION are no type in front of names, and none in front of RETYPES
+-- types in front of FUNCTION are no type in front of names, and none in front of a name
 names_no_comma : (a : list.Names) (rest : List Lexeme) → names_spelled a (Sign symbol.Colon ∷ []) ≡ (Sign symbol.Comma ∷ rest) → ⊥
 names_no_comma names.End rest h = cc
 names_no_comma (names.More' n p others) rest h = cc
@@ -120,11 +120,11 @@ types_no_names (primitives.One of) b w a rest h =
 types_no_names (primitives.More' of p others) b w a rest h =
     names_no_comma a _ (sym ((one_type (record { sizes = sizes.End; of = of }) b tt w _ _ h).1))
 
-types_no_retypes : (types : Primitives) (b : written.Type) → IsType b → (bytes : List ℕ) (rest more : List Lexeme)
+types_no_name : (types : Primitives) (b : written.Type) → IsType b → (bytes : List ℕ) (rest more : List Lexeme)
     → types_spelled types (Word keyword.Function ∷ rest) ≡ type_spelled b (lexeme.Name bytes ∷ more) → ⊥
-types_no_retypes (primitives.One of) b w bytes rest more h =
+types_no_name (primitives.One of) b w bytes rest more h =
     retypes_no_function bytes _ _ (sym ((one_type (record { sizes = sizes.End; of = of }) b tt w _ _ h).1))
-types_no_retypes (primitives.More' of p others) b w bytes rest more h =
+types_no_name (primitives.More' of p others) b w bytes rest more h =
     name_no_comma bytes _ _ (sym ((one_type (record { sizes = sizes.End; of = of }) b tt w _ _ h).1))
 
 -- .. and no line of a FUNCTION of one expression
@@ -256,13 +256,17 @@ one_declaration (declaration.Function p m a e) (declaration.Function q n b f) v 
 one_declaration (declaration.Routine' p m a r x) (declaration.Variables b l) v w d more others h =
     absurd (types_no_names p b w l _ (heads h))
 one_declaration (declaration.Routine' p m a r x) (declaration.Retypes b n s) v w d more others h =
-    absurd (types_no_retypes p b w n.text.now _ _ (heads h))
+    absurd (types_no_name p b w n.text.now _ _ (heads h))
 one_declaration (declaration.Routine' p m a r x) (declaration.Function q n b f) v w d more others h =
     absurd (types_no_function p q m n a b v w _ (heads h))
+one_declaration (declaration.Routine' p m a r x) (declaration.Abbreviation b n f) v w d more others h =
+    absurd (types_no_name p b w.0 n.text.now _ _ (heads h))
+one_declaration (declaration.Abbreviation b n f) (declaration.Routine' p m a r x) v w d more others h =
+    absurd (types_no_name p b v.0 n.text.now _ _ (sym (heads h)))
 one_declaration (declaration.Variables b l) (declaration.Routine' p m a r x) v w d more others h =
     absurd (types_no_names p b v l _ (sym (heads h)))
 one_declaration (declaration.Retypes b n s) (declaration.Routine' p m a r x) v w d more others h =
-    absurd (types_no_retypes p b v n.text.now _ _ (sym (heads h)))
+    absurd (types_no_name p b v n.text.now _ _ (sym (heads h)))
 one_declaration (declaration.Function q n b f) (declaration.Routine' p m a r x) v w d more others h =
     absurd (types_no_function p q m n a b w v _ (sym (heads h)))
 one_declaration (declaration.Routine' p m a r x) (declaration.Routine' q n b s y) v w d more others h =

@@ -24,7 +24,7 @@ use Rattle.tpw_occam_meaning.specs.Types.{shape_of, by_sizes}
 use Rattle.tpw_occam_meaning.specs.Values.{Value, Known, Varying, element_type}
 use Rattle.tpw_occam_reading_laws.proofs.Plain.{plain, all_plain, name_of, is_name, IsWhole, AreWhole}
 use Rattle.tpw_occam_reading_laws.proofs.PlainTypes.{plain_name_of, plain_sizes, plain_type, plain_type_if, IsType, IsTypeIf}
-use Rattle.tpw_occam_reading_laws.proofs.Order.{Below, below_refl, below_none, below_eq, below_then, below_where, below_as, BodyBelow, behind_below, EntryBelow, NamesBelow, found_below, same_lookup, RoutineBelow}
+use Rattle.tpw_occam_reading_laws.proofs.Order.{Below, below_refl, below_none, below_eq, below_then, below_where, below_as, BodyBelow, behind_below, EntryBelow, NamesBelow, found_below, same_lookup}
 use Rattle.tpw_occam_reading_laws.proofs.Wellformed.{Needs, needs_none, needs_fact, needs_map, needs_both, needs_first, needs_then, needs_where, needs_as, named_needs, value_needs, array_needs}
 use Rattle.tpw_occam_reading_laws.proofs.Meanings.{named_same, type_same, value_below, array_below}
 use Rattle.tpw_occam_reading_laws.proofs.TypeMeanings.{shape_needs, by_sizes_needs, shape_below, by_sizes_below}
@@ -265,11 +265,8 @@ reference_needs other of names d next h = needs_none
 targets_needs : {F : Type 0} (types : List Primitive) (targets : Expressions) (does : Body (State → State)) (names : Names) (d : ℕ)
     → ((places : List Place) (n : ℕ) → Needs F (does places n))
     → Needs (AreTargets targets × F) (entered targets (map OfVariable types) does names d)
-targets_needs types End does names d h = ends types
-  where
-    ends : (types : List Primitive) → Needs _ (entered End (map OfVariable types) does names d)
-    ends [] = needs_map (λ f. (tt, f)) (h [] d)
-    ends (of ∷ types) = needs_none
+targets_needs [] End does names d h = needs_map (λ f. (tt, f)) (h [] d)
+targets_needs (of ∷ types) End does names d h = needs_none
 targets_needs [] (More' p e q targets) does names d h = needs_none
 targets_needs (of ∷ types) (More' p e q targets) does names d h =
     needs_map (λ w. ((w.0.0, w.0.1, w.1.0), w.1.1)) (reference_needs e of names d _ (λ place n.
