@@ -1,35 +1,35 @@
 use Rattle.std.proofs.Common.{◌+◌, ◌*◌}
 use Rattle.tpw_occam_checking.proofs.+process.Given as goal
 
-abbrev pub decreases-process : goal.decreases-process
-decreases-process l = 4 * l.depth
+abbrev pub decreases-processes::process : goal.decreases-processes::process
+decreases-processes::process l = 4 * l.depth
 
-abbrev pub decreases-steps : goal.decreases-steps
-decreases-steps l = 4 * l.depth + 1
+abbrev pub decreases-processes::steps : goal.decreases-processes::steps
+decreases-processes::steps l = 4 * l.depth + 1
 
-abbrev pub decreases-choice : goal.decreases-choice
-decreases-choice l = 4 * l.depth + 1
+abbrev pub decreases-processes::choice : goal.decreases-processes::choice
+decreases-processes::choice l = 4 * l.depth + 1
 
-abbrev pub decreases-all_cases : goal.decreases-all_cases
-decreases-all_cases l = 4 * l.depth + 1
+abbrev pub decreases-processes::all_cases : goal.decreases-processes::all_cases
+decreases-processes::all_cases l = 4 * l.depth + 1
 
-abbrev pub decreases-procedure_call : goal.decreases-procedure_call
-decreases-procedure_call l = 4 * l.depth + 1
+abbrev pub decreases-processes::procedure_call : goal.decreases-processes::procedure_call
+decreases-processes::procedure_call l = 4 * l.depth + 1
 
-abbrev pub decreases-scoped : goal.decreases-scoped
-decreases-scoped l = 4 * l.depth + 1
+abbrev pub decreases-processes::scoped : goal.decreases-processes::scoped
+decreases-processes::scoped l = 4 * l.depth + 1
 
-abbrev pub decreases-replicated : goal.decreases-replicated
-decreases-replicated l = 4 * l.depth + 2
+abbrev pub decreases-processes::replicated : goal.decreases-processes::replicated
+decreases-processes::replicated l = 4 * l.depth + 2
 
-abbrev pub decreases-case : goal.decreases-case
-decreases-case l = 4 * l.depth + 2
+abbrev pub decreases-processes::case : goal.decreases-processes::case
+decreases-processes::case l = 4 * l.depth + 2
 
-abbrev pub decreases-valued : goal.decreases-valued
-decreases-valued l = 4 * l.depth + 1
+abbrev pub decreases-functions::valued : goal.decreases-functions::valued
+decreases-functions::valued l = 4 * l.depth + 1
 
-abbrev pub decreases-taken : goal.decreases-taken
-decreases-taken l = 4 * l.depth + 2
+abbrev pub decreases-functions::taken : goal.decreases-functions::taken
+decreases-functions::taken l = 4 * l.depth + 2
 
-abbrev pub decreases-assigned : goal.decreases-assigned
-decreases-assigned l = 4 * l.depth + 3
+abbrev pub decreases-functions::assigned : goal.decreases-functions::assigned
+decreases-functions::assigned l = 4 * l.depth + 3
