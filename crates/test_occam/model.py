@@ -779,10 +779,36 @@ def answer(tree, packet):
     return f'{digits(result)} {int(flag)} {digits(traced)}'
 
 
+def parts(tree):
+    """A tree, and all that are in it."""
+    yield tree
+    for part in tree:
+        if isinstance(part, (tuple, list)):
+            yield from parts(part)
+
+
+def is_literal(tree):
+    """Whether an expression has no name."""
+    kind = tree[0] if tree else None
+    return kind in ('number', 'byte', 'truth') or kind in ('dyadic', 'monadic', 'convert') and all(map(is_literal, tree[2:]))
+
+
+def sets_flag(tree):
+    """Whether a VAL has a part without names that sets the flag: a fault also where no packet comes."""
+    machine = Machine(b'')
+    for declaration in parts(tree):
+        if declaration and declaration[0] == 'val':
+            for part in filter(is_literal, parts(declaration[3])):
+                machine.word(part, {})
+    return machine.flag
+
+
 def answered(lines):
     """A worker's lines, with the answers of its packets; none where a constant sets the flag."""
     is_packet = [line.startswith('@packet ') for line in lines]
     tree = parse('\n'.join(line for line, packet in zip(lines[1:], is_packet[1:]) if not packet))
+    if sets_flag(tree):
+        return []
     try:
         return [f'{line} > {answer(tree, bytes.fromhex(line.split()[1]))}' if packet else line
                 for line, packet in zip(lines, is_packet)]
