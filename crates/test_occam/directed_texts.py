@@ -161,6 +161,76 @@ def parameters():
            declared=['VAL INT n IS 3:', 'INT y:', 'PROC put (VAL INT x)', '  y := x PLUS n', ':', 'VAL INT n IS 4:'])
 
 
+def functions():
+    """FUNCTIONs with a body: of one result and of several, and what their results go to."""
+    root = ['INT FUNCTION root (VAL INT x)', '  INT r:', '  VALOF', '    SEQ bit = 0 FOR 16', '      VAL INT more IS r \\/ (32768 >> bit):', '      IF',
+            '        (more TIMES more) <= x', '          r := more', '        TRUE', '          SKIP', '    RESULT r', ':']
+    divided = ['INT, INT FUNCTION divided (VAL INT a, VAL INT b)', '  VALOF', '    SKIP', '    RESULT a / b, a \\ b', ':']
+    worker('a root', ['r := root (p[0])'], pairs()[::12], declared=root)
+    worker('a quotient and a remainder', ['q, s := divided (p[0], p[1])', 'r := (q TIMES 1000) PLUS s'], pairs(), declared=['INT q, s:', *divided])
+    worker('results that are exchanged', ['q, s := p[0], p[1]', 'q, s := turned (q, s)', 'r := (q TIMES 3) PLUS s'], pairs()[::5],
+           declared=['INT q, s:', 'INT, INT FUNCTION turned (VAL INT a, b)', '  VALOF', '    SKIP', '    RESULT b, a', ':'])
+    worker('results that are one variable', ['q, q := divided (p[0], p[1])', 'r := q'], pairs()[::5], declared=['INT q:', *divided])
+    worker('results of three types', ['b, c, x := tried (p[0])', 'r := ((INT b) TIMES 1000) PLUS ((INT c) PLUS (x TIMES 3))'], pairs()[::12],
+           declared=['BOOL b:', 'BYTE c:', 'INT x:', 'BOOL, BYTE, INT FUNCTION tried (VAL INT x)', '  VALOF', '    SKIP',
+                     '    RESULT x > 5, BYTE (x /\\ 255), ~x', ':'])
+    step = ['INT FUNCTION step (VAL INT x)', '  INT y:', '  VALOF', '    SEQ', '      y := x PLUS 1', '      y := y TIMES x', '    RESULT y MINUS x', ':']
+    worker('a result that its argument takes', ['x := p[0]', 'x := step (x)', 'r := x'], pairs()[::12], declared=['INT x:', *step])
+    worker('a call in brackets', ['r := (step (p[0]))'], pairs()[::12], declared=step)
+    worker('an element takes a result', ['i := p[0] /\\ 3', 'a[i] := step (p[1])', 'a[i] := step (a[i])', 'SEQ i = 0 FOR 4', '  r := (r TIMES 3) PLUS a[i]'],
+           pairs()[::5], declared=['[4]INT a:', 'INT i:', *step])
+    worker('an element beyond its array takes a result', ['a[p[0]] := step (p[1])', 'SEQ i = 0 FOR 3', '  r := (r TIMES 3) PLUS a[i]'], pairs()[::5],
+           declared=['[3]INT a:', *step])
+    both = ['INT, INT FUNCTION both (VAL INT x)', '  VALOF', '    SKIP', '    RESULT x PLUS 5, x PLUS 7', ':']
+    worker('an element and its subscript take results', ['i := p[0] /\\ 1', 'p[i], i := both (i)', 'r := (p[0] TIMES 3) PLUS ((p[1] TIMES 5) PLUS i)'],
+           pairs()[::5], declared=['INT i:', *both])
+    worker('a subscript and its element take results', ['i := p[0] /\\ 1', 'i, p[i] := both (p[i])', 'r := (p[0] TIMES 3) PLUS ((p[1] TIMES 5) PLUS i)'],
+           pairs()[::5], declared=['INT i:', *both])
+    worker('elements that may be one take results', ['p[p[0] /\\ 1], p[p[1] /\\ 1] := both (p[0])', 'r := (p[0] TIMES 3) PLUS p[1]'], pairs()[::5], declared=both)
+    worker('a byte takes a result', ['m[p[0] /\\ 7] := low (p[1])', 'SEQ i = 0 FOR 8', '  r := (r TIMES 3) PLUS (INT m[i])'], pairs()[::5],
+           declared=['[8]BYTE m:', 'BYTE FUNCTION low (VAL INT x)', '  VALOF', '    SKIP', '    RESULT BYTE (x /\\ 255)', ':'])
+    worker('a subscript of another FUNCTION', ['p[low (p[1])] := step (p[0])', 'r := p[0] PLUS (p[1] TIMES 3)'], pairs()[::5],
+           declared=['INT FUNCTION low (VAL INT x) IS (x TIMES x) /\\ 1:', *step])
+    worker('locals are 0 at each call', ['SEQ i = 0 FOR 3', '  SEQ', '    x := once (i)', '    r := (r TIMES 10) PLUS x'], pairs()[:2],
+           declared=['INT x:', 'INT FUNCTION once (VAL INT i)', '  INT n:', '  [3]INT a:', '  VALOF', '    SEQ', '      a[i] := a[i] + (n + 2)',
+                     '      n := n + a[i]', '    RESULT n + a[2 - i]', ':'])
+    worker('a FUNCTION within a PROC', ['put (p[0], x)', 'put (x, r)'], pairs()[::12],
+           declared=['INT x:', 'PROC put (VAL INT v, INT to)', *[f'  {line}' for line in step], '  INT y:', '  SEQ', '    y := step (v)', '    to := y PLUS v', ':'])
+    worker('a FUNCTION that calls another', ['r := twice (p[0])'], pairs()[::12],
+           declared=[*step, 'INT FUNCTION half (VAL INT x) IS x / 2:', 'INT FUNCTION twice (VAL INT x)', '  INT y:', '  VALOF', '    SEQ', '      y := step (x)',
+                     '      y := step (half (y))', '    RESULT y PLUS half (x)', ':'])
+    worker('a PROC within a FUNCTION', ['r := sum (p[0], p[1])'], pairs()[::5],
+           declared=['INT FUNCTION sum (VAL INT a, b)', '  INT s:', '  PROC add (VAL INT x)', '    s := s PLUS x', '  :', '  VALOF', '    SEQ', '      add (a)',
+                     '      add (b)', '      add (s)', '    RESULT s', ':'])
+    worker('a PROC of the outside within a FUNCTION', ['r := sum (p[0], p[1])'], pairs()[::5],
+           declared=['PROC add (INT s, VAL INT x)', '  s := s PLUS (x TIMES 3)', ':', 'INT FUNCTION sum (VAL INT a, b)', '  INT s:', '  VALOF', '    SEQ',
+                     '      add (s, a)', '      add (s, b)', '    RESULT s', ':'])
+    worker('arrays and tables as arguments', ['x := sum (p)', 'r := sum ([1, 2, -7])', 'r := r PLUS x'], pairs()[::5],
+           declared=['INT x:', 'INT FUNCTION sum (VAL []INT a)', '  INT s:', '  VALOF', '    SEQ i = 0 FOR SIZE a', '      s := (s TIMES 3) PLUS a[i]', '    RESULT s', ':'])
+    worker('an element of its argument takes a result', ['p[0] := sum (p)', 'r := p[0] PLUS (p[1] TIMES 5)'], pairs()[::5],
+           declared=['INT FUNCTION sum (VAL [2]INT a)', '  VALOF', '    SKIP', '    RESULT a[0] PLUS (a[1] TIMES 3)', ':'])
+    worker('names of where a FUNCTION is declared', ['y := 7', 'r := shown (p[0])'], pairs()[::12],
+           declared=['VAL INT n IS 3:', 'INT y:', 'INT FUNCTION shown (VAL INT x)', '  VALOF', '    SKIP', '    RESULT (x PLUS n) PLUS (y TIMES 5)', ':',
+                     'VAL INT n IS 4:'])
+    worker('the flag of a result', ['r := sum (p[0], p[1])'], pairs(),
+           declared=['INT FUNCTION sum (VAL INT a, b)', '  VALOF', '    SKIP', '    RESULT a + b', ':'])
+    worker('the flag of a process', ['r := sum (p[0], p[1])'], pairs(),
+           declared=['INT FUNCTION sum (VAL INT a, b)', '  INT s:', '  VALOF', '    s := a * b', '    RESULT s PLUS 1', ':'])
+    worker('the flag of an argument that is not used', ['r := first (p[1], p[0] + p[1])'], pairs(),
+           declared=['INT FUNCTION first (VAL INT a, b)', '  VALOF', '    SKIP', '    RESULT a', ':'])
+    worker('STOP within VALOF', ['r := guarded (p[0])'], pairs()[::12],
+           declared=['INT FUNCTION guarded (VAL INT x)', '  VALOF', '    IF', '      x > 0', '        SKIP', '      TRUE', '        STOP', '    RESULT x PLUS 1', ':'])
+    worker('a CASE within VALOF', ['r := named (p[0])'], pairs()[::12],
+           declared=['INT FUNCTION named (VAL INT x)', '  INT y:', '  VALOF', '    CASE x', '      0, 7', '        y := 5', '      MOSTNEG INT', '        y := 6',
+                     '      ELSE', '        y := x', '    RESULT y', ':'])
+    worker('a value in front of VALOF', ['r := squared (p[0])'], pairs()[::12],
+           declared=['INT FUNCTION squared (VAL INT x)', '  VAL INT y IS x TIMES x:', '  INT z:', '  VALOF', '    z := y PLUS 1', '    RESULT z TIMES y', ':'])
+    worker('a declaration within VALOF', ['r := squared (p[0])'], pairs()[::12],
+           declared=['INT FUNCTION squared (VAL INT x)', '  INT y:', '  VALOF', '    INT x:', '    SEQ', '      x := 3', '      y := x', '    RESULT x PLUS y', ':'])
+    text('a FUNCTION before the worker', [*step, 'PROC worker (CHAN OF INT packet, CHAN OF INT result)', '  INT x:', '  SEQ', '    packet ? x',
+         '    x := step (x)', '    result ! x', ':'], [packet(a) for a in ENDS])
+
+
 def choices():
     worker('no guard is true', ['IF', '  p[0] = 1', '    r := 1', '  p[1] = 1', '    r := 2'], pairs())
     worker('the first guard that is true', ['IF', '  p[0] > 1', '    r := 1', '  p[0] > 0', '    r := 2', '  TRUE', '    r := 3'], pairs()[::14])
@@ -223,6 +293,72 @@ def declarations():
     worker('values in a process', ['VAL INT a IS p[0] + p[1]:', 'VAL INT b IS p[0] - p[1]:', 'r := a PLUS (b TIMES 3)'], pairs())
 
 
+def other_names():
+    """Other names that are declared for variables and elements."""
+    for size in (1, 3, 4):
+        fill = [f'SEQ i = 0 FOR {size}', '  a[i] := 10 + i']
+        worker(f'another name for one of {size} elements', [*fill, 'INT x IS a[p[0]]:', 'SEQ', '  x := x PLUS p[1]', f'  SEQ i = 0 FOR {size}',
+               '    r := (r TIMES 7) PLUS a[i]'], [packet(a, 5) for a in ENDS + [size - 1, size]], declared=[f'[{size}]INT a:'])
+    fill = ['SEQ i = 0 FOR 4', '  a[i] := i PLUS p[1]']
+    total = 'r := ((a[0] TIMES 3) PLUS (a[1] TIMES 5)) PLUS ((a[2] TIMES 7) PLUS (a[3] TIMES 11))'
+    worker('an element that is not used under its other name', [*fill, 'INT x IS a[p[0]]:', total], pairs()[::7], declared=['[4]INT a:'])
+    worker('a subscript that changes behind another name', [*fill, 'i := p[0] /\\ 3', 'INT x IS a[i]:', 'SEQ', '  i := p[1] /\\ 3', '  x := 7',
+           '  a[i] := a[i] PLUS x', f'  {total}'], pairs()[::3], declared=['[4]INT a:', 'INT i:'])
+    worker('a subscript with a sum behind another name', [*fill, 'INT x IS a[(p[0] + p[1]) /\\ 3]:', 'SEQ', '  x := x TIMES x', f'  {total}'],
+           pairs(), declared=['[4]INT a:'])
+    worker('another name for an element at a constant', [*fill, 'INT x IS a[n - 1]:', 'SEQ', '  x := a[2] PLUS 1', '  a[2] := x', f'  {total}'],
+           pairs()[::7], declared=['VAL INT n IS 4:', '[4]INT a:'])
+    worker('another name for a variable', ['x := p[0]', 'INT y IS x:', 'SEQ', '  y := y PLUS 1', '  x := x TIMES p[1]', '  r := y MINUS (x TIMES 3)'],
+           pairs()[::3], declared=['INT x:'])
+    worker('another name for a BOOL', ['b := p[0] = p[1]', 'BOOL c IS b:', 'SEQ', '  c := NOT c', '  r := (INT b) PLUS (2 TIMES (INT c))'], pairs()[::7],
+           declared=['BOOL b:'])
+    worker('another name for a BYTE', ['c := BYTE (p[0] /\\ 255)', 'BYTE d IS c:', 'SEQ', '  d := BYTE (((INT d) PLUS 1) /\\ 255)', '  r := INT c'],
+           pairs()[::7], declared=['BYTE c:'])
+    worker('another name for an element of BYTEs', ['BYTE c IS m[p[0]]:', 'SEQ', '  c := BYTE (p[1] /\\ 255)', '  m[3] := c', '  SEQ i = 0 FOR SIZE m',
+           '    r := (r TIMES 3) PLUS (INT m[i])'], pairs()[::5], declared=['[7]BYTE m:'])
+    worker('another name for another name', [*fill, 'INT x IS a[p[0] /\\ 7]:', 'INT y IS (x):', 'SEQ', '  y := y PLUS p[1]', '  x := y TIMES 2',
+           f'  {total}'], pairs()[::3], declared=['[4]INT a:'])
+    worker('two names that may be of one element', [*fill, 'INT x IS a[p[0] /\\ 3]:', 'INT y IS a[p[1] /\\ 3]:', 'SEQ', '  x, y := y PLUS 1, x PLUS 2',
+           f'  {total}'], pairs(), declared=['[4]INT a:'])
+    worker('another name in each turn', [*fill, 'SEQ i = 0 FOR 6', '  INT x IS a[(i PLUS p[0]) \\ 3]:', '  x := (x TIMES 3) PLUS i', total],
+           [packet(a, 5) for a in ENDS], declared=['[4]INT a:'])
+    worker('another name that hides a name of its own', [*fill, 'x := p[0] /\\ 3', 'INT x IS a[x]:', 'INT a IS x:', 'SEQ', '  a := a PLUS 9', '  r := x',
+           'r := (r TIMES 3) PLUS (x PLUS a[p[0] /\\ 3])'], pairs()[::3], declared=['[4]INT a:', 'INT x:'])
+    worker('another name that is passed', [*fill, 'INT x IS a[p[0]]:', 'change (x, a[1], x)', total], pairs()[::3],
+           declared=['[4]INT a:', 'PROC change (INT x, INT y, VAL INT v)', '  SEQ', '    x := x PLUS 1', '    y := (y PLUS x) PLUS v', ':'])
+    worker('another name in a PROC', [*fill, 'step (a, p[0], r)', 'step (p, p[1], r)', 'step (a, 2, p[1])', f'{total} PLUS (r PLUS (p[0] TIMES p[1]))'],
+           pairs()[::3], declared=['[4]INT a:', 'PROC step ([]INT b, VAL INT n, INT sum)', '  INT x IS b[n]:', '  INT all IS sum:', '  SEQ',
+                                   '    x := x PLUS 1', '    all := (all TIMES 5) PLUS x', ':'])
+    head = 'PROC worker (CHAN OF INT packet, CHAN OF INT result)'
+    text('another name receives', [head, '  [4]INT a:', '  INT i:', '  INT x IS a[i]:', '  INT y IS a[2]:', '  SEQ', '    packet ? x', '    i := 2',
+         '    y := a[0] PLUS x', '    result ! y', ':'], [packet(a) for a in ENDS])
+
+
+def other_arrays():
+    """Other names that are declared for arrays and tables."""
+    for type_ in ('[]INT', '[4]INT', '[n]INT'):
+        worker(f'another name for an array, as {type_}', [f'{type_} b IS a:', 'SEQ', '  b[p[0]] := p[1]', '  a[1] := a[1] PLUS b[2]', '  SEQ i = 0 FOR SIZE b',
+               '    r := (r TIMES 7) PLUS a[i]'], pairs()[::5], declared=['VAL INT n IS 4:', '[4]INT a:'])
+        worker(f'an array that is only read under its other name, as {type_}', [f'VAL {type_} t IS a:', 'SEQ', '  a[p[0]] := p[1]',
+               '  SEQ i = 0 FOR SIZE t', '    r := (r TIMES 7) PLUS t[i]'], pairs()[::5], declared=['VAL INT n IS 4:', '[4]INT a:'])
+        worker(f'another name for a table, as {type_}', [f'VAL {type_} u IS t:', 'VAL INT k IS u[3]:', 'r := u[p[0]] PLUS k'], pairs()[::5],
+               declared=['VAL INT n IS 4:', 'VAL []INT t IS [7, -1, MOSTNEG INT, 12]:'])
+    worker('another name for bytes', ['w[0], w[1] := p[0], p[1]', '[]BYTE m IS n:', 'SEQ', '  m[5] := m[2]', '  r := w[0] >< w[1]'], pairs()[::5],
+           declared=['[2]INT w:', '[]BYTE n RETYPES w:'])
+    worker('bytes of another name', ['[]INT w IS (p):', '[8]BYTE m RETYPES w:', 'SEQ', "  m[5] := 'a'", '  r := p[0] >< w[1]'], pairs()[::5])
+    worker('an array that is copied by another name', ['[]INT b IS a:', 'SEQ', '  b := [1, 2]', '  VAL []INT t IS p:', '  b := t', '  p[0] := 3',
+           '  r := (a[0] TIMES 3) PLUS a[1]'], pairs()[::5], declared=['[2]INT a:'])
+    worker('other names in a PROC for its parameters', ['fold (a, p, p[0], r)', 'fold (p, a, 1, r)', 'r := (r TIMES 3) PLUS (p[0] PLUS a[0])'], pairs()[::3],
+           declared=['[3]INT a:', 'PROC fold ([]INT x, VAL []INT y, VAL INT n, INT sum)', '  []INT b IS x:', '  VAL []INT t IS y:', '  VAL []INT u IS t:',
+                     '  INT e IS b[n]:', '  SEQ', '    SEQ i = 0 FOR SIZE u', '      b[i /\\ 1] := b[i /\\ 1] PLUS u[i]', '    e := e PLUS 1',
+                     '    sum := (sum TIMES 5) PLUS e', ':'])
+    worker('an array that is passed by another name', ['VAL []INT t IS p:', '[]INT b IS p:', 'fill (b, t)', 'r := p[0] MINUS p[1]'], pairs()[::5],
+           declared=['PROC fill ([2]INT b, VAL []INT t)', '  SEQ', '    b[0] := 6', '    b[1] := t[0] PLUS t[1]', ':'])
+    text('other names before the worker', ['VAL []BYTE t IS "abc*#FF":', 'VAL []BYTE u IS t:', 'VAL [4]BYTE s IS (u):', 'VAL INT n IS SIZE s:',
+         'PROC worker (CHAN OF [2]INT packet, CHAN OF INT result)', '  [2]INT p:', '  []INT q IS p:', '  [n]BYTE m:', '  SEQ', '    packet ? q', '    m := s',
+         '    result ! ((INT u[p[0]]) TIMES 256) PLUS (INT m[p[1] /\\ 3])', ':'], pairs()[::5])
+
+
 def stops():
     """STOP wherever it stands, and what stops."""
     worker('an IF without guards', ['IF', 'r := p[0]'], pairs()[:3])
@@ -272,7 +408,8 @@ def shared():
 
 
 def main():
-    parts = (operators, conversions, truth, registers, subscripts, assignments, parameters, choices, messages, spellings, declarations, stops, shared)
+    parts = (operators, conversions, truth, registers, subscripts, assignments, parameters, functions, choices, messages, spellings, declarations, stops, shared,
+             other_names, other_arrays)
     for part in parts:
         part()
 

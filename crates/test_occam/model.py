@@ -257,9 +257,16 @@ class Parser:
             self.line().want(':')
             return ('proc', name, parameters, body)
         of = line.type()
+        types = [of[0]]
+        while line.take(','):
+            types.append(line.type()[0])
         if line.take('FUNCTION'):
             name = line.next()
             parameters = line.parameters()
+            if line.peek() is None:
+                body = self.value_process(indent + 2)
+                self.line().want(':')
+                return ('valof', types, name, parameters, body)
             line.want('IS')
             value = line.expression()
             line.want(':')
@@ -269,10 +276,29 @@ class Parser:
             array = line.next()
             line.want(':')
             return ('retypes', of, names[0], array)
+        if line.take('IS'):
+            value = line.expression()
+            line.want(':')
+            return ('other', of, names[0], value)
         while line.take(','):
             names.append(line.next())
         line.want(':')
         return ('variables', of, names)
+
+    def value_process(self, indent):
+        """Declarations, and VALOF: a process, and the results, which see these declarations alone."""
+        declarations = []
+        while self.is_declaration():
+            declarations.append(self.declaration(indent))
+        line = self.line()
+        line.want('VALOF')
+        line.end()
+        process = self.block(indent + 2)
+        line = self.line()
+        line.want('RESULT')
+        results = line.expressions()
+        line.end()
+        return (declarations, process, results)
 
     def block(self, indent):
         """Declarations, and the process that they are for."""
@@ -520,8 +546,21 @@ class Machine:
         return negated
 
     def function(self, tree, names):
-        _, _, parameters, value, own = names[tree[1]]
+        kind, _, parameters, value, own = names[tree[1]]
+        if kind != 'function':
+            raise Fault(f'{tree[1]} stands in an expression')
         return self.word(value, {**own, **self.arguments(parameters, tree[2], names)})
+
+    def results(self, tree, names):
+        """The words that a FUNCTION with a body gives: its process is done among its own names, and then they are worked out."""
+        _, types, parameters, (declarations, process, results), own = names[tree[1]]
+        own = {**own, **self.arguments(parameters, tree[2], names)}
+        for declaration in declarations:
+            self.declare(declaration, own)
+        self.block(process, own)
+        if len(types) != len(results):
+            raise Fault(f'{len(types)} results are wanted')
+        return [self.word(result, own) for result in results]
 
     def array(self, tree, names, of):
         """The array of a name, or of a table that is written there."""
@@ -600,9 +639,15 @@ class Machine:
         elif kind == 'retypes':
             _, (of, _), name, array = declaration
             names[name] = Array(of, names[array].memory, names[array].is_table)
+        elif kind == 'other':
+            _, (of, size), name, tree = declaration
+            names[name] = self.target(tree, names) if size is None else self.array(tree, names, of)
         elif kind == 'proc':
             _, name, parameters, body = declaration
             names[name] = ('proc', None, parameters, body, dict(names))
+        elif kind == 'valof':
+            _, types, name, parameters, body = declaration
+            names[name] = ('valof', types, parameters, body, dict(names))
         else:
             _, of, name, parameters, value = declaration
             names[name] = ('function', of, parameters, value, dict(names))
@@ -675,7 +720,12 @@ class Machine:
             to.memory[:] = bytes(self.array(values[0], names, to.of).memory)
             return
         places = [self.target(target, names) for target in targets]
-        words = [self.word(value, names) for value in values]
+        if values[0][0] == 'call' and names[values[0][1]][0] == 'valof':
+            words = self.results(values[0], names)
+        else:
+            words = [self.word(value, names) for value in values]
+        if len(places) != len(words):
+            raise Fault(f'{len(words)} targets are wanted')
         for place, word in reversed(list(zip(places, words))):
             place.write(word)
 
@@ -729,10 +779,36 @@ def answer(tree, packet):
     return f'{digits(result)} {int(flag)} {digits(traced)}'
 
 
+def parts(tree):
+    """A tree, and all that are in it."""
+    yield tree
+    for part in tree:
+        if isinstance(part, (tuple, list)):
+            yield from parts(part)
+
+
+def is_literal(tree):
+    """Whether an expression has no name."""
+    kind = tree[0] if tree else None
+    return kind in ('number', 'byte', 'truth') or kind in ('dyadic', 'monadic', 'convert') and all(map(is_literal, tree[2:]))
+
+
+def sets_flag(tree):
+    """Whether a VAL has a part without names that sets the flag: a fault also where no packet comes."""
+    machine = Machine(b'')
+    for declaration in parts(tree):
+        if declaration and declaration[0] == 'val':
+            for part in filter(is_literal, parts(declaration[3])):
+                machine.word(part, {})
+    return machine.flag
+
+
 def answered(lines):
     """A worker's lines, with the answers of its packets; none where a constant sets the flag."""
     is_packet = [line.startswith('@packet ') for line in lines]
     tree = parse('\n'.join(line for line, packet in zip(lines[1:], is_packet[1:]) if not packet))
+    if sets_flag(tree):
+        return []
     try:
         return [f'{line} > {answer(tree, bytes.fromhex(line.split()[1]))}' if packet else line
                 for line, packet in zip(lines, is_packet)]

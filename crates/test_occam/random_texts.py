@@ -24,7 +24,8 @@ WORD = re.compile(r'[A-Za-z][A-Za-z0-9.]*')
 
 
 class Entry:
-    """What a name means: a value, a variable, an array, a table, a procedure or a function."""
+    """What a name means: a value, a variable, an array, a table, a procedure, a function, or a routine: a FUNCTION with a body, of
+    several types."""
 
     def __init__(self, kind, of=None, size=None, parameters=(), is_open=False):
         self.kind = kind
@@ -33,13 +34,19 @@ class Entry:
         self.parameters = parameters
         self.is_open = is_open
 
+    def read_only(self):
+        """What it is where nothing outside is assigned to."""
+        kind = {'variable': 'value', 'array': 'table'}.get(self.kind, self.kind)
+        return Entry(kind, self.of, self.size, self.parameters, self.is_open)
+
 
 class Maker:
     def __init__(self, seed):
         self.random = random.Random(seed)
-        # Whether INT has its other name, and whether BOOLs have a CASE.
+        # Whether INT has its other name, whether BOOLs have a CASE, and whether variables and arrays have other names.
         self.is_long = seed % 8 == 5
         self.has_truth_cases = seed % 4 == 2
+        self.has_other_names = seed % 4 == 3
         self.scope = {}
         self.out = []
         self.indent = 0
@@ -284,7 +291,9 @@ class Maker:
     def declaration(self, depth):
         pick = self.random.random()
         name = self.new()
-        if pick < 0.25:
+        if self.has_other_names and self.chance(0.3):
+            self.other_name(name)
+        elif pick < 0.25:
             of = self.of(INT, INT, BOOL, BYTE)
             type_ = f'{of} ' if self.chance(0.7) else ''
             text = self.whole(of, self.random.randint(0, 3)) if self.levels or depth else self.constant(of)
@@ -313,7 +322,7 @@ class Maker:
         elif pick < 0.9 and self.levels < 2:
             self.procedure(name)
         elif self.levels < 2:
-            self.function(name)
+            self.of(self.function, self.routine)(name)
 
     def declared_table(self, name, of, size):
         self.line(f'VAL [{self.of("", self.computed(size))}]{of} {name} IS {self.table(of, size)}:')
@@ -330,6 +339,24 @@ class Maker:
             is_open = self.chance(0.4)
             self.line(f'[{"" if is_open else size}]{of} {name} RETYPES {array}:')
             self.scope[name] = Entry('array', of, size, is_open=is_open and entry.is_open)
+
+    def other_name(self, name):
+        """Another name for a variable or an element, or for an array; or for an array or a table, to be read."""
+        pick = self.random.random()
+        if pick < 0.45:
+            of = self.of(INT, INT, BOOL, BYTE)
+            target = self.target(of)
+            if target:
+                self.line(f'{of} {name} IS {target}:')
+                self.scope[name] = Entry('variable', of)
+            return
+        kind, kinds = ('array', ('array',)) if pick < 0.7 else ('table', self.of(('array',), ('table',)))
+        array = self.pick(lambda e: e.kind in kinds)
+        if array:
+            entry = self.scope[array]
+            size = '' if entry.is_open or self.chance(0.5) else self.computed(entry.size)
+            self.line(f'{"VAL " if kind == "table" else ""}[{size}]{entry.of} {name} IS {array}:')
+            self.scope[name] = Entry(kind, entry.of, entry.size, is_open=entry.is_open)
 
     def parameters(self, passings):
         found = []
@@ -399,6 +426,33 @@ class Maker:
         self.line(f'{of} FUNCTION {name} ({self.spelled(parameters)}) IS {value}:')
         self.scope[name] = Entry('function', of, None, [one[:3] for one in parameters])
 
+    def routine(self, name):
+        """A FUNCTION with a body, which assigns to nothing outside, traces nothing and calls no PROC of the outside."""
+        types = [self.of(INT, INT, BOOL, BYTE) for _ in range(self.of(1, 1, 2, 3))]
+        parameters = self.parameters(['VAL'])
+        self.line(f'{", ".join(types)} FUNCTION {name} ({self.spelled(parameters)})')
+        outer, turns = dict(self.scope), self.turns
+        self.scope = {one: entry.read_only() for one, entry in outer.items() if entry.kind not in ('procedure', 'channel')}
+        self.with_parameters(parameters)
+        self.levels += 1
+        self.indent += 1
+        self.turns *= 8
+        for of in dict.fromkeys(types):
+            own = self.new()
+            self.line(f'{of} {own}:')
+            self.scope[own] = Entry('variable', of)
+        self.declared(2)
+        self.line('VALOF')
+        self.indent += 1
+        self.block(2)
+        self.line(f'RESULT {", ".join(self.whole(of, self.random.randint(0, 2)) for of in types)}')
+        self.indent -= 2
+        self.levels -= 1
+        self.turns = turns
+        self.scope = outer
+        self.line(':')
+        self.scope[name] = Entry('routine', types, None, [one[:3] for one in parameters])
+
     # Processes
 
     def block(self, depth):
@@ -449,7 +503,21 @@ class Maker:
             return f'{array}[{self.subscript(self.scope[array].size, 2)}]'
         return self.pick(lambda e: e.kind == 'variable' and e.of == of)
 
+    def take_results(self):
+        """A call of a FUNCTION with a body, where there are variables for its results."""
+        name = self.pick(lambda e: e.kind == 'routine' and all(
+            self.names(lambda one, of=of: one.kind == 'variable' and one.of == of) for of in e.of))
+        if not name or self.calls > 20:
+            return False
+        self.calls += 1
+        entry = self.scope[name]
+        targets = [self.target(of) for of in entry.of]
+        self.line(f'{", ".join(targets)} := {name} ({self.arguments(entry.parameters, 2)})')
+        return True
+
     def assign(self):
+        if self.chance(0.25) and self.take_results():
+            return
         targets, values = [], []
         for _ in range(self.random.choice([1, 1, 1, 1, 2, 2, 3, 4])):
             of = self.of(INT, INT, BOOL, BYTE)

@@ -66,9 +66,6 @@ static OPERATORS: [&str; 5] = ["+", "-", "*", "/", "\\"];
 /// The types of what is declared, and the bracket that one of an array begins with.
 static TYPES: [&str; 4] = ["INT ", "BOOL ", "BYTE ", "["];
 
-/// The remedy for another name for a variable.
-const NO_ABBREVIATION: &str = "VAL n IS e names a value; a variable has no second name";
-
 /// The remedy for an IF with a replicator.
 const NO_REPLICATED_IF: &str =
     "there is no IF i = s FOR n: use SEQ i = s FOR n, and an IF within it";
@@ -213,7 +210,7 @@ fn for_operator(at: Around<'_>) -> Option<&'static str> {
     } else if at.behind.starts_with(":") {
         Some("a colon ends a declaration, and no process")
     } else if at.behind.starts_with("IS ") {
-        Some(NO_ABBREVIATION)
+        Some("another name has a type, as in INT x IS a[3]:")
     } else if at.behind.starts_with("[") && at.before.trim_ascii_end().ends_with("]") {
         Some("an array has one size and one subscript, as (n * i) + j")
     } else if at.behind.starts_with("x") && ends_with_zero(at.before) {
@@ -257,9 +254,7 @@ fn is_given(behind: &str) -> bool {
 
 /// The remedy where no more is wanted on a line.
 fn for_nothing(at: Around<'_>) -> Option<&'static str> {
-    if at.behind.starts_with("IS ") {
-        Some(NO_ABBREVIATION)
-    } else if at.line.starts_with("IF ") {
+    if at.line.starts_with("IF ") {
         Some(for_if(at.line))
     } else if begins_with_type(at.line) && is_given(at.behind) {
         Some("VAL INT n IS e names a value; a variable is given one by := below its declaration")

@@ -18,10 +18,12 @@ fn named_target<'t, 'a>(
     let entry = checker.find(frame.scope, name)?;
     match entry.meaning {
         Meaning::Variable { of, variable } => {
+            checker.check_own(frame, variable, name.span)?;
             checker.cells.write(variable);
             Ok(of)
         }
         Meaning::Element { storage, of } => {
+            checker.check_own_array(frame, storage, name.span)?;
             checker.cells.write_array(storage);
             Ok(of)
         }
@@ -42,6 +44,7 @@ fn element_target<'t, 'a>(
     let subscript = checker.expression(frame, subscript, Some(Primitive::Int), depth);
     let (view, subscript) = (view?, subscript?);
     checker.check_subscript(array, view, subscript.constness, place)?;
+    checker.check_own_array(frame, view.storage, array.span)?;
     checker.cells.write_array(view.storage);
     Ok(element_type(view.kind))
 }
@@ -100,6 +103,7 @@ fn copy<'t, 'a>(
     depth: u32,
 ) -> Result<(), Interrupt> {
     let to = checker.written_view(frame.scope, target)?;
+    checker.check_own_array(frame, to.storage, target.span)?;
     let shape = Shape {
         kind: to.kind,
         elements: Some(to.elements),

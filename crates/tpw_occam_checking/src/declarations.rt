@@ -5,7 +5,8 @@ use std::alloc::AllocError;
 use tpw_occam_core::Kind;
 use tpw_occam_faults::{FaultKind, Interrupt, NoteKind};
 use tpw_occam_meaning::{
-    Declaration, Expression as Tree, Expressions, Names, Parameters, Process, Type,
+    Declaration, Expression as Tree, Expressions, Names, Parameters, Primitives, Process, Type,
+    ValueProcess,
 };
 use tpw_occam_terms::{Name, Primitive};
 use tpw_occam_typing::{
@@ -129,18 +130,19 @@ fn named_value<'t, 'a>(
     }
 }
 
-/// A table of a shape.
-fn named_table<'t, 'a>(
+/// An array or a table of a shape, which is not written to under its name.
+fn named_array<'t, 'a>(
     checker: &mut Checker<'t, 'a>,
     frame: Frame,
     e: &'t Tree<'a>,
     shape: Shape,
 ) -> Result<Made<'t, 'a>, Interrupt> {
-    if !is_table(e) {
-        return Err(checker.fault(span_of(e), FaultKind::TableWanted));
-    }
     let view = checker.array(frame, e, shape, MAX_DEPTH)?;
-    Ok(unbound(Meaning::Array(view)))
+    checker.cells.read_array(view.storage);
+    Ok(unbound(Meaning::Array(View {
+        access: Access::Read,
+        ..view
+    })))
 }
 
 /// The kind of the elements of a list: that of its first constant.
@@ -198,7 +200,7 @@ fn value<'t, 'a>(
     match of {
         None if is_table(e) => {
             let shape = shape_of_table(checker, frame, e)?;
-            named_table(checker, frame, e, shape)
+            named_array(checker, frame, e, shape)
         }
         None => single(checker, declared, None, name, e, level),
         Some(of) if matches!(size_of(of), Size::One) => {
@@ -206,7 +208,7 @@ fn value<'t, 'a>(
         }
         Some(of) => {
             let shape = checker.shape(frame, of, name.span)?;
-            named_table(checker, frame, e, shape)
+            named_array(checker, frame, e, shape)
         }
     }
 }
@@ -327,6 +329,28 @@ fn retyped<'t, 'a>(
     Ok(unbound(Meaning::Array(view)))
 }
 
+/// Another name for a variable, an element or an array. In front of the worker's SEQ an element's subscript is worked
+/// out at once.
+fn abbreviation<'t, 'a>(
+    checker: &mut Checker<'t, 'a>,
+    declared: Declared,
+    of: &'t Type<'a>,
+    name: Name<'a>,
+    e: &'t Tree<'a>,
+    level: Level,
+) -> Result<Made<'t, 'a>, Interrupt> {
+    let depth = declared.levels(level);
+    let passed = checker.other_name(declared.frame, of, name, e, depth)?;
+    if passed.is_bound && level == Level::Worker {
+        let kind = NoteKind::BeforePacket { name: name.text };
+        checker.findings.note(name.span, kind)?;
+    }
+    Ok(Made {
+        meaning: passed.meaning,
+        is_bound: passed.is_bound,
+    })
+}
+
 /// A PROC: its parameters, its body and its scope.
 fn procedure<'t, 'a>(
     checker: &mut Checker<'t, 'a>,
@@ -356,6 +380,24 @@ fn function<'t, 'a>(
         of,
         signature,
         value,
+        scope: frame.scope,
+    }))
+}
+
+/// A FUNCTION with a body: its parameters, which are VAL.
+fn routine<'t, 'a>(
+    checker: &mut Checker<'t, 'a>,
+    frame: Frame,
+    of: &'t Primitives,
+    parameters: &'t Parameters<'a>,
+    body: &'t ValueProcess<'a>,
+) -> Result<Made<'t, 'a>, Interrupt> {
+    checker.check_values(parameters)?;
+    let signature = checker.signature(frame, parameters, Callee::Procedure)?;
+    Ok(unbound(Meaning::Routine {
+        of,
+        signature,
+        body,
         scope: frame.scope,
     }))
 }
@@ -398,6 +440,9 @@ pub(crate) fn declare<'t, 'a>(
         Declaration::Retypes { of, name, array } => {
             (*name, retyped(checker, frame, of, *name, *array))
         }
+        Declaration::Abbreviation { of, name, value: e } => {
+            (*name, abbreviation(checker, declared, of, *name, e, level))
+        }
         Declaration::Procedure {
             name,
             parameters,
@@ -409,6 +454,12 @@ pub(crate) fn declare<'t, 'a>(
             parameters,
             value,
         } => (*name, function(checker, frame, *of, parameters, value)),
+        Declaration::Routine {
+            of,
+            name,
+            parameters,
+            body,
+        } => (*name, routine(checker, frame, of, parameters, body)),
     };
     let made = or_else(made, unbound(Meaning::Wrong))?;
     add_per_call(checker, name, before)?;

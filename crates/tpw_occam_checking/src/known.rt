@@ -29,6 +29,8 @@ struct Known<'a> {
     /// Its kind, where a warning is due if it is never used.
     what: Option<Unused>,
     parameters: Places,
+    /// Where the name is declared that it is another one for.
+    other: Option<usize>,
     is_used: bool,
     is_written: bool,
     before: Scope,
@@ -88,11 +90,27 @@ impl<'a> Usage<'a> {
             name,
             what,
             parameters,
+            other: None,
             is_used: false,
             is_written: false,
             before,
         })?;
         Ok(Some(innermost))
+    }
+
+    /// Declares another name in front of a scope, for one that is declared at a place.
+    pub(crate) fn declare_other(
+        &mut self,
+        before: Scope,
+        name: Name<'a>,
+        other: Option<usize>,
+    ) -> Result<Scope, AllocError> {
+        let at = self.known.len();
+        let scope = self.declare(before, name, Some(Unused::Value), Places::NONE)?;
+        if let Some(known) = self.known.get_mut(at) {
+            known.other = other;
+        }
+        Ok(scope)
     }
 
     /// Where a name is declared that is in scope.
@@ -121,12 +139,25 @@ impl<'a> Usage<'a> {
         Some(at)
     }
 
+    /// Assigns to what is declared at a place, and to what that is another name for.
+    fn write(&mut self, at: usize) {
+        let mut next = Some(at);
+        for _ in 0..self.known.len() {
+            let Some(at) = next else {
+                return;
+            };
+            next = None;
+            if let Some(known) = self.known.get_mut(at) {
+                known.is_written = true;
+                next = known.other;
+            }
+        }
+    }
+
     /// Uses a name that is assigned to; returns where it is declared.
     pub(crate) fn write_name(&mut self, scope: Scope, name: Name<'a>) -> Option<usize> {
         let at = self.use_name(scope, name)?;
-        if let Some(known) = self.known.get_mut(at) {
-            known.is_written = true;
-        }
+        self.write(at);
         Some(at)
     }
 

@@ -5,6 +5,7 @@ mod assignments;
 mod branches;
 mod choices;
 mod declarations;
+mod functions;
 mod known;
 mod limits;
 mod messages;

@@ -57,6 +57,7 @@ pub(crate) fn trace<'t, 'a>(
     let (channel, protocol) = checker.channel_of(frame.scope, name)?;
     match channel {
         Channel::Traces => {
+            checker.check_silent(frame, name.span)?;
             sent_by(checker, frame, protocol, e, depth)?;
             checker.traced = checker.traced.saturating_add(message_bytes(protocol));
             Ok(())

@@ -2,10 +2,10 @@
 //!
 //! `depth` counts down with each process that lies within another, inlined calls among them.
 
-use crate::assignments::assignment;
 use crate::branches::Branches;
 use crate::choices::{Seen, Selector, case_guard, chosen_by, guard};
 use crate::declarations::{Declared, Level, declare};
+use crate::functions::assigned;
 use crate::limits::{MAX_GUARDS, MAX_TURNS, halves};
 use crate::messages::trace;
 use crate::trees::{cases_of, guards_of, has_else, place_of, steps_of};
@@ -97,11 +97,6 @@ fn simple<'t, 'a>(
     match p {
         Written::Skip { .. } => Ok(()),
         Written::Stop { .. } => Ok(()),
-        Written::Assign {
-            targets,
-            values,
-            ..
-        } => assignment(checker, frame, targets, values, depth),
         Written::Send { channel, value, .. } => trace(checker, frame, *channel, value, depth),
         Written::Receive { channel, .. } => Err(checker.fault(channel.span, FaultKind::Receive)),
         _ => Err(Interrupt::Reported),
@@ -314,7 +309,8 @@ fn procedure_call<'t, 'a>(
         return Err(checker.not_a(name, entry, Use::Procedure));
     };
     let inlined = checker.inline(frame, name, entry, signature, arguments, scope, depth)?;
-    process(checker, inlined.frame, body, inlined.depth)
+    let frame = inlined.frame.in_procedure(name.span);
+    process(checker, frame, body, inlined.depth)
 }
 
 /// Declarations, and the process that they are for.
@@ -376,6 +372,11 @@ pub(crate) fn process<'t, 'a>(
             arguments,
             ..
         } => procedure_call(checker, frame, *name, arguments, depth - 1),
+        Written::Assign {
+            targets,
+            values,
+            ..
+        } => assigned(checker, frame, targets, values, depth - 1),
         Written::Declared { .. } => scoped(checker, frame, p, depth - 1),
         other => simple(checker, frame, other, depth),
     }

@@ -1,9 +1,10 @@
 //! Parts of declarations and processes.
 
 use tpw_occam_meaning::{
-    Cases, Choices, Declaration, Declarations, Expression, Expressions, Names, Process, Processes,
+    Cases, Choices, Declaration, Declarations, Expression, Expressions, Names, Primitives, Process,
+    Processes,
 };
-use tpw_occam_terms::{Name, Span};
+use tpw_occam_terms::{Name, Primitive, Span};
 
 /// The first of several names.
 pub(crate) fn first_of<'a>(names: &Names<'a>) -> Option<Name<'a>> {
@@ -19,8 +20,10 @@ pub(crate) fn declared_place(declaration: &Declaration<'_>) -> Option<Span> {
         Declaration::Value { name, .. } => Some(name.span),
         Declaration::Variables { names, .. } => Some(first_of(names)?.span),
         Declaration::Retypes { name, .. } => Some(name.span),
+        Declaration::Abbreviation { name, .. } => Some(name.span),
         Declaration::Procedure { name, .. } => Some(name.span),
         Declaration::Function { name, .. } => Some(name.span),
+        Declaration::Routine { name, .. } => Some(name.span),
         Declaration::Wrong { names } => Some(first_of(names)?.span),
     }
 }
@@ -57,6 +60,25 @@ pub(crate) fn only<'t, 'a>(list: &'t Expressions<'a>) -> Option<&'t Expression<'
         Expressions::More(e, more) if matches!(**more, Expressions::End) => Some(e),
         _ => None,
     }
+}
+
+/// The first of the types of results, and those behind it.
+pub(crate) fn first_type(types: &Primitives) -> (Primitive, Option<&Primitives>) {
+    match types {
+        Primitives::One(of) => (*of, None),
+        Primitives::More(of, more) => (*of, Some(&**more)),
+    }
+}
+
+/// How many results there are of these types.
+pub(crate) fn types_of(types: &Primitives) -> usize {
+    let mut count: usize = 1;
+    let mut rest = types;
+    while let Primitives::More(_, more) = rest {
+        count = count.saturating_add(1);
+        rest = more;
+    }
+    count
 }
 
 /// How many steps a SEQ has.

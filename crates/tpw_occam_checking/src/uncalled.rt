@@ -1,5 +1,6 @@
 //! PROCs and FUNCTIONs that are not called: their bodies are read once, for the faults of their types.
 
+use crate::functions::valued;
 use crate::processes::process;
 use tpw_occam_faults::Interrupt;
 use tpw_occam_typing::{Checker, Entry, Frame, MAX_DEPTH, Meaning};
@@ -28,6 +29,17 @@ fn body<'t, 'a>(checker: &mut Checker<'t, 'a>, entry: Entry<'t, 'a>) -> Result<(
             let frame = Frame::OUTERMOST.with_scope(scope);
             checker.expression(frame, value, Some(of), MAX_DEPTH)?;
             Ok(())
+        }
+        Meaning::Routine {
+            of,
+            signature,
+            body,
+            scope,
+        } => {
+            let scope = checker.as_declared(signature, scope)?;
+            let frame = Frame::OUTERMOST.with_scope(scope);
+            let frame = frame.in_function(checker.cells.count());
+            valued(checker, frame, body, of, MAX_DEPTH)
         }
         _ => Ok(()),
     }

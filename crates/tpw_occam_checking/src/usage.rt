@@ -9,7 +9,7 @@ use std::alloc::{AllocError, Global};
 use tpw_occam_faults::{Construct, Findings, NoteKind, Unused};
 use tpw_occam_meaning::{
     Cases, Choices, Declaration, Declarations, Expression, Expressions, Names, Parameters, Process,
-    Processes, Sizes, Source,
+    Processes, Sizes, Source, ValueProcess,
 };
 use tpw_occam_terms::{Name, Span};
 use tpw_occam_typing::{bare, span_of};
@@ -366,6 +366,58 @@ fn function<'t, 'a>(
     usage.declare(scope, name, Some(Unused::Function), Places::NONE)
 }
 
+/// The body of a FUNCTION.
+#[cycle(processes)]
+fn valued<'t, 'a>(
+    alloc: Global,
+    usage: &mut Usage<'a>,
+    scope: Scope,
+    body: &'t ValueProcess<'a>,
+    depth: u32,
+) -> Result<(), AllocError> {
+    if depth == 0 {
+        usage.end();
+        return Ok(());
+    }
+    let depth = depth - 1;
+    let mut scope = scope;
+    let mut rest = body;
+    while let ValueProcess::Declared {
+        declaration: declared,
+        body,
+    } = rest
+    {
+        scope = declaration(alloc, usage, scope, declared, depth)?;
+        rest = body;
+    }
+    if let ValueProcess::ValOf {
+        process: p,
+        results,
+        ..
+    } = rest
+    {
+        process(alloc, usage, scope, p, depth)?;
+        list(usage, scope, results, MAX_LEVELS);
+    }
+    Ok(())
+}
+
+/// A FUNCTION with a body: its parameters and its body. Returns the scope behind it.
+#[cycle(processes)]
+fn routine<'t, 'a>(
+    alloc: Global,
+    usage: &mut Usage<'a>,
+    scope: Scope,
+    name: Name<'a>,
+    declared: &'t Parameters<'a>,
+    body: &'t ValueProcess<'a>,
+    depth: u32,
+) -> Result<Scope, AllocError> {
+    let within = parameters(usage, scope, declared)?;
+    valued(alloc, usage, within, body, depth)?;
+    usage.declare(scope, name, Some(Unused::Function), Places::NONE)
+}
+
 /// A declaration. Returns the scope behind it.
 #[cycle(processes)]
 fn declaration<'t, 'a>(
@@ -389,8 +441,17 @@ fn declaration<'t, 'a>(
         }
         Declaration::Retypes { of, name, array } => {
             sizes(usage, scope, &of.sizes);
-            let _ = usage.use_name(scope, *array);
-            usage.declare(scope, *name, Some(Unused::Value), Places::NONE)
+            let other = usage.use_name(scope, *array);
+            usage.declare_other(scope, *name, other)
+        }
+        Declaration::Abbreviation { of, name, value } => {
+            sizes(usage, scope, &of.sizes);
+            expression(usage, scope, value, MAX_LEVELS);
+            let other = match written_name(value) {
+                Some((other, _)) => usage.use_name(scope, other),
+                None => None,
+            };
+            usage.declare_other(scope, *name, other)
         }
         Declaration::Procedure {
             name,
@@ -403,6 +464,12 @@ fn declaration<'t, 'a>(
             value,
             ..
         } => function(usage, scope, *name, parameters, value),
+        Declaration::Routine {
+            name,
+            parameters,
+            body,
+            ..
+        } => routine(alloc, usage, scope, *name, parameters, body, depth),
         Declaration::Wrong { names } => variables(usage, scope, names),
     }
 }

@@ -12,7 +12,7 @@ pub enum EntityKind {
     Variable(Primitive),
     /// An array that may be assigned to.
     Array { of: Primitive, elements: u32 },
-    /// A table, or a VAL parameter that is an array.
+    /// A table, or an array under a name by which it is not written to.
     Table { of: Primitive, elements: u32 },
     Procedure,
     Function,

@@ -65,8 +65,6 @@ pub enum FaultKind<'a> {
     TableHere,
     /// An array or a table is wanted.
     ArrayWanted,
-    /// A table that is written out is wanted.
-    TableWanted,
     /// A variable or an element is wanted.
     VariableWanted,
     /// An array has other elements.
@@ -109,6 +107,29 @@ pub enum FaultKind<'a> {
     NotVal {
         name: &'a str,
     },
+    /// A FUNCTION with a body that is not called alone behind `:=`.
+    NotAlone {
+        name: &'a str,
+        declared: Span,
+    },
+    /// A call with another number of results than there are variables.
+    Results {
+        name: &'a str,
+        declared: Span,
+        wanted: usize,
+        found: usize,
+    },
+    /// RESULT with another number of expressions than the FUNCTION has types.
+    ResultCount {
+        wanted: usize,
+        found: usize,
+    },
+    /// A FUNCTION that assigns to what is declared outside of it.
+    Outside {
+        name: &'a str,
+    },
+    /// A FUNCTION that traces.
+    TracesInFunction,
     /// A constant of a CASE that stands in it before.
     CaseTwice {
         first: Span,
@@ -178,12 +199,16 @@ impl FaultKind<'_> {
                 | FaultKind::NoByte { .. }
                 | FaultKind::TableHere
                 | FaultKind::ArrayWanted
-                | FaultKind::TableWanted
                 | FaultKind::VariableWanted
                 | FaultKind::Elements { .. }
                 | FaultKind::BoolElements
                 | FaultKind::Arguments { .. }
                 | FaultKind::NotVal { .. }
+                | FaultKind::NotAlone { .. }
+                | FaultKind::Results { .. }
+                | FaultKind::ResultCount { .. }
+                | FaultKind::Outside { .. }
+                | FaultKind::TracesInFunction
         )
     }
 }
@@ -297,6 +322,49 @@ fn write_arguments<W: fmt::Write>(
     )
 }
 
+/// How many results there are.
+fn write_count<W: fmt::Write>(f: &mut fmt::Formatter<W>, count: usize) -> fmt::Result {
+    let plural = if count == 1 { "" } else { "s" };
+    write!(f, "{count} result{plural}")
+}
+
+/// Writes faults of FUNCTIONs with a body.
+fn write_function<W: fmt::Write>(f: &mut fmt::Formatter<W>, kind: FaultKind<'_>) -> fmt::Result {
+    match kind {
+        FaultKind::NotAlone { name, declared } => {
+            let line = declared.line;
+            write!(
+                f,
+                "`{name}`, of line {line}, has a body: call it alone behind :=, as in x := {name} (..), and use x here"
+            )
+        }
+        FaultKind::Results {
+            name,
+            declared,
+            wanted,
+            found,
+        } => {
+            let line = declared.line;
+            write!(f, "`{name}`, of line {line}, gives ")?;
+            write_count(f, found)?;
+            write!(
+                f,
+                ": as many variables are wanted in front of :=, not {wanted}"
+            )
+        }
+        FaultKind::ResultCount { wanted, found } => {
+            f.write_str("this FUNCTION has types for ")?;
+            write_count(f, wanted)?;
+            write!(f, ", and RESULT gives {found}")
+        }
+        FaultKind::Outside { name } => write!(
+            f,
+            "this assigns to `{name}`, which is declared outside the FUNCTION: give it as a result, or write a PROC"
+        ),
+        _ => write_array(f, kind),
+    }
+}
+
 /// That an array has no such size.
 fn write_size<W: fmt::Write>(f: &mut fmt::Formatter<W>, elements: i64, bytes: u64) -> fmt::Result {
     if elements <= 0 {
@@ -367,7 +435,7 @@ fn write_value<W: fmt::Write>(f: &mut fmt::Formatter<W>, kind: FaultKind<'_>) ->
             let line = declared.line;
             write!(f, "`{name}`, of line {line}, carries something else")
         }
-        _ => write_array(f, kind),
+        _ => write_function(f, kind),
     }
 }
 
@@ -380,7 +448,6 @@ fn text_of(kind: FaultKind<'_>) -> &'static str {
         FaultKind::TableHere =>
             "a table stands where a value is wanted: declare it by VAL, and take an element",
         FaultKind::ArrayWanted => "an array or a table is wanted here",
-        FaultKind::TableWanted => "a table is wanted here: [e, ..] or a text",
         FaultKind::VariableWanted => "a variable or an element is wanted here",
         FaultKind::NoSize => "an array that is declared has a size, as in [16]INT",
         FaultKind::BoolElements => "elements are INTs or BYTEs",
@@ -398,6 +465,7 @@ fn text_of(kind: FaultKind<'_>) -> &'static str {
         FaultKind::WorkerBody => "the worker is declarations and one SEQ",
         FaultKind::NoReceive => "the worker's SEQ begins with the packet, as in packet ? x",
         FaultKind::NoSend => "the worker's SEQ ends with the result, as in result ! x",
+        FaultKind::TracesInFunction => "a FUNCTION traces nothing: write a PROC",
         FaultKind::OutsideProc => "variables and arrays are declared within a PROC",
         FaultKind::Compiler => "a fault of the compiler: please report it, with the text",
         _ => "a fault",

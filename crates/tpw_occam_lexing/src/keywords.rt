@@ -271,7 +271,6 @@ impl Keyword {
                 Unsupported::Real,
             ),
             Keyword::Reshapes => Some(Unsupported::Reshape),
-            Keyword::Result | Keyword::ValOf => Some(Unsupported::ValueProcess),
             Keyword::Step => Some(Unsupported::Step),
             Keyword::Timer => Some(Unsupported::Timer),
             Keyword::While => Some(Unsupported::While),

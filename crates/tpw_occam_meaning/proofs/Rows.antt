@@ -1,4 +1,4 @@
--- What three texts mean, computed on the definitions. The first:
+-- What five texts mean, computed on the definitions. The first:
 --
 --     VAL INT n IS 3:
 --     PROC p (VAL INT v, INT y)
@@ -17,7 +17,7 @@
 --         r ! y
 --     :
 --
--- .. and the second:
+-- .. the second:
 --
 --     VAL []BYTE t IS "a*n":
 --     INT FUNCTION f (VAL INT x, VAL []BYTE m) IS (INT m[1]) + x:
@@ -38,7 +38,7 @@
 --         r ! a[2]
 --     :
 --
--- .. and the third:
+-- .. the third:
 --
 --     PROC q (CHAN OF INT o, VAL INT v)
 --       o ! v
@@ -62,6 +62,42 @@
 --             STOP
 --         r ! (INT k) + s (a)
 --     :
+--
+-- .. the fourth:
+--
+--     VAL []INT t IS [8, 9]:
+--     VAL []INT u IS t:
+--     PROC w (CHAN OF [2]INT c, CHAN OF INT r, CHAN OF INT T)
+--       [2]INT a:
+--       []INT b IS a:
+--       SEQ
+--         c ? b
+--         INT x IS b[a[1]]:
+--         INT y IS x:
+--         VAL []INT v IS b:
+--         SEQ
+--           a[1] := 1
+--           y := u[1]
+--           T ! v[0]
+--         r ! a[0] + a[1]
+--     :
+--
+-- .. and the fifth:
+--
+--     INT, INT FUNCTION g (VAL INT x)
+--       INT y:
+--       VALOF
+--         y := x + 1
+--         RESULT y, x
+--     :
+--     PROC w (CHAN OF [2]INT c, CHAN OF INT r)
+--       [2]INT a:
+--       INT x:
+--       SEQ
+--         c ? a
+--         x, a[x] := g (a[1])
+--         r ! x + a[0]
+--     :
 use Rattle.std.proofs.Common.{◌≡◌, ℕ, true, false, List, [], ◌∷◌, Option, Some, None, refl}
 use Rattle.std.specs.Borrow.{Bor}
 use Rattle.std.specs.declared.boxed.Box.{Box}
@@ -83,6 +119,8 @@ use Rattle.tpw_occam_meaning.specs.declared.operator.Dyadic.{Dyadic}
 use Rattle.tpw_occam_meaning.specs.declared.operator.Dyadic.TheVariants as two
 use Rattle.tpw_occam_meaning.specs.declared.types.Names.TheVariants as names
 use Rattle.tpw_occam_meaning.specs.declared.types.Names as list
+use Rattle.tpw_occam_meaning.specs.declared.types.Primitives.{Primitives}
+use Rattle.tpw_occam_meaning.specs.declared.types.Primitives.TheVariants as primitives
 use Rattle.tpw_occam_meaning.specs.declared.types.Sizes.{Sizes}
 use Rattle.tpw_occam_meaning.specs.declared.types.Sizes.TheVariants as sizes
 use Rattle.tpw_occam_meaning.specs.declared.types.Type as written
@@ -92,6 +130,8 @@ use Rattle.tpw_occam_meaning.specs.declared.tree.Declaration.{Declaration}
 use Rattle.tpw_occam_meaning.specs.declared.tree.Declaration.TheVariants as declaration
 use Rattle.tpw_occam_meaning.specs.declared.tree.Declarations.{Declarations}
 use Rattle.tpw_occam_meaning.specs.declared.tree.Declarations.TheVariants as declarations
+use Rattle.tpw_occam_meaning.specs.declared.tree.ValueProcess.{ValueProcess}
+use Rattle.tpw_occam_meaning.specs.declared.tree.ValueProcess.TheVariants as value
 use Rattle.tpw_occam_meaning.specs.declared.tree.Process.{Process}
 use Rattle.tpw_occam_meaning.specs.declared.tree.Process.TheVariants as process
 use Rattle.tpw_occam_meaning.specs.declared.tree.Processes.{Processes}
@@ -107,7 +147,8 @@ use Rattle.tpw_occam_meaning.specs.Texts.{meaning_of_text}
 module _ (place : Span) (text : Bor (List ℕ)) (expression : Box Expression Global) (expressions' : Box Expressions Global)
     (names' : Box list.Names Global) (sizes' : Box Sizes Global) (parameters' : Box Parameters Global)
     (process' : Box Process Global) (processes' : Box Processes Global) (choices' : Box Choices Global) (cases' : Box Cases Global)
-    (declaration' : Box Declaration Global) (declarations' : Box Declarations Global) where
+    (declaration' : Box Declaration Global) (declarations' : Box Declarations Global)
+    (primitives' : Box Primitives Global) (body'' : Box ValueProcess Global) where
   abbrev name : ℕ → Name
   name c = record { text = record text { now = c ∷ [] }; span = place }
 
@@ -332,3 +373,77 @@ module _ (place : Span) (text : Bor (List ℕ)) (expression : Box Expression Glo
       ≡ Some (Some (record { result = 106 ∷ 0 ∷ 0 ∷ 0 ∷ []; flag = true; traced = 6 ∷ 0 ∷ 0 ∷ 0 ∷ [] }))
   unfolding meaning_of_text
   stops_and_goes_on = refl
+
+  abbrev other : written.Type → ℕ → Expression → Process → Process
+  other of c e p = declared (declaration.Abbreviation of (name c) e) p
+
+  abbrev table : ℕ → Expression → Declaration
+  table c e = declaration.Value (Some (int of_any_size)) (name c) e
+
+  -- u, v are 117, 118
+  abbrev changing : Process
+  changing = other (int sizes.End) 120 (element 98 (element 97 (number 49)))
+      (other (int sizes.End) 121 (variable 120)
+      (declared (table 118 (variable 98)) (sequence
+      (then (assign (element 97 (number 49)) (number 49))
+      (then (assign (variable 121) (element 117 (number 49)))
+      (then (process.Send (name 84) (element 118 (number 48)) place) processes.End))))))
+
+  abbrev fourth_body : Process
+  fourth_body = declared (declaration.Variables (int (of_size 50)) (one_name 97))
+      (other (int of_any_size) 98 (variable 97) (sequence
+      (then (process.Receive (name 99) (variable 98) place)
+      (then changing
+      (then (process.Send (name 114) (dyadic two.Add (element 97 (number 48)) (element 97 (number 49))) place) processes.End)))))
+
+  abbrev fourth : Source
+  fourth = record {
+    declarations =
+        behind (table 116 (tree.Table (record expressions' { value = pair (number 56) (number 57) }) place))
+        (behind (table 117 (variable 116)) (behind (procedure 119 channels fourth_body) declarations.End));
+  }
+
+  -- the subscript changes, and the name stays that of the element
+  pub stays : given fourth (7 ∷ 0 ∷ 0 ∷ 0 ∷ 0 ∷ 0 ∷ 0 ∷ 0 ∷ [])
+      ≡ Some (Some (record { result = 10 ∷ 0 ∷ 0 ∷ 0 ∷ []; flag = false; traced = 9 ∷ 0 ∷ 0 ∷ 0 ∷ [] }))
+  unfolding meaning_of_text
+  stays = refl
+
+  -- a subscript of 5 is 1, and sets the flag
+  pub is_beyond : given fourth (7 ∷ 0 ∷ 0 ∷ 0 ∷ 5 ∷ 0 ∷ 0 ∷ 0 ∷ [])
+      ≡ Some (Some (record { result = 16 ∷ 0 ∷ 0 ∷ 0 ∷ []; flag = true; traced = 7 ∷ 0 ∷ 0 ∷ 0 ∷ [] }))
+  unfolding meaning_of_text
+  is_beyond = refl
+
+  -- g is 103
+  abbrev giving : Declaration
+  giving = declaration.Routine (primitives.More Int (record primitives' { value = primitives.One Int })) (name 103)
+      (takes passing.Value 120 parameters.End)
+      (record body'' {
+        value = value.Declared (record declaration' { value = declaration.Variables (int sizes.End) (one_name 121) })
+            (record body'' {
+              value = value.ValOf (record process' { value = assign (variable 121) (dyadic two.Add (variable 120) (number 49)) })
+                  (pair (variable 121) (variable 120)) place;
+            });
+      })
+
+  abbrev fifth_steps : Processes
+  fifth_steps =
+      then (process.Receive (name 99) (variable 97) place)
+      (then (process.Assign (pair (variable 120) (element 97 (variable 120))) (one (calls 103 (element 97 (number 49)))) place)
+      (then (process.Send (name 114) (dyadic two.Add (variable 120) (element 97 (number 48))) place) processes.End))
+
+  abbrev fifth_body : Process
+  fifth_body = declared (declaration.Variables (int (of_size 50)) (one_name 97))
+      (declared (declaration.Variables (int sizes.End) (one_name 120)) (sequence fifth_steps))
+
+  abbrev fifth : Source
+  fifth = record {
+    declarations = behind giving
+        (behind (procedure 119 (with_type passing.Channel (int (of_size 50)) 99 (takes passing.Channel 114 parameters.End)) fifth_body) declarations.End);
+  }
+
+  pub gives : given fifth (7 ∷ 0 ∷ 0 ∷ 0 ∷ 5 ∷ 0 ∷ 0 ∷ 0 ∷ [])
+      ≡ Some (Some (record { result = 11 ∷ 0 ∷ 0 ∷ 0 ∷ []; flag = false; traced = [] }))
+  unfolding meaning_of_text
+  gives = refl

@@ -1,5 +1,5 @@
 -- Assignments.
-use Rattle.std.specs.Prelude.{ℕ, false, ◌||◌, Option, Some, None}
+use Rattle.std.specs.Prelude.{ℕ, false, ◌||◌, Option, Some, None, List, [], ◌∷◌}
 use Rattle.tpw_occam_core.specs.declared.arithmetic.Answer.{Answer}
 use Rattle.tpw_occam_core.specs.declared.kind.Kind.{Kind}
 use Rattle.tpw_occam_core.specs.declared.kind.Kind.TheVariants as elements
@@ -16,7 +16,7 @@ use Rattle.tpw_occam_terms.specs.declared.name.Primitive.TheVariants.{Int}
 use Rattle.tpw_occam_meaning.specs.Effects.{Effect, skipped}
 use Rattle.tpw_occam_meaning.specs.Expressions.{value_of, array_of, named}
 use Rattle.tpw_occam_meaning.specs.Maybe.{and_then, where_true}
-use Rattle.tpw_occam_meaning.specs.Names.{Storage, Array, Table, View, Variable, Element, Entry, Is, Names, found}
+use Rattle.tpw_occam_meaning.specs.Names.{Storage, Array, Table, View, Place, Variable, Element, Entry, Is, Names, found}
 use Rattle.tpw_occam_meaning.specs.Names.{bytes_in, word_value}
 use Rattle.tpw_occam_meaning.specs.States.{State, with_cell, with_array, flagged}
 use Rattle.tpw_occam_meaning.specs.Values.{Value, at, element_type}
@@ -77,6 +77,14 @@ all_assigned (More' p t q targets) (More' r e u values) names d =
     and_then (target_of t names d) (λ target. and_then (value_of e target.of names d) (λ v.
     assigning target v (all_assigned targets values names d)))
 all_assigned targets values names d = None
+
+-- .. and so of results, each of which goes to a place
+abbrev pub results_given : List Place → Expressions → Names → ℕ → Effect
+results_given [] End names d = skipped
+results_given (place ∷ places) (More' p e q results) names d =
+    and_then (target_in (Is place)) (λ target. and_then (value_of e target.of names d) (λ v.
+    assigning target v (results_given places results names d)))
+results_given places results names d = None
 
 -- the array that is the one target, and may be written to
 abbrev pub whole_target : Expressions → Names → Option View

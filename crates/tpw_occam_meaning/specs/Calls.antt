@@ -1,10 +1,11 @@
--- Calls of PROCs.
-use Rattle.std.specs.Prelude.{ℕ, Bool, true, false, ◌==◌, Option, Some, None, List, [], ◌∷◌}
+-- Calls of PROCs, and of FUNCTIONs with a body.
+use Rattle.std.specs.Prelude.{ℕ, Bool, true, false, ◌==◌, Option, Some, None, List, [], ◌∷◌, map}
 use Rattle.tpw_occam_core.specs.declared.kind.Kind.TheVariants as elements
 use Rattle.tpw_occam_core.specs.Arithmetic.{subscript}
 use Rattle.tpw_occam_core.specs.Meaning.{bind}
 use Rattle.tpw_occam_terms.specs.declared.name.Primitive.{Primitive}
 use Rattle.tpw_occam_terms.specs.declared.name.Primitive.TheVariants.{Int}
+use Rattle.tpw_occam_terms.specs.declared.name.Name.{Name}
 use Rattle.tpw_occam_meaning.specs.declared.expression.Expression.{Expression}
 use Rattle.tpw_occam_meaning.specs.declared.expression.Expression.TheVariants as tree
 use Rattle.tpw_occam_meaning.specs.declared.expression.Expressions.{Expressions}
@@ -16,7 +17,7 @@ use Rattle.tpw_occam_meaning.specs.Maybe.{and_then, where_true}
 use Rattle.tpw_occam_meaning.specs.Messages.{carried}
 use Rattle.tpw_occam_meaning.specs.Names.{Protocol, OneWord, Several, Traces, Place, Fixed, Variable, Element, Whole, Carrier}
 use Rattle.tpw_occam_meaning.specs.Names.{Form, OfValue, OfVariable, OfArray, OfChannel, Body, behind}
-use Rattle.tpw_occam_meaning.specs.Names.{Entry, Is, Procedure, Names, found}
+use Rattle.tpw_occam_meaning.specs.Names.{Entry, Is, Procedure, Routine, Names, found}
 use Rattle.tpw_occam_meaning.specs.States.{State}
 use Rattle.tpw_occam_meaning.specs.Values.{of_one, as_type, element_type}
 
@@ -67,3 +68,27 @@ entered arguments forms does names d = None
 abbrev pub called : Entry → Expressions → Names → ℕ → Effect
 called (Procedure forms does) arguments names d = entered arguments forms does names d
 called other arguments names d = None
+
+-- ---- FUNCTIONs with a body
+
+-- the call that an expression is, and what is passed in it
+abbrev pub call_in : Expression → Option (Name × Expressions)
+call_in (tree.Call' name p arguments) = Some (name, arguments)
+call_in (tree.Bracketed' p e span) = call_in e
+call_in other = None
+
+-- .. that stands alone behind :=
+abbrev pub call_alone : Expressions → Option (Name × Expressions)
+call_alone (More' p e q End) = call_in e
+call_alone values = None
+
+-- The targets take the results of a FUNCTION with a body; they are passed to it as variables are to a PROC, before its
+-- arguments. What has none does another thing.
+abbrev pub results_taken : Entry → Expressions → Expressions → Effect → Names → ℕ → Effect
+results_taken (Routine types forms does) targets arguments other names d =
+    entered targets (map OfVariable types) (λ results n. entered arguments forms (does results) names n) names d
+results_taken entry targets arguments other names d = other
+
+abbrev pub taken_from : Option (Name × Expressions) → Expressions → Effect → Names → ℕ → Effect
+taken_from None targets other names d = other
+taken_from (Some call) targets other names d = results_taken (found call.0 names) targets call.1 other names d

@@ -1,6 +1,6 @@
 -- Declarations: what is done behind them, with the names and the numbers that they take.
 use Rattle.std.specs.Prelude.{ℕ, ◌+◌, ◌/◌, ◌%◌, Bool, true, false, not, ◌==◌, if◌then◌else◌}
-use Rattle.std.specs.Prelude.{Option, Some, None}
+use Rattle.std.specs.Prelude.{Option, Some, None, List}
 use Rattle.std.specs.List.{list_all}
 use Rattle.tpw_occam_core.specs.declared.kind.Kind.{Kind}
 use Rattle.tpw_occam_core.specs.declared.kind.Kind.TheVariants as elements
@@ -14,10 +14,11 @@ use Rattle.tpw_occam_meaning.specs.declared.types.Names as list
 use Rattle.tpw_occam_meaning.specs.declared.types.Names.TheVariants as listed
 use Rattle.tpw_occam_meaning.specs.declared.types.Type as written
 use Rattle.tpw_occam_meaning.specs.declared.types.Parameters.{Parameters}
+use Rattle.tpw_occam_meaning.specs.Calls.{referred}
 use Rattle.tpw_occam_meaning.specs.Effects.{Effect, given, within_variable, within_array}
 use Rattle.tpw_occam_meaning.specs.Expressions.{value_of, array_of, type_of, view_in, fitting}
 use Rattle.tpw_occam_meaning.specs.Maybe.{and_then, where_true}
-use Rattle.tpw_occam_meaning.specs.Names.{Array, View, Fixed, Variable, Whole, Shape, Entry, Is, Procedure, Function}
+use Rattle.tpw_occam_meaning.specs.Names.{Array, View, Place, Fixed, Variable, Whole, Shape, Entry, Is, Procedure, Function, Routine}
 use Rattle.tpw_occam_meaning.specs.Names.{Names, found, with_name, taking}
 use Rattle.tpw_occam_meaning.specs.Types.{bytes_of, shape_of, by_sizes, forms_of, is_value}
 use Rattle.tpw_occam_meaning.specs.Values.{Value, Known, Varying, kind_of}
@@ -40,6 +41,11 @@ shape_of_table None e names =
     Some (record { kind = kind; size = None; is_variable = false })))
 shape_of_table (Some of) e names = shape_of of false names
 
+-- whether what is declared is an array, by its type, or else by what it is
+abbrev pub is_array : Option written.Type → Expression → Bool
+is_array None e = is_table e
+is_array (Some of) e = by_sizes of.sizes false true
+
 -- the type of a value, where it is said, or else its own
 abbrev pub type_of_value : Option written.Type → Expression → Names → Option Primitive
 type_of_value None e names = type_of e names
@@ -54,16 +60,26 @@ may_be_declared (Varying f) = true
 abbrev pub naming : Name → Option Entry → (Names → ℕ → Effect) → Names → ℕ → Effect
 naming name entry after names d = and_then entry (λ entry. after (with_name name entry names) d)
 
-abbrev pub table_entry : Option written.Type → Expression → Names → Option Entry
-table_entry of e names =
-    and_then (shape_of_table of e names) (λ shape. and_then (array_of e shape names) (λ view. Some (Is (Whole view))))
+-- another name for an array or a table, of a shape
+abbrev pub array_entry : Option Shape → Expression → Names → Option Entry
+array_entry wanted e names =
+    and_then wanted (λ shape. and_then (array_of e shape names) (λ view. Some (Is (Whole view))))
 
--- a value, or a table
+abbrev pub table_entry : Option written.Type → Expression → Names → Option Entry
+table_entry of e names = array_entry (shape_of_table of e names) e names
+
+-- a value; or an array or a table, which is not written to under this name
 abbrev pub value_declared : Option written.Type → Name → Expression → (Names → ℕ → Effect) → Names → ℕ → Effect
 value_declared of name e after names d =
-    if is_table e then naming name (table_entry of e names) after names d
+    if is_array of e then naming name (table_entry of e names) after names d
     else and_then (type_of_value of e names) (λ of. and_then (value_of e of names d) (λ v.
     where_true (may_be_declared v) (given d v (λ word n. after (with_name name (Is (Fixed of word)) names) n))))
+
+-- another name for a variable, an element or an array, as a parameter is for its argument
+abbrev pub abbreviated : written.Type → Name → Expression → (Names → ℕ → Effect) → Names → ℕ → Effect
+abbreviated of name e after names d =
+    by_sizes of.sizes (referred e of.of names d (λ place n. after (with_name name (Is place) names) n))
+    (naming name (array_entry (shape_of of true names) e names) after names d)
 
 -- variables are 0 or FALSE at first, and so are elements
 abbrev pub variables : Primitive → list.Names → (Names → ℕ → Effect) → Names → ℕ → Effect
@@ -102,3 +118,8 @@ abbrev pub function : Primitive → Parameters → Expression → Names → Opti
 function of takes e names =
     and_then (forms_of takes names) (λ forms. where_true (list_all is_value forms)
     (Some (Function of forms (taking takes (value_of e of) names))))
+
+abbrev pub routine : List Primitive → Parameters → (List Place → Names → ℕ → Effect) → Names → Option Entry
+routine types takes body names =
+    and_then (forms_of takes names) (λ forms. where_true (list_all is_value forms)
+    (Some (Routine types forms (λ results. taking takes (body results) names))))

@@ -73,10 +73,13 @@ Body Result = List Place → ℕ → Option Result
 abbrev pub behind : {Result : Type 0} → Place → Body Result → Body Result
 behind place body places d = body (place ∷ places) d
 
+-- A place, a PROC, a FUNCTION of one expression, or one with a body: the types of its results, what its arguments have to
+-- be, and what it does for the places of its results and then of its parameters.
 pub data Entry : Type 0 where
   Is : Place → Entry
   Procedure : List Form → Body (State → State) → Entry
   Function : Primitive → List Form → Body Value → Entry
+  Routine : List Primitive → List Form → (List Place → Body (State → State)) → Entry
   Nothing : Entry
 
 -- names with what they stand for, from the innermost on

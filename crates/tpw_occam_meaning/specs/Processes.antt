@@ -9,6 +9,8 @@ use Rattle.tpw_occam_meaning.specs.declared.expression.Expressions.{Expressions}
 use Rattle.tpw_occam_meaning.specs.declared.expression.Expressions.TheVariants.{End, More'}
 use Rattle.tpw_occam_meaning.specs.declared.tree.Declaration.{Declaration}
 use Rattle.tpw_occam_meaning.specs.declared.tree.Declaration.TheVariants as declaration
+use Rattle.tpw_occam_meaning.specs.declared.tree.ValueProcess.{ValueProcess}
+use Rattle.tpw_occam_meaning.specs.declared.tree.ValueProcess.TheVariants as body
 use Rattle.tpw_occam_meaning.specs.declared.tree.Process.{Process}
 use Rattle.tpw_occam_meaning.specs.declared.tree.Process.TheVariants as process
 use Rattle.tpw_occam_meaning.specs.declared.tree.Processes.{Processes}
@@ -17,15 +19,15 @@ use Rattle.tpw_occam_meaning.specs.declared.tree.Choices.{Choices}
 use Rattle.tpw_occam_meaning.specs.declared.tree.Choices.TheVariants as choices
 use Rattle.tpw_occam_meaning.specs.declared.tree.Cases.{Cases}
 use Rattle.tpw_occam_meaning.specs.declared.tree.Cases.TheVariants as cases
-use Rattle.tpw_occam_meaning.specs.Assignments.{assignment, whole_target}
-use Rattle.tpw_occam_meaning.specs.Calls.{called}
-use Rattle.tpw_occam_meaning.specs.Declarations.{value_declared, variables, arrays, naming, retyped, procedure, function}
+use Rattle.tpw_occam_meaning.specs.Assignments.{assignment, whole_target, results_given}
+use Rattle.tpw_occam_meaning.specs.Calls.{called, call_alone, taken_from}
+use Rattle.tpw_occam_meaning.specs.Declarations.{value_declared, abbreviated, variables, arrays, naming, retyped, procedure, function, routine}
 use Rattle.tpw_occam_meaning.specs.Effects.{Effect, skipped, stopped, followed_by, guarded_by, selected_by, repeated, given}
 use Rattle.tpw_occam_meaning.specs.Messages.{carried, message_of, tracing}
 use Rattle.tpw_occam_meaning.specs.Expressions.{value_of, constant, type_of}
 use Rattle.tpw_occam_meaning.specs.Maybe.{and_then, where_true}
-use Rattle.tpw_occam_meaning.specs.Names.{Word, Kept, Traces, Fixed, Is, Names, found, with_name}
-use Rattle.tpw_occam_meaning.specs.Types.{shape_of, by_sizes}
+use Rattle.tpw_occam_meaning.specs.Names.{Word, Kept, Traces, Place, Fixed, Is, Names, found, with_name}
+use Rattle.tpw_occam_meaning.specs.Types.{shape_of, by_sizes, all_types}
 
 -- ---- CASE
 
@@ -59,7 +61,7 @@ abbrev mutual
   run (process.Skip span) names d = skipped
   run (process.Stop span) names d = stopped
   run (process.Assign targets values span) names d =
-      assignment (whole_target targets names) targets values names d
+      taken_from (call_alone values) targets (assignment (whole_target targets names) targets values names d) names d
   run (process.Sequence' p steps span) names d = all_run steps names d
   run (process.Replicated' index start count p steps span) names d =
       and_then (constant start Int names) (λ from. and_then (constant count Int names) (λ n.
@@ -109,7 +111,17 @@ abbrev mutual
       by_sizes of.sizes (variables of.of list after names d)
       (and_then (shape_of of true names) (λ shape. arrays shape.kind shape.size list after names d))
   declared (declaration.Retypes of name array) after names d = naming name (retyped of array names) after names d
+  declared (declaration.Abbreviation of name e) after names d = abbreviated of name e after names d
   declared (declaration.Procedure' name takes p body) after names d =
       naming name (procedure takes (run body) names) after names d
   declared (declaration.Function of name takes e) after names d = naming name (function of takes e names) after names d
+  declared (declaration.Routine' types name takes p value) after names d =
+      naming name (routine (all_types types) takes (λ results. valued value results) names) after names d
   declared (declaration.Wrong list) after names d = None
+
+  -- what the body of a FUNCTION does, whose results go to these places
+  pub valued : ValueProcess → List Place → Names → ℕ → Effect
+  valued (body.Declared' p declaration q rest) results names d = declared declaration (valued rest results) names d
+  valued (body.ValOf' p process values span) results names d =
+      followed_by (run process names d) (results_given results values names d)
+  valued body.Wrong results names d = None

@@ -3,6 +3,7 @@ use Rattle.std.specs.Prelude.{ℕ, ◌*◌, ◌^◌, Bool, true, false, not, ◌
 use Rattle.tpw_occam_core.specs.declared.kind.Kind.{Kind}
 use Rattle.tpw_occam_core.specs.declared.kind.Kind.TheVariants as elements
 use Rattle.tpw_occam_core.specs.Sound.{is_message}
+use Rattle.tpw_occam_terms.specs.declared.name.Primitive.{Primitive}
 use Rattle.tpw_occam_terms.specs.declared.name.Primitive.TheVariants.{Int}
 use Rattle.tpw_occam_terms.specs.declared.name.Passing.{Passing}
 use Rattle.tpw_occam_terms.specs.declared.name.Passing.TheVariants as passing
@@ -11,6 +12,8 @@ use Rattle.tpw_occam_meaning.specs.declared.types.Sizes.TheVariants as sizes
 use Rattle.tpw_occam_meaning.specs.declared.types.Type as written
 use Rattle.tpw_occam_meaning.specs.declared.types.Parameters.{Parameters}
 use Rattle.tpw_occam_meaning.specs.declared.types.Parameters.TheVariants as parameters
+use Rattle.tpw_occam_meaning.specs.declared.types.Primitives.{Primitives}
+use Rattle.tpw_occam_meaning.specs.declared.types.Primitives.TheVariants as primitives
 use Rattle.tpw_occam_meaning.specs.Expressions.{constant}
 use Rattle.tpw_occam_meaning.specs.Maybe.{and_then, where_true}
 use Rattle.tpw_occam_meaning.specs.Names.{Names, Shape, Form, OfValue, OfVariable, OfArray, OfChannel}
@@ -84,3 +87,10 @@ is_value (OfValue of) = true
 is_value (OfVariable of) = false
 is_value (OfArray shape) = not shape.is_variable
 is_value (OfChannel protocol) = false
+
+-- ---- results
+
+-- the types of results, from the first on
+abbrev pub all_types : Primitives → List Primitive
+all_types (primitives.One of) = of ∷ []
+all_types (primitives.More' of p more) = of ∷ all_types more

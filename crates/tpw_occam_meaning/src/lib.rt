@@ -12,5 +12,7 @@ mod types;
 
 pub use expression::{Direction, Expression, Expressions};
 pub use operator::{Dyadic, Monadic};
-pub use tree::{Cases, Choices, Declaration, Declarations, Process, Processes, Source};
-pub use types::{Names, Parameters, Sizes, Type};
+pub use tree::{
+    Cases, Choices, Declaration, Declarations, Process, Processes, Source, ValueProcess,
+};
+pub use types::{Names, Parameters, Primitives, Sizes, Type};

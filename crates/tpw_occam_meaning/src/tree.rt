@@ -1,7 +1,7 @@
 //! Declarations and processes, as they are written.
 
 use crate::expression::{Expression, Expressions};
-use crate::types::{Names, Parameters, Type};
+use crate::types::{Names, Parameters, Primitives, Type};
 use tpw_occam_terms::{Name, Primitive, Span};
 
 /// A declaration.
@@ -24,6 +24,12 @@ pub enum Declaration<'a> {
         name: Name<'a>,
         array: Name<'a>,
     },
+    /// `INT x IS a[e]:`, `[]INT row IS a:`: another name.
+    Abbreviation {
+        of: Type<'a>,
+        name: Name<'a>,
+        value: Expression<'a>,
+    },
     /// `PROC p (..)`, its body, and `:`
     Procedure {
         name: Name<'a>,
@@ -37,10 +43,35 @@ pub enum Declaration<'a> {
         parameters: Parameters<'a>,
         value: Expression<'a>,
     },
+    /// `INT, INT FUNCTION f (..)`, its body, and `:`
+    Routine {
+        of: Primitives,
+        name: Name<'a>,
+        parameters: Parameters<'a>,
+        body: Box<ValueProcess<'a>>,
+    },
     /// A declaration with a fault, and the names that it would declare.
     Wrong {
         names: Names<'a>,
     },
+}
+
+/// The body of a FUNCTION. `span` is the line of RESULT.
+#[cycle(process)]
+pub enum ValueProcess<'a> {
+    /// A declaration, and the body that it is for.
+    Declared {
+        declaration: Box<Declaration<'a>>,
+        body: Box<ValueProcess<'a>>,
+    },
+    /// `VALOF`, its process, and `RESULT e, f`
+    ValOf {
+        process: Box<Process<'a>>,
+        results: Expressions<'a>,
+        span: Span,
+    },
+    /// A body with a fault.
+    Wrong,
 }
 
 /// A process. `span` is its line.
@@ -161,6 +192,11 @@ impl Drop for Declaration<'_> {
                 name: _,
                 array: _,
             } => {}
+            Declaration::Abbreviation {
+                of: _type,
+                name: _,
+                value: _value,
+            } => {}
             Declaration::Procedure {
                 name: _,
                 parameters: _parameters,
@@ -172,7 +208,31 @@ impl Drop for Declaration<'_> {
                 parameters: _parameters,
                 value: _value,
             } => {}
+            Declaration::Routine {
+                of: _types,
+                name: _,
+                parameters: _parameters,
+                body: _body,
+            } => {}
             Declaration::Wrong { names: _names } => {}
+        }
+    }
+}
+
+impl Drop for ValueProcess<'_> {
+    #[cycle(process)]
+    fn drop(self) {
+        match self {
+            ValueProcess::Declared {
+                declaration: _declaration,
+                body: _body,
+            } => {}
+            ValueProcess::ValOf {
+                process: _process,
+                results: _results,
+                span: _,
+            } => {}
+            ValueProcess::Wrong => {}
         }
     }
 }

@@ -9,6 +9,12 @@ pub enum Names<'a> {
     More(Name<'a>, Box<Names<'a>>),
 }
 
+/// The types of a FUNCTION's results, from the first on.
+pub enum Primitives {
+    One(Primitive),
+    More(Primitive, Box<Primitives>),
+}
+
 /// The sizes in front of a type, from the first on; none of what is no array.
 pub enum Sizes<'a> {
     End,
@@ -50,6 +56,15 @@ impl Drop for Names<'_> {
         match self {
             Names::End => {}
             Names::More(_, _more) => {}
+        }
+    }
+}
+
+impl Drop for Primitives {
+    fn drop(self) {
+        match self {
+            Primitives::One(_) => {}
+            Primitives::More(_, _more) => {}
         }
     }
 }

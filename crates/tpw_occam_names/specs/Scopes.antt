@@ -2,8 +2,9 @@
 use Rattle.std.specs.Prelude.{[], ◌∷◌, map}
 use Rattle.tpw_occam_meaning.specs.Expressions.{value_of}
 use Rattle.tpw_occam_meaning.specs.Names as text
-use Rattle.tpw_occam_meaning.specs.Names.{Names, Entry, Is, Procedure, Function, taking}
-use Rattle.tpw_occam_meaning.specs.Processes.{run}
+use Rattle.tpw_occam_meaning.specs.Names.{Names, Entry, Is, Procedure, Function, Routine, taking}
+use Rattle.tpw_occam_meaning.specs.Processes.{run, valued}
+use Rattle.tpw_occam_meaning.specs.Types.{all_types}
 use Rattle.tpw_occam_names.specs.declared.scope.Word.{Word}
 use Rattle.tpw_occam_names.specs.declared.scope.Word.TheVariants as word
 use Rattle.tpw_occam_names.specs.declared.scope.Storage.{Storage}
@@ -61,6 +62,8 @@ entry_of (meaning.Procedure forms takes body) names =
     Procedure (map form_of forms.now) (taking takes.now (run body.now) names)
 entry_of (meaning.Function of forms takes e) names =
     Function of (map form_of forms.now) (taking takes.now (value_of e.now of) names)
+entry_of (meaning.Routine types forms takes body) names =
+    Routine (all_types types.now) (map form_of forms.now) (λ results. taking takes.now (valued body.now results) names)
 
 abbrev pub names_of : Scope → Names
 names_of Empty = []

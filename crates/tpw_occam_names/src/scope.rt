@@ -5,7 +5,7 @@ ghost use Rattle.tpw_occam_meaning.specs.Names.{found, Nothing};
 ghost use Rattle.tpw_occam_names.specs.Scopes.{names_of, entry_of};
 
 use tpw_occam_core::Kind;
-use tpw_occam_meaning::{Expression, Parameters, Process};
+use tpw_occam_meaning::{Expression, Parameters, Primitives, Process, ValueProcess};
 use tpw_occam_terms::{Name, Primitive};
 
 /// A constant, or the word that a cell has, which is only read.
@@ -74,6 +74,8 @@ pub enum Meaning<'s, 't, 'a> {
     Carrier(Channel, Protocol),
     Procedure(&'s [Form], &'t Parameters<'a>, &'t Process<'a>),
     Function(Primitive, &'s [Form], &'t Parameters<'a>, &'t Expression<'a>),
+    /// A FUNCTION with a body.
+    Routine(&'t Primitives, &'s [Form], &'t Parameters<'a>, &'t ValueProcess<'a>),
 }
 
 /// The names that are in scope, from the innermost on.

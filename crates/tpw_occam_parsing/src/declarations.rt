@@ -4,13 +4,13 @@ use crate::draft::{DeclarationNode, Draft, ExpressionId, SizeNode, Stretch, Type
 use crate::expressions::{MAX_DEPTH, expression, primitive, wanted};
 use crate::parts::{
     Part, around, behind, behind_first, front, keyword_of, name_of, place, position_of,
-    position_of_keyword, symbol_of, within,
+    position_of_keyword, symbol_of, up_to_comma, within,
 };
 use crate::phrases::{front_type, name, names, parameters};
 use crate::stop::Stop;
 use std::alloc::AllocError;
 use tpw_occam_lexing::{Keyword, Symbol};
-use tpw_occam_terms::{Fault, FaultKind, Name, Primitive, Span, Unsupported, Wanted};
+use tpw_occam_terms::{Name, Primitive, Span, Wanted};
 
 /// The expression that parts spell.
 pub(crate) fn value<'a>(
@@ -83,12 +83,6 @@ fn function<'a>(
     end: Span,
 ) -> Result<DeclarationNode<'a>, Stop> {
     let (name, parameters, rest) = head(draft, parts, end)?;
-    if rest.is_empty() {
-        return Err(Stop::Fault(Fault {
-            span: name.span,
-            kind: FaultKind::Unsupported(Unsupported::ValueProcess),
-        }));
-    }
     if keyword_of(rest) != Some(Keyword::Is) {
         return wanted(Wanted::Is, place(rest, end));
     }
@@ -102,8 +96,21 @@ fn function<'a>(
     })
 }
 
-/// A declaration that begins with a type: variables, another name of an array, or a function. `start` is the type's
-/// place.
+/// `INT x IS a[e]`, behind the type, where `IS` stands.
+fn abbreviation<'a>(
+    draft: &mut Draft<'a>,
+    of: TypeNode,
+    parts: &[Part<'a>],
+    at: usize,
+    end: Span,
+) -> Result<DeclarationNode<'a>, Stop> {
+    let (front, spelled) = around(parts, at);
+    let name = name(front, place(behind(parts, at), end))?;
+    let value = value(draft, spelled, end)?;
+    Ok(DeclarationNode::Abbreviation { of, name, value })
+}
+
+/// A declaration that begins with a type: variables, another name, or a function. `start` is the type's place.
 fn typed<'a>(
     draft: &mut Draft<'a>,
     of: TypeNode,
@@ -118,6 +125,9 @@ fn typed<'a>(
         };
     }
     let (parts, end) = up_to_colon(parts, end)?;
+    if let Some(at) = position_of_keyword(parts, Keyword::Is) {
+        return abbreviation(draft, of, parts, at, end);
+    }
     let Some(at) = position_of_keyword(parts, Keyword::Retypes) else {
         let names = names(draft, parts, end)?;
         return Ok(DeclarationNode::Variables { of, names });
@@ -159,6 +169,63 @@ pub(crate) fn procedure_head<'a>(
     match rest.first() {
         Some(more) => wanted(Wanted::Nothing, more.span),
         None => Ok((name, parameters)),
+    }
+}
+
+/// Whether parts around FUNCTION begin one with a body: there are several types, or nothing stands behind the parameters.
+fn begins_routine(types: &[Part<'_>], rest: &[Part<'_>]) -> bool {
+    up_to_comma(types) < types.len()
+        || (!types.is_empty() && behind_first(behind(rest, 1)).is_empty())
+}
+
+/// The type of a result, which is no array.
+fn result_type(parts: &[Part<'_>], end: Span) -> Result<Primitive, Stop> {
+    let Some(of) = keyword_of(parts).and_then(primitive) else {
+        return wanted(Wanted::Primitive, place(parts, end));
+    };
+    match behind(parts, 1).first() {
+        Some(more) => wanted(Wanted::Nothing, more.span),
+        None => Ok(of),
+    }
+}
+
+/// The types of results, with commas between.
+fn result_types<'a>(draft: &mut Draft<'a>, parts: &[Part<'a>], end: Span) -> Result<Stretch, Stop> {
+    let mut all = Vec::new(draft.alloc);
+    let mut rest = parts;
+    for _ in 0..=parts.len() {
+        let count = up_to_comma(rest);
+        let more = behind(rest, count);
+        all.push(result_type(front(rest, count), place(more, end))?)?;
+        if more.is_empty() {
+            break;
+        }
+        rest = behind(more, 1);
+    }
+    Ok(draft.type_list(&all)?)
+}
+
+/// The head of a FUNCTION with a body: its types, its name and its parameters. None of another line.
+pub(crate) fn routine_head<'a>(
+    draft: &mut Draft<'a>,
+    parts: &[Part<'a>],
+    end: Span,
+) -> Result<Option<(Stretch, Name<'a>, Stretch)>, Stop> {
+    let Some(at) = position_of_keyword(parts, Keyword::Function) else {
+        return Ok(None);
+    };
+    let (types, rest) = around(parts, at);
+    if !begins_routine(types, rest) {
+        return Ok(None);
+    }
+    let of = result_types(draft, types, place(behind(parts, at), end))?;
+    let (name, parameters, more) = head(draft, rest, end)?;
+    match more.first() {
+        None => Ok(Some((of, name, parameters))),
+        Some(part) if keyword_of(more) == Some(Keyword::Is) => {
+            wanted(Wanted::OneResult, part.span)
+        }
+        Some(part) => wanted(Wanted::Nothing, part.span),
     }
 }
 

@@ -127,6 +127,11 @@ pub enum DeclarationNode<'a> {
         name: Name<'a>,
         array: Name<'a>,
     },
+    Abbreviation {
+        of: TypeNode,
+        name: Name<'a>,
+        value: ExpressionId,
+    },
     Procedure {
         name: Name<'a>,
         parameters: Stretch,
@@ -137,6 +142,13 @@ pub enum DeclarationNode<'a> {
         name: Name<'a>,
         parameters: Stretch,
         value: ExpressionId,
+    },
+    /// A FUNCTION with a body, which is declarations and `ValOf`. Its types are a stretch of `types`.
+    Routine {
+        of: Stretch,
+        name: Name<'a>,
+        parameters: Stretch,
+        body: ProcessId,
     },
     Wrong {
         names: Stretch,
@@ -210,6 +222,12 @@ pub enum ProcessNode<'a> {
         declaration: DeclarationId,
         process: ProcessId,
     },
+    /// `VALOF`, its process, and `RESULT`, whose line is `span`: below a FUNCTION alone.
+    ValOf {
+        process: ProcessId,
+        results: Stretch,
+        span: Span,
+    },
     Wrong,
 }
 
@@ -222,6 +240,8 @@ pub struct Draft<'a> {
     pub listed: Vec<ExpressionId>,
     pub names: Vec<Name<'a>>,
     pub parameters: Vec<ParameterNode<'a>>,
+    /// The types of the results of FUNCTIONs with a body.
+    pub types: Vec<Primitive>,
     pub declarations: Vec<DeclarationNode<'a>>,
     pub processes: Vec<ProcessNode<'a>>,
     /// The processes of each SEQ.
@@ -250,6 +270,7 @@ impl<'a> Draft<'a> {
             listed: Vec::new(alloc),
             names: Vec::new(alloc),
             parameters: Vec::new(alloc),
+            types: Vec::new(alloc),
             declarations: Vec::new(alloc),
             processes: Vec::new(alloc),
             steps: Vec::new(alloc),
@@ -296,6 +317,10 @@ impl<'a> Draft<'a> {
         list: &[ParameterNode<'a>],
     ) -> Result<Stretch, AllocError> {
         append(&mut self.parameters, list)
+    }
+
+    pub(crate) fn type_list(&mut self, list: &[Primitive]) -> Result<Stretch, AllocError> {
+        append(&mut self.types, list)
     }
 
     pub(crate) fn step_list(&mut self, list: &[ProcessId]) -> Result<Stretch, AllocError> {

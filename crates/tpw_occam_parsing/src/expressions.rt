@@ -239,6 +239,7 @@ fn constant<'a>(
             1,
         )),
         Keyword::MostPos | Keyword::MostNeg => wanted(Wanted::Int, span),
+        Keyword::ValOf | Keyword::Result => wanted(Wanted::InFunction, span),
         _ => wanted(Wanted::Operand, span),
     }
 }

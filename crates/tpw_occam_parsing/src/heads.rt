@@ -1,6 +1,8 @@
 //! The head of a line by itself, whatever is below it.
 
-use crate::declarations::{declaration, declared_names, procedure_head, seems_declaration, value};
+use crate::declarations::{
+    declaration, declared_names, procedure_head, routine_head, seems_declaration, value,
+};
 use crate::draft::{DeclarationNode, Draft, ExpressionId, ExpressionNode, ProcessNode, Stretch};
 use crate::expressions::{ListKind, MAX_DEPTH, listed, wanted};
 use crate::parts::{
@@ -37,6 +39,12 @@ pub(crate) enum Head<'a> {
     /// A line that nothing stands below.
     Whole(Entry<'a>),
     Procedure {
+        name: Name<'a>,
+        parameters: Stretch,
+    },
+    /// A FUNCTION with a body.
+    Routine {
+        of: Stretch,
         name: Name<'a>,
         parameters: Stretch,
     },
@@ -136,6 +144,15 @@ fn count(list: Stretch) -> usize {
     list.to.saturating_sub(list.from)
 }
 
+/// Whether expressions are one call alone, which may give several results.
+fn is_call_alone(draft: &Draft<'_>, list: Stretch) -> bool {
+    let first = draft.listed.get(list.from).copied();
+    match first.and_then(|id| unbracketed(draft, id)) {
+        Some(ExpressionNode::Call { .. }) => count(list) == 1,
+        _ => false,
+    }
+}
+
 /// `x, a[e] := f, g`, where `:=` stands.
 fn assignment<'a>(
     draft: &mut Draft<'a>,
@@ -151,7 +168,7 @@ fn assignment<'a>(
     if count(values) == 0 {
         return wanted(Wanted::Expression, row.end);
     }
-    if count(values) != count(targets) {
+    if count(values) != count(targets) && !is_call_alone(draft, values) {
         return wanted(Wanted::SameCount, sign);
     }
     Ok(ProcessNode::Assign {
@@ -257,7 +274,7 @@ fn simple<'a>(
 }
 
 /// That nothing stands behind a keyword.
-fn alone(parts: &[Part<'_>]) -> Result<(), Stop> {
+pub(crate) fn alone(parts: &[Part<'_>]) -> Result<(), Stop> {
     match behind(parts, 1).first() {
         Some(more) => wanted(Wanted::Nothing, more.span),
         None => Ok(()),
@@ -290,6 +307,7 @@ fn construct<'a>(
         Keyword::Case => Ok(Head::Case {
             selector: value(draft, behind(parts, 1), row.end)?,
         }),
+        Keyword::ValOf | Keyword::Result => wanted(Wanted::InFunction, span),
         Keyword::Chan => Err(Stop::Fault(Fault {
             span,
             kind: FaultKind::Unsupported(Unsupported::Channel),
@@ -310,6 +328,13 @@ pub(crate) fn head_of<'a>(
     if keyword_of(parts) == Some(Keyword::Proc) {
         let (name, parameters) = procedure_head(draft, behind(parts, 1), row.end)?;
         return Ok(Head::Procedure { name, parameters });
+    }
+    if let Some((of, name, parameters)) = routine_head(draft, parts, row.end)? {
+        return Ok(Head::Routine {
+            of,
+            name,
+            parameters,
+        });
     }
     if let Some(declaration) = declaration(draft, parts, row.end)? {
         return Ok(Head::Whole(Entry::Declaration(declaration)));
@@ -393,4 +418,21 @@ pub(crate) fn constants<'a>(
         return Ok(None);
     }
     Ok(Some(listed(draft, ListKind::Expressions, parts, row.end, MAX_DEPTH)?))
+}
+
+/// The expressions behind RESULT.
+pub(crate) fn results<'a>(
+    draft: &mut Draft<'a>,
+    parts: &[Part<'a>],
+    row: Row,
+) -> Result<Stretch, Stop> {
+    if let Some(fault) = row.unsupported {
+        return Err(Stop::Fault(fault));
+    }
+    let rest = behind(parts, 1);
+    let results = listed(draft, ListKind::Expressions, rest, row.end, MAX_DEPTH)?;
+    if count(results) == 0 {
+        return wanted(Wanted::Expression, row.end);
+    }
+    Ok(results)
 }

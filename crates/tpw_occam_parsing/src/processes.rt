@@ -5,9 +5,9 @@ use crate::draft::{
     ProcessId, ProcessNode, Stretch,
 };
 use crate::faults::Faults;
-use crate::heads::{Below, Entry, Head, constants, guard, head_of, wrong_head};
+use crate::heads::{Below, Entry, Head, alone, constants, guard, head_of, results, wrong_head};
 use crate::parts::{Part, keyword_of};
-use crate::rows::{Row, first_of, is_end, last_of, parts_of_row};
+use crate::rows::{Row, first_of, is_end, last_of, parts_of_row, split_last};
 use crate::stop::Stop;
 use std::alloc::AllocError;
 use tpw_occam_lexing::Keyword;
@@ -22,8 +22,8 @@ enum End {
     Unwanted,
     /// It may: what stands above it has a fault.
     Possible,
-    /// It ends a PROC that begins here.
-    Wanted(Span),
+    /// It ends a PROC or a FUNCTION that begins here.
+    Wanted(Wanted, Span),
 }
 
 /// Processes and declarations that stand as deep as one another.
@@ -33,6 +33,8 @@ struct Level {
     steps: Vec<ProcessId>,
     /// Declarations that no process stands behind.
     declared: Vec<DeclarationId>,
+    /// The line of the first process.
+    first: Option<Span>,
     /// The line of the second process.
     second: Option<Span>,
     /// Whether a process that no declaration stands in front of has a fault.
@@ -89,7 +91,7 @@ impl<'a> Parser<'_, 'a> {
     /// A line that is no colon, or none.
     fn no_colon(&mut self, end: End) -> Result<(), AllocError> {
         match end {
-            End::Wanted(head) => self.want(Wanted::EndOfProc, head),
+            End::Wanted(what, head) => self.want(what, head),
             End::Unwanted | End::Possible => Ok(()),
         }
     }
@@ -179,8 +181,10 @@ impl<'a> Parser<'_, 'a> {
                 level.declared.push(declaration)?;
             }
             Entry::Process(node) => {
-                if level.steps.len() == 1 {
-                    level.second = Some(line);
+                match level.steps.len() {
+                    0 => level.first = Some(line),
+                    1 => level.second = Some(line),
+                    _ => {}
                 }
                 let is_bare = level.declared.is_empty();
                 level.is_wrong = level.is_wrong || (is_bare && matches!(node, ProcessNode::Wrong));
@@ -198,11 +202,132 @@ impl<'a> Parser<'_, 'a> {
         match entry {
             Entry::Declaration(DeclarationNode::Wrong { .. })
             | Entry::Process(ProcessNode::Wrong) => End::Possible,
-            Entry::Declaration(DeclarationNode::Procedure { .. }) => match last_of(below) {
-                Some(last) if is_end(self.parts, last) => End::Possible,
-                _ => End::Wanted(row.span),
-            },
+            Entry::Declaration(DeclarationNode::Procedure { .. }) => {
+                self.end_wanted(Wanted::EndOfProc, row, below)
+            }
+            Entry::Declaration(DeclarationNode::Routine { .. }) => {
+                self.end_wanted(Wanted::EndOfFunction, row, below)
+            }
             _ => End::Unwanted,
+        }
+    }
+
+    /// The colon that is wanted behind a line; it may be missing where one is the last below it.
+    fn end_wanted(&self, what: Wanted, row: Row, below: &[Row]) -> End {
+        match last_of(below) {
+            Some(last) if is_end(self.parts, last) => End::Possible,
+            _ => End::Wanted(what, row.span),
+        }
+    }
+
+    /// Whether a line begins with a keyword.
+    fn begins_with(&self, row: Row, keyword: Keyword) -> bool {
+        keyword_of(parts_of_row(self.parts, row)) == Some(keyword)
+    }
+
+    /// Whether the fault of a line was told.
+    fn is_told(&self, row: Row) -> bool {
+        row.is_wrong && row.unsupported.is_none()
+    }
+
+    /// That nothing stands behind VALOF.
+    fn valof_alone(&mut self, row: Row) -> Result<(), AllocError> {
+        if self.is_told(row) {
+            return Ok(());
+        }
+        let read = match row.unsupported {
+            Some(fault) => Err(Stop::Fault(fault)),
+            None => alone(parts_of_row(self.parts, row)),
+        };
+        self.recover(read)?;
+        Ok(())
+    }
+
+    /// The results of a line that begins with RESULT; none where it has a fault.
+    fn results(&mut self, row: Row) -> Result<Option<Stretch>, AllocError> {
+        if self.is_told(row) {
+            return Ok(None);
+        }
+        let parts = parts_of_row(self.parts, row);
+        let results = results(&mut self.draft, parts, row);
+        self.recover(results)
+    }
+
+    /// The lines below a FUNCTION, without a colon as the last, which is too deep there.
+    fn without_end<'r>(&mut self, below: &'r [Row]) -> Result<&'r [Row], AllocError> {
+        match split_last(below) {
+            (front, Some((last, within))) if is_end(self.parts, last) => {
+                self.colon(End::Unwanted, last, within)?;
+                Ok(front)
+            }
+            _ => Ok(below),
+        }
+    }
+
+    /// Reads lines for their faults, in front of which VALOF or RESULT is wanted: at the last of them, or behind a line.
+    #[cycle(processes)]
+    fn wants(
+        &mut self,
+        what: Wanted,
+        row: Row,
+        below: &[Row],
+        depth: usize,
+    ) -> Result<ProcessId, AllocError> {
+        let span = match last_of(below) {
+            Some(last) => last.span,
+            None => row.end,
+        };
+        self.want(what, span)?;
+        self.level(below, depth)?;
+        self.draft.put_process(ProcessNode::Wrong)
+    }
+
+    /// VALOF, with its process and RESULT.
+    #[cycle(processes)]
+    fn valof(&mut self, row: Row, below: &[Row], depth: usize) -> Result<ProcessId, AllocError> {
+        if depth == 0 {
+            return self.draft.put_process(ProcessNode::Wrong);
+        }
+        self.valof_alone(row)?;
+        let (front, last) = split_last(below);
+        match last {
+            Some((last, within)) if self.begins_with(last, Keyword::Result) => {
+                let process = self.one(row, front, depth - 1)?;
+                self.flat(within)?;
+                let node = match self.results(last)? {
+                    Some(results) => ProcessNode::ValOf {
+                        process,
+                        results,
+                        span: last.span,
+                    },
+                    None => ProcessNode::Wrong,
+                };
+                self.draft.put_process(node)
+            }
+            _ => self.wants(Wanted::Result, row, below, depth - 1),
+        }
+    }
+
+    /// The body of a FUNCTION: declarations, and VALOF.
+    #[cycle(processes)]
+    fn value_process(
+        &mut self,
+        row: Row,
+        below: &[Row],
+        depth: usize,
+    ) -> Result<ProcessId, AllocError> {
+        let below = self.without_end(below)?;
+        let (front, last) = split_last(below);
+        match last {
+            Some((last, within)) if self.begins_with(last, Keyword::ValOf) => {
+                let level = self.level(front, depth)?;
+                if let (Some(first), false) = (level.first, level.is_wrong) {
+                    self.want(Wanted::ValOf, first)?;
+                }
+                let valof = self.valof(last, within, depth)?;
+                self.with(&level.declared, valof)
+            }
+            _ => self.wants(Wanted::ValOf, row, below, depth),
         }
     }
 
@@ -213,6 +338,7 @@ impl<'a> Parser<'_, 'a> {
         let mut level = Level {
             steps: Vec::new(alloc),
             declared: Vec::new(alloc),
+            first: None,
             second: None,
             is_wrong: false,
         };
@@ -436,6 +562,19 @@ impl<'a> Parser<'_, 'a> {
             Head::Procedure { name, parameters } => {
                 let body = self.one(row, below, depth)?;
                 Ok(Entry::Declaration(DeclarationNode::Procedure {
+                    name,
+                    parameters,
+                    body,
+                }))
+            }
+            Head::Routine {
+                of,
+                name,
+                parameters,
+            } => {
+                let body = self.value_process(row, below, depth)?;
+                Ok(Entry::Declaration(DeclarationNode::Routine {
+                    of,
                     name,
                     parameters,
                     body,

@@ -303,6 +303,23 @@ pub(crate) fn last_of(rows: &[Row]) -> Option<Row> {
     last
 }
 
+/// The last of lines that stand as deep as the first, with those below it; and those in front of it.
+pub(crate) fn split_last<'t>(rows: &'t [Row]) -> (&'t [Row], Option<(Row, &'t [Row])>) {
+    let mut front = 0usize;
+    let mut rest = rows;
+    let mut last = None;
+    for _ in 0..rows.len() {
+        let Some((first, below, behind)) = first_of(rest) else {
+            break;
+        };
+        front = rows.len().saturating_sub(rest.len());
+        last = Some((first, below));
+        rest = behind;
+    }
+    let (front, _) = rows.split_at(front.min(rows.len()));
+    (front, last)
+}
+
 /// The tokens of a line.
 pub(crate) fn parts_of_row<'t, 'a>(parts: &'t [Part<'a>], row: Row) -> &'t [Part<'a>] {
     front_parts(

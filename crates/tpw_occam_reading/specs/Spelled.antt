@@ -21,6 +21,8 @@ use Rattle.tpw_occam_meaning.specs.declared.expression.Expressions.{Expressions}
 use Rattle.tpw_occam_meaning.specs.declared.expression.Expressions.TheVariants as expressions
 use Rattle.tpw_occam_meaning.specs.declared.types.Names.{Names}
 use Rattle.tpw_occam_meaning.specs.declared.types.Names.TheVariants as names
+use Rattle.tpw_occam_meaning.specs.declared.types.Primitives.{Primitives}
+use Rattle.tpw_occam_meaning.specs.declared.types.Primitives.TheVariants as primitives
 use Rattle.tpw_occam_meaning.specs.declared.types.Sizes.{Sizes}
 use Rattle.tpw_occam_meaning.specs.declared.types.Sizes.TheVariants as sizes
 use Rattle.tpw_occam_meaning.specs.declared.types.Type as written
@@ -172,6 +174,11 @@ type_spelled of more = sizes_spelled of.sizes (of_primitive of.of ∷ more)
 abbrev pub type_if : Option written.Type → List Lexeme → List Lexeme
 type_if None more = more
 type_if (Some of) more = type_spelled of more
+
+-- the types of results, with commas between
+abbrev pub types_spelled : Primitives → List Lexeme → List Lexeme
+types_spelled (primitives.One of) more = of_primitive of ∷ more
+types_spelled (primitives.More' of p others) more = of_primitive of ∷ Sign symbol.Comma ∷ types_spelled others more
 
 abbrev pub names_behind : Names → List Lexeme → List Lexeme
 names_behind names.End more = more

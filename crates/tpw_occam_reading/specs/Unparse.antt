@@ -2,6 +2,8 @@
 use Rattle.std.specs.Prelude.{ℕ, ◌+◌, List, [], ◌∷◌}
 use Rattle.tpw_occam_terms.specs.declared.name.Name.{Name}
 use Rattle.tpw_occam_meaning.specs.declared.types.Parameters.{Parameters}
+use Rattle.tpw_occam_meaning.specs.declared.types.Primitives.{Primitives}
+use Rattle.tpw_occam_meaning.specs.declared.expression.Expressions.{Expressions}
 use Rattle.tpw_occam_lexing.specs.declared.keywords.Keyword.TheVariants as keyword
 use Rattle.tpw_occam_lexing.specs.declared.symbol.Symbol.TheVariants as symbol
 use Rattle.tpw_occam_lexing.specs.Lexemes.{Lexeme, Word, Sign}
@@ -10,6 +12,8 @@ use Rattle.tpw_occam_meaning.specs.declared.tree.Declaration.{Declaration}
 use Rattle.tpw_occam_meaning.specs.declared.tree.Declaration.TheVariants as declaration
 use Rattle.tpw_occam_meaning.specs.declared.tree.Declarations.{Declarations}
 use Rattle.tpw_occam_meaning.specs.declared.tree.Declarations.TheVariants as declarations
+use Rattle.tpw_occam_meaning.specs.declared.tree.ValueProcess.{ValueProcess}
+use Rattle.tpw_occam_meaning.specs.declared.tree.ValueProcess.TheVariants as value
 use Rattle.tpw_occam_meaning.specs.declared.tree.Process.{Process}
 use Rattle.tpw_occam_meaning.specs.declared.tree.Process.TheVariants as process
 use Rattle.tpw_occam_meaning.specs.declared.tree.Processes.{Processes}
@@ -19,7 +23,7 @@ use Rattle.tpw_occam_meaning.specs.declared.tree.Choices.TheVariants as choices
 use Rattle.tpw_occam_meaning.specs.declared.tree.Cases.{Cases}
 use Rattle.tpw_occam_meaning.specs.declared.tree.Cases.TheVariants as cases
 use Rattle.tpw_occam_meaning.specs.declared.tree.Source.{Source}
-use Rattle.tpw_occam_reading.specs.Spelled.{named, of_primitive, spelled, listed, type_spelled, type_if, names_spelled, parameters_spelled}
+use Rattle.tpw_occam_reading.specs.Spelled.{named, of_primitive, spelled, listed, type_spelled, type_if, types_spelled, names_spelled, parameters_spelled}
 
 abbrev pub line : ℕ → List Lexeme → WrittenLine
 line indent lexemes = record { indent = indent; lexemes = lexemes }
@@ -29,6 +33,16 @@ abbrev pub head_of : Name → Parameters → List Lexeme
 head_of name takes =
     Word keyword.Proc ∷ named name ∷ Sign symbol.OpenRound ∷ parameters_spelled takes (Sign symbol.CloseRound ∷ [])
 
+-- .. and that of a FUNCTION with a body
+abbrev pub function_head : Primitives → Name → Parameters → List Lexeme
+function_head types name takes =
+    types_spelled types (Word keyword.Function ∷ named name ∷ Sign symbol.OpenRound
+    ∷ parameters_spelled takes (Sign symbol.CloseRound ∷ []))
+
+-- the line of RESULT
+abbrev pub results_spelled : Expressions → List Lexeme
+results_spelled results = Word keyword.Result ∷ listed results []
+
 -- the line of any other declaration
 abbrev pub declaration_spelled : Declaration → List Lexeme
 declaration_spelled (declaration.Value of name value) =
@@ -36,6 +50,8 @@ declaration_spelled (declaration.Value of name value) =
 declaration_spelled (declaration.Variables of names) = type_spelled of (names_spelled names (Sign symbol.Colon ∷ []))
 declaration_spelled (declaration.Retypes of name array) =
     type_spelled of (named name ∷ Word keyword.Retypes ∷ named array ∷ Sign symbol.Colon ∷ [])
+declaration_spelled (declaration.Abbreviation of name value) =
+    type_spelled of (named name ∷ Word keyword.Is ∷ spelled value (Sign symbol.Colon ∷ []))
 declaration_spelled (declaration.Function of name takes value) =
     of_primitive of ∷ Word keyword.Function ∷ named name ∷ Sign symbol.OpenRound
     ∷ parameters_spelled takes (Sign symbol.CloseRound ∷ Word keyword.Is ∷ spelled value (Sign symbol.Colon ∷ []))
@@ -62,8 +78,17 @@ abbrev mutual
   pub declaration_lines : Declaration → ℕ → List WrittenLine → List WrittenLine
   declaration_lines (declaration.Procedure' name takes p body) d more =
       line d (head_of name takes) ∷ process_lines body (d + 2) (line d (Sign symbol.Colon ∷ []) ∷ more)
+  declaration_lines (declaration.Routine' types name takes p body) d more =
+      line d (function_head types name takes) ∷ body_lines body (d + 2) (line d (Sign symbol.Colon ∷ []) ∷ more)
   declaration_lines (declaration.Wrong names) d more = more
   declaration_lines other d more = line d (declaration_spelled other) ∷ more
+
+  -- the body of a FUNCTION
+  pub body_lines : ValueProcess → ℕ → List WrittenLine → List WrittenLine
+  body_lines (value.Declared' p declaration q body) d more = declaration_lines declaration d (body_lines body d more)
+  body_lines (value.ValOf' p process results span) d more =
+      line d (Word keyword.ValOf ∷ []) ∷ process_lines process (d + 2) (line (d + 2) (results_spelled results) ∷ more)
+  body_lines value.Wrong d more = more
 
   pub process_lines : Process → ℕ → List WrittenLine → List WrittenLine
   process_lines (process.Sequence' p steps span) d more = line d (Word keyword.Seq ∷ []) ∷ steps_lines steps (d + 2) more

@@ -7,7 +7,8 @@ use crate::building::{
 use std::alloc::{AllocError, Global};
 use std::mem;
 use tpw_occam_meaning::{
-    Cases, Choices, Declaration, Declarations, Names, Parameters, Process, Processes, Source, Type,
+    Cases, Choices, Declaration, Declarations, Names, Parameters, Primitives, Process, Processes,
+    Source, Type, ValueProcess,
 };
 use tpw_occam_parsing::{
     CaseNode, ChoiceNode, DeclarationId, DeclarationNode, Draft, ProcessId, ProcessNode, Stretch,
@@ -52,6 +53,19 @@ fn retypes<'a>(of: Result<Type<'a>, AllocError>, name: Name<'a>, array: Name<'a>
     })
 }
 
+fn abbreviation<'a>(
+    of: Result<Type<'a>, AllocError>,
+    name: Name<'a>,
+    value: Made<'a>,
+) -> Declared<'a> {
+    let value = value?;
+    Ok(Declaration::Abbreviation {
+        of: of?,
+        name,
+        value,
+    })
+}
+
 fn procedure<'a>(
     alloc: Global,
     name: Name<'a>,
@@ -81,6 +95,44 @@ fn function<'a>(
     })
 }
 
+/// The types of results.
+fn types(
+    alloc: Global,
+    draft: &Draft<'_>,
+    list: Stretch,
+) -> Result<Option<Primitives>, AllocError> {
+    let mut all: Option<Primitives> = None;
+    for at in (list.from..list.to).rev() {
+        if let Some(of) = draft.types.get(at) {
+            all = Some(match all.take() {
+                Some(others) => Primitives::More(*of, Box::new(alloc, others)?),
+                None => Primitives::One(*of),
+            });
+        }
+    }
+    Ok(all)
+}
+
+fn routine<'a>(
+    alloc: Global,
+    of: Result<Option<Primitives>, AllocError>,
+    name: Name<'a>,
+    parameters: Result<Parameters<'a>, AllocError>,
+    body: Result<ValueProcess<'a>, AllocError>,
+) -> Declared<'a> {
+    let body = Box::new(alloc, body?)?;
+    let parameters = parameters?;
+    match of? {
+        Some(of) => Ok(Declaration::Routine {
+            of,
+            name,
+            parameters,
+            body,
+        }),
+        None => Ok(Declaration::Wrong { names: Names::End }),
+    }
+}
+
 fn wrong<'a>(names: Result<Names<'a>, AllocError>) -> Declared<'a> {
     Ok(Declaration::Wrong { names: names? })
 }
@@ -99,6 +151,10 @@ fn plain<'a>(alloc: Global, draft: &Draft<'a>, node: DeclarationNode<'a>) -> Dec
         DeclarationNode::Retypes { of, name, array } => {
             retypes(of_type(alloc, draft, of), name, array)
         }
+        DeclarationNode::Abbreviation { of, name, value: e } => {
+            let of = of_type(alloc, draft, of);
+            abbreviation(of, name, expression(alloc, draft, e, MAX_ROOM))
+        }
         DeclarationNode::Function {
             of,
             name,
@@ -109,7 +165,9 @@ fn plain<'a>(alloc: Global, draft: &Draft<'a>, node: DeclarationNode<'a>) -> Dec
             function(of, name, takes, expression(alloc, draft, e, MAX_ROOM))
         }
         DeclarationNode::Wrong { names: list } => wrong(names(alloc, draft, list)),
-        DeclarationNode::Procedure { .. } => Ok(Declaration::Wrong { names: Names::End }),
+        DeclarationNode::Procedure { .. } | DeclarationNode::Routine { .. } => {
+            Ok(Declaration::Wrong { names: Names::End })
+        }
     }
 }
 
@@ -130,9 +188,87 @@ fn declaration<'a>(alloc: Global, draft: &Draft<'a>, id: DeclarationId, room: u3
             let takes = parameters(alloc, draft, list);
             procedure(alloc, name, takes, process(alloc, draft, body, room - 1))
         }
+        Some(
+            DeclarationNode::Routine {
+                of,
+                name,
+                parameters: list,
+                body,
+            },
+        ) => {
+            let takes = parameters(alloc, draft, list);
+            let of = types(alloc, draft, of);
+            routine(
+                alloc,
+                of,
+                name,
+                takes,
+                value_process(alloc, draft, body, room - 1),
+            )
+        }
         Some(node) => plain(alloc, draft, node),
         None => Ok(Declaration::Wrong { names: Names::End }),
     }
+}
+
+/// A declaration in front of the body that it is for.
+fn body_declared<'a>(
+    alloc: Global,
+    declaration: Declared<'a>,
+    body: ValueProcess<'a>,
+) -> Result<ValueProcess<'a>, AllocError> {
+    let body = Box::new(alloc, body)?;
+    Ok(ValueProcess::Declared {
+        declaration: Box::new(alloc, declaration?)?,
+        body,
+    })
+}
+
+/// VALOF with its process and RESULT.
+fn valof<'a>(
+    alloc: Global,
+    process: Grown<'a>,
+    results: Listed<'a>,
+    span: Span,
+) -> Result<ValueProcess<'a>, AllocError> {
+    let process = Box::new(alloc, process?)?;
+    Ok(ValueProcess::ValOf {
+        process,
+        results: results?,
+        span,
+    })
+}
+
+/// The body of a FUNCTION.
+#[cycle(process)]
+fn value_process<'a>(
+    alloc: Global,
+    draft: &Draft<'a>,
+    id: ProcessId,
+    room: u32,
+) -> Result<ValueProcess<'a>, AllocError> {
+    if room == 0 {
+        return Ok(ValueProcess::Wrong);
+    }
+    let (all, at) = unwrapped(alloc, draft, id)?;
+    let mut body = match draft.process(at) {
+        Some(
+            ProcessNode::ValOf {
+                process: id,
+                results,
+                span,
+            },
+        ) => {
+            let results = listed(alloc, draft, results, MAX_ROOM);
+            valof(alloc, process(alloc, draft, id, room - 1), results, span)?
+        }
+        _ => ValueProcess::Wrong,
+    };
+    for at in all.iter().rev() {
+        let behind = mem::replace(&mut body, ValueProcess::Wrong);
+        body = body_declared(alloc, declaration(alloc, draft, *at, room - 1), behind)?;
+    }
+    Ok(body)
 }
 
 /// A declaration in front of a process.

@@ -3,7 +3,7 @@
 ghost use Rattle.std.specs.Prelude.{◌≡◌, ◌∷◌, IfSome};
 ghost use Rattle.tpw_occam_reading.specs.Seen.{seen};
 ghost use Rattle.tpw_occam_reading.specs.Spelled.{chain, is_left_operand, is_operand};
-ghost use Rattle.tpw_occam_reading.specs.Spelled.{named, spelled, listed, behind_comma, sizes_spelled, type_spelled, type_if};
+ghost use Rattle.tpw_occam_reading.specs.Spelled.{named, spelled, listed, behind_comma, sizes_spelled, type_spelled, type_if, types_spelled};
 ghost use Rattle.tpw_occam_reading.specs.Spelled.{names_behind, names_spelled, passing_spelled, direction_if, parameters_behind, parameters_spelled};
 
 use crate::marks::{
@@ -11,7 +11,7 @@ use crate::marks::{
 };
 use tpw_occam_lexing::{Item, Keyword, Symbol, Token};
 use tpw_occam_meaning::{
-    Direction, Dyadic, Expression, Expressions, Names, Parameters, Sizes, Type,
+    Direction, Dyadic, Expression, Expressions, Names, Parameters, Primitives, Sizes, Type,
 };
 use tpw_occam_terms::{Name, Passing};
 
@@ -211,6 +211,20 @@ pub(crate) fn of_type_if<'t, 'a>(
     match of {
         Some(of) => of_type(of, items),
         None => Some(items),
+    }
+}
+
+/// The types of results, with commas between.
+pub(crate) fn types<'t, 'a>(list: &Primitives, items: &'t [Item<'a>]) -> Option<&'t [Item<'a>]>
+    ensures { IfSome result (λ rest. seen items.now ≡ types_spelled list.now (seen rest.now)) }
+{
+    match list {
+        Primitives::One(of) => taken(primitive_token(*of), items),
+        Primitives::More(of, others) => {
+            let items = taken(primitive_token(*of), items)?;
+            let items = taken(Token::Symbol(Symbol::Comma), items)?;
+            types(others, items)
+        }
     }
 }
 

@@ -3,13 +3,14 @@
 ghost use Rattle.std.specs.Prelude.{◌≡◌, ◌∷◌, ◌+◌, [], IfSome, OnSome, IsTrue};
 ghost use Rattle.tpw_occam_lexing.specs.Lexemes.{lexeme_of};
 ghost use Rattle.tpw_occam_reading.specs.Seen.{seen, seen_lines};
-ghost use Rattle.tpw_occam_reading.specs.Unparse.{line, head_of, declaration_spelled, process_spelled, declaration_lines, process_lines, steps_lines, choices_lines, cases_lines, all_lines, unparse};
+ghost use Rattle.tpw_occam_reading.specs.Unparse.{line, head_of, function_head, results_spelled, declaration_spelled, process_spelled, declaration_lines, body_lines, process_lines, steps_lines, choices_lines, cases_lines, all_lines, unparse};
 
 use crate::marks::{primitive_token, taken};
-use crate::spelled::{expression, listed, name, names, of_type, of_type_if, parameters};
+use crate::spelled::{expression, listed, name, names, of_type, of_type_if, parameters, types};
 use tpw_occam_lexing::{Item, Keyword, Line, Symbol, Token};
 use tpw_occam_meaning::{
-    Cases, Choices, Declaration, Declarations, Parameters, Process, Processes, Source,
+    Cases, Choices, Declaration, Declarations, Expressions, Parameters, Primitives, Process,
+    Processes, Source, ValueProcess,
 };
 use tpw_occam_terms::Name;
 
@@ -78,6 +79,16 @@ fn declared(declaration: &Declaration<'_>, items: &[Item<'_>]) -> Option<()>
             let items = taken(Token::Keyword(Keyword::Retypes), items)?;
             last(Token::Symbol(Symbol::Colon), name(*array, items)?)
         }
+        Declaration::Abbreviation {
+            of,
+            name: found,
+            value,
+        } => {
+            let items = of_type(of, items)?;
+            let items = name(*found, items)?;
+            let items = taken(Token::Keyword(Keyword::Is), items)?;
+            last(Token::Symbol(Symbol::Colon), expression(value, items)?)
+        }
         Declaration::Function {
             of,
             name: found,
@@ -93,7 +104,9 @@ fn declared(declaration: &Declaration<'_>, items: &[Item<'_>]) -> Option<()>
             let items = taken(Token::Keyword(Keyword::Is), items)?;
             last(Token::Symbol(Symbol::Colon), expression(value, items)?)
         }
-        Declaration::Procedure { .. } | Declaration::Wrong { .. } => None,
+        Declaration::Procedure { .. } | Declaration::Routine { .. } | Declaration::Wrong { .. } => {
+            None
+        }
     }
 }
 
@@ -106,6 +119,37 @@ fn head(found: Name<'_>, takes: &Parameters<'_>, items: &[Item<'_>]) -> Option<(
     let items = taken(Token::Symbol(Symbol::OpenRound), items)?;
     let items = parameters(takes, items)?;
     last(Token::Symbol(Symbol::CloseRound), items)
+}
+
+/// The line that a FUNCTION with a body begins with.
+fn routine_head(
+    of: &Primitives,
+    found: Name<'_>,
+    takes: &Parameters<'_>,
+    items: &[Item<'_>],
+) -> Option<()>
+    ensures { OnSome result (seen items.now ≡ function_head of.now found.entry takes.now) }
+{
+    let items = types(of, items)?;
+    let items = taken(Token::Keyword(Keyword::Function), items)?;
+    let items = name(found, items)?;
+    let items = taken(Token::Symbol(Symbol::OpenRound), items)?;
+    let items = parameters(takes, items)?;
+    last(Token::Symbol(Symbol::CloseRound), items)
+}
+
+/// The line of RESULT.
+fn results_in<'l, 'a>(
+    results: &Expressions<'_>,
+    lines: &'l [Line<'a>],
+    d: usize,
+) -> Option<&'l [Line<'a>]>
+    ensures { IfSome result (λ rest. seen_lines lines.now ≡ line d (results_spelled results.now) ∷ seen_lines rest.now) }
+{
+    let (items, rest) = first_line(lines, d)?;
+    let items = taken(Token::Keyword(Keyword::Result), items)?;
+    end(listed(results, items)?)?;
+    Some(rest)
 }
 
 /// The tokens of a process of one line, or of its first line.
@@ -189,6 +233,16 @@ fn declaration_in<'l, 'a>(
             let rest = process_in(body, rest, d.checked_add(2)?)?;
             one_token(Token::Symbol(Symbol::Colon), rest, d)
         }
+        Declaration::Routine {
+            of,
+            name: found,
+            parameters: takes,
+            body,
+        } => {
+            routine_head(of, *found, takes, items)?;
+            let rest = body_in(body, rest, d.checked_add(2)?)?;
+            one_token(Token::Symbol(Symbol::Colon), rest, d)
+        }
         // An arm for each variant, since a contract sees in each what it writes.
         Declaration::Value { .. } => {
             declared(declaration, items)?;
@@ -202,11 +256,42 @@ fn declaration_in<'l, 'a>(
             declared(declaration, items)?;
             Some(rest)
         }
+        Declaration::Abbreviation { .. } => {
+            declared(declaration, items)?;
+            Some(rest)
+        }
         Declaration::Function { .. } => {
             declared(declaration, items)?;
             Some(rest)
         }
         Declaration::Wrong { .. } => None,
+    }
+}
+
+#[cycle(process)]
+fn body_in<'l, 'a>(
+    body: &ValueProcess<'_>,
+    lines: &'l [Line<'a>],
+    d: usize,
+) -> Option<&'l [Line<'a>]>
+    ensures { IfSome result (λ rest. seen_lines lines.now ≡ body_lines body.now d (seen_lines rest.now)) }
+{
+    match body {
+        ValueProcess::Declared { declaration, body } => {
+            let lines = declaration_in(declaration, lines, d)?;
+            body_in(body, lines, d)
+        }
+        ValueProcess::ValOf {
+            process,
+            results,
+            ..
+        } => {
+            let lines = one_token(Token::Keyword(Keyword::ValOf), lines, d)?;
+            let below = d.checked_add(2)?;
+            let lines = process_in(process, lines, below)?;
+            results_in(results, lines, below)
+        }
+        ValueProcess::Wrong => None,
     }
 }
 

@@ -1,15 +1,16 @@
 -- Two things agree where they are one if there are both. Names are joined where there are names above both.
 use Rattle.std.proofs.Common.{◌≡◌, ℕ, ◌+◌, Bool, true, false, if◌then◌else◌, List, ◌∷◌, Option, Some, None, refl, sym, ap, ◌∙◌, subst}
 use Rattle.tpw_occam_terms.specs.declared.name.Primitive.{Primitive}
+use Rattle.tpw_occam_terms.specs.declared.name.Primitive.TheVariants.{Int, Bool as Truth, Byte}
 use Rattle.tpw_occam_meaning.specs.declared.types.Sizes.{Sizes}
 use Rattle.tpw_occam_meaning.specs.declared.types.Sizes.TheVariants as sizes
 use Rattle.tpw_occam_meaning.specs.declared.types.Parameters.{Parameters}
 use Rattle.tpw_occam_meaning.specs.Maybe.{and_then, where_true}
-use Rattle.tpw_occam_meaning.specs.Names.{Word, Constant, Kept, Place, Form, Body, Entry, Procedure, Function, Names, bound, taking}
+use Rattle.tpw_occam_meaning.specs.Names.{Word, Constant, Kept, Place, Form, Body, Entry, Procedure, Function, Routine, Names, bound, taking}
 use Rattle.tpw_occam_meaning.specs.Effects.{Effect, given}
 use Rattle.tpw_occam_meaning.specs.Types.{by_sizes}
 use Rattle.tpw_occam_meaning.specs.States.{State}
-use Rattle.tpw_occam_meaning.specs.Values.{Value, Known, Varying}
+use Rattle.tpw_occam_meaning.specs.Values.{Value, Known, Varying, as_type}
 use Rattle.tpw_occam_reading_laws.proofs.PlainTypes.{plain_sizes, plain_parameters}
 use Rattle.tpw_occam_reading_laws.proofs.Order.{Below, BodyBelow, EntryBelow, entry_refl, NamesBelow, names_more, names_refl}
 use Rattle.tpw_occam_reading_laws.proofs.TypeMeanings.{BoundBelow, bound_below}
@@ -70,6 +71,15 @@ pub agree_given : (d : ℕ) (v : Value) (next other : Word → ℕ → Effect) �
 agree_given d (Known word false) next other h = h (Constant word) d
 agree_given d (Known word true) next other h = agree_then (h (Kept d) (d + 1)) (λ f. agree_refl)
 agree_given d (Varying f) next other h = agree_then (h (Kept d) (d + 1)) (λ f. agree_refl)
+
+pub agree_below : {A : Type 0} {o p q r : Option A} → Below o q → Below p r → Agree q r → Agree o p
+agree_below n m a = record { same = λ x y h k. a.same x y (n.holds x h) (m.holds y k) }
+
+pub agree_as : {A : Type 0} (s t : Primitive) {o p : Option A} → Agree o p → Agree (as_type s t o) (as_type s t p)
+agree_as Int Int a = a
+agree_as Truth Truth a = a
+agree_as Byte Byte a = a
+agree_as s t a = agree_left_none
 
 -- ---- of types that are the same but for places
 
@@ -148,6 +158,20 @@ pub joined_function : {m n : Names} → Joined m n → (a b : List ℕ) → a �
 joined_function j a b e of forms gives other h =
     joined_more j a b e (Function of forms gives) (Function of forms other) (Function of forms (joint_body gives other))
     (joint_body gives other, refl, body_left gives other) (joint_body gives other, refl, body_right gives other h)
+
+pub record RoutinesAgree (does other : List Place → Body (State → State)) : Type 0 where
+  pub at : (results : List Place) → BodiesAgree (does results) (other results)
+
+abbrev joint_routine : (List Place → Body (State → State)) → (List Place → Body (State → State)) → List Place → Body (State → State)
+joint_routine does other results = joint_body (does results) (other results)
+
+pub joined_routine : {m n : Names} → Joined m n → (a b : List ℕ) → a ≡ b → (types : List Primitive) (forms : List Form)
+    (does other : List Place → Body (State → State)) → RoutinesAgree does other
+    → Joined ((a, Routine types forms does) ∷ m) ((b, Routine types forms other) ∷ n)
+joined_routine j a b e types forms does other h =
+    joined_more j a b e (Routine types forms does) (Routine types forms other) (Routine types forms (joint_routine does other))
+    (joint_routine does other, refl, record { at = λ results. body_left (does results) (other results) })
+    (joint_routine does other, refl, record { at = λ results. body_right (does results) (other results) (h.at results) })
 
 -- ---- bodies by their parameters
 

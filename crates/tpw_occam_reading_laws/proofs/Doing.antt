@@ -2,6 +2,8 @@
 use Rattle.std.proofs.Common.{◌≡◌, ℕ, ◌+◌, ◌==◌, Bool, true, false, List, [], ◌∷◌, Option, Some, None, refl, sym, ap, ◌∙◌, subst}
 use Rattle.std.specs.List.{list_all}
 use Rattle.tpw_occam_core.specs.declared.kind.Kind.{Kind}
+use Rattle.tpw_occam_core.specs.Arithmetic.{subscript}
+use Rattle.tpw_occam_core.specs.Meaning.{bind}
 use Rattle.tpw_occam_core.specs.Sound.{are_turns}
 use Rattle.tpw_occam_terms.specs.declared.name.Primitive.{Primitive}
 use Rattle.tpw_occam_terms.specs.declared.name.Primitive.TheVariants.{Int, Bool as Truth}
@@ -9,6 +11,7 @@ use Rattle.tpw_occam_terms.specs.declared.name.Name.{Name}
 use Rattle.tpw_occam_lexing.specs.declared.symbol.Symbol.TheVariants as symbol
 use Rattle.tpw_occam_lexing.specs.Lexemes.{Sign}
 use Rattle.tpw_occam_meaning.specs.declared.expression.Expression.{Expression}
+use Rattle.tpw_occam_meaning.specs.declared.expression.Expression.TheVariants as tree
 use Rattle.tpw_occam_meaning.specs.declared.expression.Expressions.{Expressions}
 use Rattle.tpw_occam_meaning.specs.declared.expression.Expressions.TheVariants.{End, More'}
 use Rattle.tpw_occam_meaning.specs.declared.types.Names as list
@@ -17,6 +20,8 @@ use Rattle.tpw_occam_meaning.specs.declared.types.Type as written
 use Rattle.tpw_occam_meaning.specs.declared.types.Parameters.{Parameters}
 use Rattle.tpw_occam_meaning.specs.declared.tree.Declaration.{Declaration}
 use Rattle.tpw_occam_meaning.specs.declared.tree.Declaration.TheVariants as declaration
+use Rattle.tpw_occam_meaning.specs.declared.tree.ValueProcess.{ValueProcess}
+use Rattle.tpw_occam_meaning.specs.declared.tree.ValueProcess.TheVariants as value
 use Rattle.tpw_occam_meaning.specs.declared.tree.Process.{Process}
 use Rattle.tpw_occam_meaning.specs.declared.tree.Process.TheVariants as process
 use Rattle.tpw_occam_meaning.specs.declared.tree.Processes.{Processes}
@@ -25,16 +30,17 @@ use Rattle.tpw_occam_meaning.specs.declared.tree.Choices.{Choices}
 use Rattle.tpw_occam_meaning.specs.declared.tree.Choices.TheVariants as choices
 use Rattle.tpw_occam_meaning.specs.declared.tree.Cases.{Cases}
 use Rattle.tpw_occam_meaning.specs.declared.tree.Cases.TheVariants as cases
-use Rattle.tpw_occam_meaning.specs.Assignments.{assignment, whole_target}
-use Rattle.tpw_occam_meaning.specs.Calls.{called}
-use Rattle.tpw_occam_meaning.specs.Declarations.{value_declared, variables, arrays, array_view, naming, retyped, procedure, function, is_table, table_entry, type_of_value, may_be_declared}
+use Rattle.tpw_occam_meaning.specs.Assignments.{assignment, whole_target, results_given, written_array}
+use Rattle.tpw_occam_meaning.specs.Calls.{lent, referred, called, call_alone, taken_from}
+use Rattle.tpw_occam_meaning.specs.Declarations.{value_declared, abbreviated, variables, arrays, array_view, naming, retyped, procedure, function, is_array, array_entry, table_entry, type_of_value, may_be_declared, routine}
 use Rattle.tpw_occam_meaning.specs.Effects.{Effect, within_variable, within_array}
-use Rattle.tpw_occam_meaning.specs.Expressions.{value_of, type_of, constant}
+use Rattle.tpw_occam_meaning.specs.Expressions.{value_of, type_of, constant, named}
 use Rattle.tpw_occam_meaning.specs.Maybe.{and_then, where_true}
 use Rattle.tpw_occam_meaning.specs.Messages.{carried, message_of}
-use Rattle.tpw_occam_meaning.specs.Names.{Word, Kept, Channel, Protocol, Traces, Fixed, Variable, Whole, Form, Entry, Is, Procedure, Function, Names, found, with_name, taking}
-use Rattle.tpw_occam_meaning.specs.Processes.{run, all_run, first_true, selected, otherwise, declared, all_constants, are_distinct, constants_of, elses}
-use Rattle.tpw_occam_meaning.specs.Types.{shape_of, forms_of, is_value, bytes_of}
+use Rattle.tpw_occam_meaning.specs.Names.{Word, Kept, Channel, Protocol, Traces, Place, Fixed, Variable, Element, Whole, Form, Entry, Is, Procedure, Function, Names, found, with_name, taking, Routine}
+use Rattle.tpw_occam_meaning.specs.Processes.{run, all_run, first_true, selected, otherwise, declared, all_constants, are_distinct, constants_of, elses, valued}
+use Rattle.tpw_occam_meaning.specs.Types.{shape_of, forms_of, is_value, bytes_of, all_types}
+use Rattle.tpw_occam_meaning.specs.Values.{element_type, of_one}
 use Rattle.tpw_occam_reading.specs.Spelled.{spelled}
 use Rattle.tpw_occam_reading_laws.proofs.Plain.{plain, all_plain, name_of}
 use Rattle.tpw_occam_reading_laws.proofs.PlainTypes.{plain_type, plain_type_if, plain_names, plain_parameters}
@@ -43,12 +49,11 @@ use Rattle.tpw_occam_reading_laws.proofs.Wellformed.{value_needs}
 use Rattle.tpw_occam_reading_laws.proofs.Order.{Below, below_refl, below_eq, below_then, found_below, NamesBelow}
 use Rattle.tpw_occam_reading_laws.proofs.Meanings.{value_below, type_same, constant_below}
 use Rattle.tpw_occam_reading_laws.proofs.TypeMeanings.{shape_below, forms_below}
-use Rattle.tpw_occam_reading_laws.proofs.Statements.{assignment_below, called_below, carried_same, message_below, is_table_same, table_below, type_of_value_below, retyped_below}
-use Rattle.tpw_occam_reading_laws.proofs.Sameness.{SameDeclaration, Same, SameSteps, SameChoices, SameCases}
-use Rattle.tpw_occam_reading_laws.proofs.Faultless.{run_needs}
-use Rattle.tpw_occam_reading_laws.proofs.ProcessReadings.{one_process}
-use Rattle.tpw_occam_reading_laws.proofs.Agreement.{Agree, agree_refl, agree_left_none, agree_between, agree_then, agree_any, agree_where, agree_if, agree_given, agree_by_sizes}
-use Rattle.tpw_occam_reading_laws.proofs.Agreement.{Joined, joined_same, joined_procedure, joined_function, WithNames, agree_taking}
+use Rattle.tpw_occam_reading_laws.proofs.Statements.{assignment_below, called_below, carried_same, message_below, is_array_same, referred_below, table_below, array_entry_below, type_of_value_below, retyped_below, taken_below, results_given_below}
+use Rattle.tpw_occam_reading_laws.proofs.Sameness.{SameDeclaration, Same, SameSteps, SameChoices, SameCases, SameBody}
+use Rattle.tpw_occam_reading_laws.proofs.Faultless.{run_needs, valued_needs}
+use Rattle.tpw_occam_reading_laws.proofs.ProcessReadings.{one_process, one_body}
+use Rattle.tpw_occam_reading_laws.proofs.Agreement.{Agree, agree_refl, agree_left_none, agree_between, agree_below, agree_as, agree_then, agree_any, agree_where, agree_if, agree_given, agree_by_sizes, Joined, joined_same, joined_procedure, joined_function, WithNames, agree_taking, joined_routine}
 
 -- ---- expressions, types, names of channels
 
@@ -99,7 +104,7 @@ agree_value_declared : (s t : Option written.Type) → plain_type_if s ≡ plain
     → (e f : Expression) → plain e ≡ plain f → (after other : Names → ℕ → Effect) → WithNames after other
     → (m n : Names) → Joined m n → (d : ℕ) → Agree (value_declared s a e after m d) (value_declared t b f other n d)
 agree_value_declared s t k a b l e f h after other w m n j d =
-    agree_if (is_table e) (is_table f) (sym (is_table_same e) ∙ ap is_table h ∙ is_table_same f)
+    agree_if (is_array s e) (is_array t f) (sym (is_array_same s e) ∙ (λ i. is_array (k i) (h i)) ∙ is_array_same t f)
     (agree_naming (table_entry s e m) (table_entry t f n)
     (agree_between (table_below s e m j.upper j.left) (table_below t f n j.upper j.right) (λ i. table_entry (k i) (h i) j.upper))
     a b l after other w m n j d)
@@ -107,6 +112,38 @@ agree_value_declared s t k a b l e f h after other w m n j d =
     (λ of. agree_then (agree_value e f h of m n d j) (λ v. agree_where (may_be_declared v) (may_be_declared v)
     (agree_given d v _ _ (λ word x. w.at (with_name a (Is (Fixed of word)) m) (with_name b (Is (Fixed of word)) n)
     (joined_same j a.text.now b.text.now l (Is (Fixed of word))) x)))))
+
+-- .. behind another name for a variable or an element
+one_referred : (e : Expression) (of : Primitive) (m : Names) (d : ℕ) (next other : Place → ℕ → Effect)
+    → ((place : Place) (k : ℕ) → Agree (next place k) (other place k)) → Agree (referred e of m d next) (referred e of m d other)
+one_referred (tree.Name name) of m d next other h = agree_then (agree_refl {o = lent of (found name m)}) (λ place. h place d)
+one_referred (tree.Element' p a q i span) of m d next other h =
+    agree_then (agree_refl {o = named a m}) (λ view. agree_then (agree_refl {o = written_array view}) (λ a.
+    agree_as of (element_type view.kind) (agree_then (agree_refl {o = value_of i Int m d}) (λ i.
+    agree_given d (of_one (λ i. bind i (subscript view.size)) i) _ _ (λ word k. h (Element view word) k)))))
+one_referred (tree.Bracketed' p e span) of m d next other h = one_referred e of m d next other h
+one_referred anything of m d next other h = agree_left_none
+
+agree_referred : (p q : Primitive) → p ≡ q → (e f : Expression) → plain e ≡ plain f → (m n : Names) → Joined m n → (d : ℕ)
+    → (next other : Place → ℕ → Effect) → ((place : Place) (k : ℕ) → Agree (next place k) (other place k))
+    → Agree (referred e p m d next) (referred f q n d other)
+agree_referred p q s e f h m n j d next other a =
+    subst (λ z. Agree (referred e p m d next) (referred f z n d other)) s
+    (agree_below (referred_below e p m j.upper d next next j.left (λ place k. below_refl))
+    (referred_below f p n j.upper d other other j.right (λ place k. below_refl))
+    (subst (λ z. Agree (referred (plain e) p j.upper d next) (referred z p j.upper d other)) h
+    (one_referred (plain e) p j.upper d next other a)))
+
+agree_abbreviated : (s t : written.Type) → plain_type s ≡ plain_type t → (a b : Name) → a.text.now ≡ b.text.now
+    → (e f : Expression) → plain e ≡ plain f → (after other : Names → ℕ → Effect) → WithNames after other
+    → (m n : Names) → Joined m n → (d : ℕ) → Agree (abbreviated s a e after m d) (abbreviated t b f other n d)
+agree_abbreviated s t k a b l e f h after other w m n j d =
+    agree_by_sizes s.sizes t.sizes _ _ _ _ (ap (λ z. z.sizes) k)
+    (agree_referred s.of t.of (ap (λ z. z.of) k) e f h m n j d _ _ (λ place x.
+    w.at (with_name a (Is place) m) (with_name b (Is place) n) (joined_same j a.text.now b.text.now l (Is place)) x))
+    (agree_naming (array_entry (shape_of s true m) e m) (array_entry (shape_of t true n) f n)
+    (agree_between (array_entry_below s e m j.upper j.left) (array_entry_below t f n j.upper j.right)
+    (λ i. array_entry (shape_of (k i) true j.upper) (h i) j.upper)) a b l after other w m n j d)
 
 variables_plain : (of : Primitive) (names : list.Names) (after : Names → ℕ → Effect) (m : Names) (d : ℕ)
     → variables of (plain_names names) after m d ≡ variables of names after m d
@@ -212,11 +249,29 @@ agree_function p a b h e f s x y l after other w m n j d =
     (joined_function j x.text.now y.text.now l p forms (taking a (value_of e p) m) (taking b (value_of f p) n)
     (agree_taking a b h (value_of e p) (value_of f p) (written_same e f s p) m n j)) d)
 
+-- for each of the places that results go to, two bodies agree
+pub record ValuedRun (body other : ValueProcess) : Type 0 where
+  pub to : (results : List Place) → WithNames (valued body results) (valued other results)
+
+agree_routine : (types : List Primitive) (a b : Parameters) → plain_parameters a ≡ plain_parameters b → (body instead : ValueProcess)
+    → ValuedRun body instead → (x y : Name) → x.text.now ≡ y.text.now → (after other : Names → ℕ → Effect) → WithNames after other
+    → (m n : Names) → Joined m n → (d : ℕ) → Agree (naming x (routine types a (λ results. valued body results) m) after m d)
+    (naming y (routine types b (λ results. valued instead results) n) other n d)
+agree_routine types a b h body instead v x y l after other w m n j d =
+    agree_made_where (forms_of a m) (forms_of b n) (list_all is_value) (λ forms. Routine types forms (λ results. taking a (valued body results) m))
+    (λ forms. Routine types forms (λ results. taking b (valued instead results) n))
+    (λ entry. after (with_name x entry m) d) (λ entry. other (with_name y entry n) d) (agree_forms a b h m n j)
+    (λ forms. w.at (with_name x (Routine types forms (λ results. taking a (valued body results) m)) m)
+    (with_name y (Routine types forms (λ results. taking b (valued instead results) n)) n)
+    (joined_routine j x.text.now y.text.now l types forms (λ results. taking a (valued body results) m) (λ results. taking b (valued instead results) n)
+    (record { at = λ results. agree_taking a b h (valued body results) (valued instead results) (v.to results) m n j })) d)
+
 -- ---- declarations
 
--- of two PROCs the bodies agree
+-- of two PROCs the bodies agree, and of two FUNCTIONs with a body
 abbrev pub BodiesRun : Declaration → Declaration → Type 0
 BodiesRun (declaration.Procedure' m a p body) (declaration.Procedure' n b q other) = WithNames (run body) (run other)
+BodiesRun (declaration.Routine' types m a p body) (declaration.Routine' others n b q other) = ValuedRun body other
 BodiesRun one other = Unit {0}
 
 pub agree_declared : (x y : Declaration) → SameDeclaration x y → BodiesRun x y → (after other : Names → ℕ → Effect) → WithNames after other
@@ -231,11 +286,17 @@ agree_declared (declaration.Retypes s a x) (declaration.Retypes t b y) h r after
     agree_naming (retyped s x m) (retyped t y n)
     (agree_between (retyped_below s x m j.upper j.left) (retyped_below t y n j.upper j.right) (λ i. retyped (h.0 i) (name_of (h.2 i)) j.upper))
     a b h.1 after other w m n j d
+agree_declared (declaration.Abbreviation s a e) (declaration.Abbreviation t b f) h r after other w m n j d =
+    agree_abbreviated s t h.0 a b h.1 e f h.2 after other w m n j d
 agree_declared (declaration.Procedure' x a p body) (declaration.Procedure' y b q instead) h r after other w m n j d =
     agree_procedure a b h.1 (run body) (run instead) r x y h.0 after other w m n j d
 agree_declared (declaration.Function p x a e) (declaration.Function q y b f) h r after other w m n j d =
     subst (λ z. Agree (declared (declaration.Function p x a e) after m d) (declared (declaration.Function z y b f) other n d)) h.0
     (agree_function p a b h.2 e f h.3 x y h.1 after other w m n j d)
+agree_declared (declaration.Routine' types x a p body) (declaration.Routine' others y b q instead) h r after other w m n j d =
+    subst (λ z. Agree (declared (declaration.Routine' types x a p body) after m d)
+    (naming y (routine z b (λ results. valued instead results) n) other n d)) h.0
+    (agree_routine (all_types types) a b h.2 body instead r x y h.1 after other w m n j d)
 agree_declared x y h r after other w m n j d = absurd h
 
 -- ---- processes
@@ -255,11 +316,19 @@ agree_constants : (e f : Expressions) → all_plain e ≡ all_plain f → (of : 
 agree_constants e f h of m n j =
     agree_between (constants_below e of m j.upper j.left) (constants_below f of n j.upper j.right) (ap (λ z. constants_of z of j.upper) h)
 
-agree_assigned : (a b g k : Expressions) → all_plain a ≡ all_plain g → all_plain b ≡ all_plain k → (m n : Names) → Joined m n → (d : ℕ)
-    → Agree (assignment (whole_target a m) a b m d) (assignment (whole_target g n) g k n d)
-agree_assigned a b g k h l m n j d =
-    agree_between (assignment_below a b m j.upper d j.left) (assignment_below g k n j.upper d j.right)
-    (λ i. assignment (whole_target (h i) j.upper) (h i) (l i) j.upper d)
+agree_taken : (a b g k : Expressions) → all_plain a ≡ all_plain g → all_plain b ≡ all_plain k → (m n : Names) → Joined m n → (d : ℕ)
+    → Agree (taken_from (call_alone b) a (assignment (whole_target a m) a b m d) m d)
+    (taken_from (call_alone k) g (assignment (whole_target g n) g k n d) n d)
+agree_taken a b g k h l m n j d =
+    agree_between (taken_below a b _ _ m j.upper d j.left (assignment_below a b m j.upper d j.left))
+    (taken_below g k _ _ n j.upper d j.right (assignment_below g k n j.upper d j.right))
+    (λ i. taken_from (call_alone (l i)) (h i) (assignment (whole_target (h i) j.upper) (h i) (l i) j.upper d) j.upper d)
+
+agree_results : (places : List Place) (e f : Expressions) → all_plain e ≡ all_plain f → (m n : Names) → Joined m n → (d : ℕ)
+    → Agree (results_given places e m d) (results_given places f n d)
+agree_results places e f h m n j d =
+    agree_between (results_given_below places e m j.upper d j.left) (results_given_below places f n j.upper d j.right)
+    (ap (λ z. results_given places z j.upper d) h)
 
 agree_called : (x y : Name) → x.text.now ≡ y.text.now → (a b : Expressions) → all_plain a ≡ all_plain b → (m n : Names) → Joined m n → (d : ℕ)
     → Agree (called (found x m) a m d) (called (found y n) b n d)
@@ -272,7 +341,7 @@ mutual
   pub agree_run : (x y : Process) → Same x y → WithNames (run x) (run y)
   agree_run (process.Skip s) (process.Skip t) h = record { at = λ m n j d. agree_refl }
   agree_run (process.Stop s) (process.Stop t) h = record { at = λ m n j d. agree_refl }
-  agree_run (process.Assign a b s) (process.Assign g k t) h = record { at = λ m n j d. agree_assigned a b g k h.0 h.1 m n j d }
+  agree_run (process.Assign a b s) (process.Assign g k t) h = record { at = λ m n j d. agree_taken a b g k h.0 h.1 m n j d }
   agree_run (process.Sequence' p a s) (process.Sequence' q b t) h = record { at = (agree_all a b h).at }
   agree_run (process.Replicated' x e f p a s) (process.Replicated' y g k q b t) h = record {
     at = λ m n j d.
@@ -312,7 +381,27 @@ mutual
           ((agree_run body other one.same).at m n j d).same f g k l;
     };
   }
+  bodies_run (declaration.Routine' types x a p body) (declaration.Routine' others y b q other) h = record {
+    to = λ results. record {
+      at = λ m n j d. record {
+        same = λ f g k l.
+            let s = h.3 in
+            let one = one_body body other ((valued_needs body results m d).holds f k) ((valued_needs other results n d).holds g l) s.depth s.more s.others s.lines in
+            ((agree_valued body other one.same results).at m n j d).same f g k l;
+      };
+    };
+  }
   bodies_run x y h = tt
+
+  pub agree_valued : (x y : ValueProcess) → SameBody x y → (results : List Place) → WithNames (valued x results) (valued y results)
+  agree_valued (value.Declared' p a r x) (value.Declared' q b t y) h results =
+      let rest = agree_valued x y h.1 results in
+      let bodies = bodies_run a b h.0 in
+      record { at = λ m n j d. agree_declared a b h.0 bodies (valued x results) (valued y results) rest m n j d }
+  agree_valued (value.ValOf' p x e s) (value.ValOf' q y f t) h results =
+      let one = agree_run x y h.0 in
+      record { at = λ m n j d. agree_then (one.at m n j d) (λ g. agree_then (agree_results results e f h.1 m n j d) (λ k. agree_refl)) }
+  agree_valued x y h results = absurd h
 
   pub agree_all : (a b : Processes) → SameSteps a b → WithNames (all_run a) (all_run b)
   agree_all processes.End processes.End h = record { at = λ m n j d. agree_refl }

@@ -1,5 +1,5 @@
 -- A process that does something has no fault in it.
-use Rattle.std.proofs.Common.{◌≡◌, ℕ, ◌+◌, ◌==◌, Bool, true, false, if◌then◌else◌, Option, Some, None, refl, arith}
+use Rattle.std.proofs.Common.{◌≡◌, ℕ, ◌+◌, ◌==◌, Bool, true, false, if◌then◌else◌, List, Option, Some, None, refl, arith}
 use Rattle.std.proofs.lemmas.Bool.Decides.{nat_tests}
 use Rattle.tpw_occam_core.specs.declared.kind.Kind.{Kind}
 use Rattle.tpw_occam_terms.specs.declared.name.Primitive.{Primitive}
@@ -15,6 +15,8 @@ use Rattle.tpw_occam_meaning.specs.declared.types.Sizes.{Sizes}
 use Rattle.tpw_occam_meaning.specs.declared.types.Sizes.TheVariants as sizes
 use Rattle.tpw_occam_meaning.specs.declared.tree.Declaration.{Declaration}
 use Rattle.tpw_occam_meaning.specs.declared.tree.Declaration.TheVariants as declaration
+use Rattle.tpw_occam_meaning.specs.declared.tree.ValueProcess.{ValueProcess}
+use Rattle.tpw_occam_meaning.specs.declared.tree.ValueProcess.TheVariants as value
 use Rattle.tpw_occam_meaning.specs.declared.tree.Process.{Process}
 use Rattle.tpw_occam_meaning.specs.declared.tree.Process.TheVariants as process
 use Rattle.tpw_occam_meaning.specs.declared.tree.Processes.{Processes}
@@ -23,20 +25,20 @@ use Rattle.tpw_occam_meaning.specs.declared.tree.Choices.{Choices}
 use Rattle.tpw_occam_meaning.specs.declared.tree.Choices.TheVariants as choices
 use Rattle.tpw_occam_meaning.specs.declared.tree.Cases.{Cases}
 use Rattle.tpw_occam_meaning.specs.declared.tree.Cases.TheVariants as cases
-use Rattle.tpw_occam_meaning.specs.Declarations.{value_declared, variables, arrays, naming, is_table, table_entry, type_of_value, may_be_declared}
+use Rattle.tpw_occam_meaning.specs.Declarations.{value_declared, abbreviated, variables, arrays, naming, is_array, table_entry, type_of_value, may_be_declared}
 use Rattle.tpw_occam_meaning.specs.Effects.{Effect, given}
 use Rattle.tpw_occam_meaning.specs.Expressions.{type_of, value_of}
 use Rattle.tpw_occam_meaning.specs.Maybe.{and_then, where_true}
 use Rattle.tpw_occam_meaning.specs.Messages.{carried}
-use Rattle.tpw_occam_meaning.specs.Names.{Word, Traces, Fixed, Is, Names, found, with_name}
-use Rattle.tpw_occam_meaning.specs.Processes.{run, all_run, first_true, selected, otherwise, declared, all_constants, constants_of, elses}
+use Rattle.tpw_occam_meaning.specs.Names.{Word, Traces, Place, Fixed, Is, Names, found, with_name}
+use Rattle.tpw_occam_meaning.specs.Processes.{run, all_run, first_true, selected, otherwise, declared, valued, all_constants, constants_of, elses}
 use Rattle.tpw_occam_meaning.specs.Types.{by_sizes}
 use Rattle.tpw_occam_reading_laws.proofs.Plain.{IsWhole, AreWhole}
-use Rattle.tpw_occam_reading_laws.proofs.PlainTypes.{IsTypeIf, AreSizes}
+use Rattle.tpw_occam_reading_laws.proofs.PlainTypes.{IsType, IsTypeIf, AreSizes}
 use Rattle.tpw_occam_reading_laws.proofs.Wellformed.{Needs, needs_none, needs_fact, needs_map, needs_both, needs_first, needs_then, needs_where, value_needs}
 use Rattle.tpw_occam_reading_laws.proofs.TypeMeanings.{constant_needs, shape_needs, forms_needs}
-use Rattle.tpw_occam_reading_laws.proofs.Statements.{assignment_needs, given_needs, called_needs, message_needs, table_needs, type_of_value_needs, retyped_needs}
-use Rattle.tpw_occam_reading_laws.proofs.Sameness.{DeclarationWhole, ProcessWhole, StepsWhole, ChoicesWhole, CasesWhole, ConstantsWhole, ElseWhole}
+use Rattle.tpw_occam_reading_laws.proofs.Statements.{assignment_needs, given_needs, referred_needs, called_needs, message_needs, table_needs, array_entry_needs, type_of_value_needs, retyped_needs, results_given_needs, taken_needs}
+use Rattle.tpw_occam_reading_laws.proofs.Sameness.{DeclarationWhole, ProcessWhole, StepsWhole, ChoicesWhole, CasesWhole, ConstantsWhole, ElseWhole, BodyWhole}
 
 -- ---- declarations
 
@@ -59,7 +61,7 @@ by_sizes_both (sizes.Of' e p others) n m = m
 
 value_declared_needs : {F : Type 0} (of : Option written.Type) (name : Name) (e : Expression) (after : Names → ℕ → Effect) (m : Names) (d : ℕ)
     → ((m : Names) (d : ℕ) → Needs F (after m d)) → Needs ((IsTypeIf of × IsWhole e) × F) (value_declared of name e after m d)
-value_declared_needs {F} of name e after m d h = by (is_table e)
+value_declared_needs {F} of name e after m d h = by (is_array of e)
   where
     by : (b : Bool) → Needs ((IsTypeIf of × IsWhole e) × F)
         (if b then naming name (table_entry of e m) after m d
@@ -70,6 +72,13 @@ value_declared_needs {F} of name e after m d h = by (is_table e)
         needs_map (λ w. ((w.0, w.1.0), w.1.1)) (needs_both (type_of_value_needs of e m) (λ found_type. needs_both (value_needs e found_type m d) (λ v.
         needs_where (may_be_declared v) (given_needs d v _ (λ word n. h (with_name name (Is (Fixed found_type word)) m) n)))))
 
+abbreviated_needs : {F : Type 0} (of : written.Type) (name : Name) (e : Expression) (after : Names → ℕ → Effect) (m : Names) (d : ℕ)
+    → ((m : Names) (d : ℕ) → Needs F (after m d)) → Needs ((IsType of × IsWhole e) × F) (abbreviated of name e after m d)
+abbreviated_needs of name e after m d h =
+    needs_map (λ w. ((w.0, w.1.0), w.1.1))
+    (by_sizes_both of.sizes (referred_needs e of.of m d _ (λ place n. h (with_name name (Is place) m) n))
+    (needs_map (λ w. (w.0.0, (w.0.1, w.1))) (needs_both (array_entry_needs of e m) (λ entry. h (with_name name entry m) d))))
+
 pub declared_needs : {F : Type 0} (x : Declaration) (after : Names → ℕ → Effect) (m : Names) (d : ℕ)
     → ((m : Names) (d : ℕ) → Needs F (after m d)) → Needs (DeclarationWhole x × F) (declared x after m d)
 declared_needs (declaration.Value of name e) after m d h = value_declared_needs of name e after m d h
@@ -78,9 +87,12 @@ declared_needs (declaration.Variables of names) after m d h =
     (needs_both (shape_needs of true m) (λ shape. arrays_needs shape.kind shape.size names after m d h))
 declared_needs (declaration.Retypes of name array) after m d h =
     needs_both (retyped_needs of array m) (λ entry. h (with_name name entry m) d)
+declared_needs (declaration.Abbreviation of name e) after m d h = abbreviated_needs of name e after m d h
 declared_needs (declaration.Procedure' name takes p body) after m d h =
     needs_both (needs_first _ (forms_needs takes m)) (λ entry. h (with_name name entry m) d)
 declared_needs (declaration.Function of name takes e) after m d h =
+    needs_both (needs_first _ (forms_needs takes m)) (λ entry. h (with_name name entry m) d)
+declared_needs (declaration.Routine' types name takes p body) after m d h =
     needs_both (needs_first _ (forms_needs takes m)) (λ entry. h (with_name name entry m) d)
 declared_needs (declaration.Wrong names) after m d h = needs_none
 
@@ -114,7 +126,7 @@ mutual
   pub run_needs : (x : Process) (m : Names) (d : ℕ) → Needs (ProcessWhole x) (run x m d)
   run_needs (process.Skip span) m d = needs_fact tt
   run_needs (process.Stop span) m d = needs_fact tt
-  run_needs (process.Assign targets values span) m d = assignment_needs targets values m d
+  run_needs (process.Assign targets values span) m d = taken_needs targets values _ m d (assignment_needs targets values m d)
   run_needs (process.Sequence' p steps span) m d = all_run_needs steps m d
   run_needs (process.Replicated' index start count p steps span) m d =
       needs_map (λ w. (w.0, w.1.0, w.1.1))
@@ -156,3 +168,9 @@ mutual
       (needs_both (constants_needs constants of m) (λ words. needs_both (run_needs body m d) (λ f.
       needs_first _ (selected_needs more of word other m d all n))))
   selected_needs (cases.Else' p body q more) of word other m d all n = selected_needs more of word other m d all n
+
+pub valued_needs : (x : ValueProcess) (results : List Place) (m : Names) (d : ℕ) → Needs (BodyWhole x) (valued x results m d)
+valued_needs (value.Declared' p x q body) results m d = declared_needs x (valued body results) m d (λ m d. valued_needs body results m d)
+valued_needs (value.ValOf' p process given span) results m d =
+    needs_both (run_needs process m d) (λ f. needs_first _ (results_given_needs results given m d))
+valued_needs value.Wrong results m d = needs_none

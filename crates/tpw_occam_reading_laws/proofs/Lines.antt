@@ -13,10 +13,14 @@ use Rattle.tpw_occam_meaning.specs.declared.expression.Expression.{Expression}
 use Rattle.tpw_occam_meaning.specs.declared.expression.Expression.TheVariants as tree
 use Rattle.tpw_occam_meaning.specs.declared.expression.Expressions.{Expressions}
 use Rattle.tpw_occam_meaning.specs.declared.expression.Expressions.TheVariants.{End, More'}
+use Rattle.tpw_occam_meaning.specs.declared.types.Primitives.{Primitives}
+use Rattle.tpw_occam_meaning.specs.declared.types.Primitives.TheVariants as primitives
 use Rattle.tpw_occam_meaning.specs.declared.types.Sizes.{Sizes}
 use Rattle.tpw_occam_meaning.specs.declared.types.Sizes.TheVariants as sizes
 use Rattle.tpw_occam_meaning.specs.declared.tree.Declaration.{Declaration}
 use Rattle.tpw_occam_meaning.specs.declared.tree.Declaration.TheVariants as declaration
+use Rattle.tpw_occam_meaning.specs.declared.tree.ValueProcess.{ValueProcess}
+use Rattle.tpw_occam_meaning.specs.declared.tree.ValueProcess.TheVariants as value
 use Rattle.tpw_occam_meaning.specs.declared.tree.Process.{Process}
 use Rattle.tpw_occam_meaning.specs.declared.tree.Process.TheVariants as process
 use Rattle.tpw_occam_meaning.specs.declared.tree.Processes.{Processes}
@@ -25,8 +29,8 @@ use Rattle.tpw_occam_meaning.specs.declared.tree.Choices.{Choices}
 use Rattle.tpw_occam_meaning.specs.declared.tree.Choices.TheVariants as choices
 use Rattle.tpw_occam_meaning.specs.declared.tree.Cases.{Cases}
 use Rattle.tpw_occam_meaning.specs.declared.tree.Cases.TheVariants as cases
-use Rattle.tpw_occam_reading.specs.Spelled.{spelled, listed, behind_comma, of_primitive, sizes_spelled}
-use Rattle.tpw_occam_reading.specs.Unparse.{line, declaration_lines, process_lines, steps_lines, choices_lines, cases_lines}
+use Rattle.tpw_occam_reading.specs.Spelled.{spelled, listed, behind_comma, of_primitive, sizes_spelled, types_spelled}
+use Rattle.tpw_occam_reading.specs.Unparse.{line, results_spelled, declaration_lines, body_lines, process_lines, steps_lines, choices_lines, cases_lines}
 use Rattle.tpw_occam_reading_laws.proofs.Plain.{is_name, IsWhole}
 use Rattle.tpw_occam_reading_laws.proofs.Statements.{is_target, AreTargets}
 use Rattle.tpw_occam_reading_laws.proofs.Sameness.{DeclarationWhole, ProcessWhole, Shallow}
@@ -124,13 +128,19 @@ sizes_sort sizes.End primitive.Byte rest = refl
 sizes_sort (sizes.Open' x others) p rest = refl
 sizes_sort (sizes.Of' e x others) p rest = refl
 
-declaration_sort : (x : Declaration) → DeclarationWhole x → (d : ℕ) (more : List WrittenLine)
+types_sort : (types : Primitives) (rest : List Lexeme) → sort (types_spelled types rest) ≡ Declares
+types_sort (primitives.One of) rest = sizes_sort sizes.End of rest
+types_sort (primitives.More' of p others) rest = sizes_sort sizes.End of _
+
+pub declaration_sort : (x : Declaration) → DeclarationWhole x → (d : ℕ) (more : List WrittenLine)
     → sort (first_lexemes (declaration_lines x d more)) ≡ Declares
 declaration_sort (declaration.Value of name value) w d more = refl
 declaration_sort (declaration.Variables of names) w d more = sizes_sort of.sizes of.of _
 declaration_sort (declaration.Retypes of name array) w d more = sizes_sort of.sizes of.of _
+declaration_sort (declaration.Abbreviation of name value) w d more = sizes_sort of.sizes of.of _
 declaration_sort (declaration.Procedure' name takes p body) w d more = refl
 declaration_sort (declaration.Function of name takes value) w d more = sizes_sort sizes.End of _
+declaration_sort (declaration.Routine' types name takes p body) w d more = types_sort types _
 declaration_sort (declaration.Wrong names) w d more = absurd w
 
 pub process_sort : (x : Process) → ProcessWhole x → (d : ℕ) (more : List WrittenLine) → sort (first_lexemes (process_lines x d more)) ≡ sort_of x
@@ -148,11 +158,13 @@ shallow_up k l h (x ∷ rest) s = omega arith
 
 declaration_shallow : (x : Declaration) → DeclarationWhole x → (d k : ℕ) → d < k → (more : List WrittenLine) → Shallow k (declaration_lines x d more)
 declaration_shallow (declaration.Procedure' name takes p body) w d k h more = h
+declaration_shallow (declaration.Routine' types name takes p body) w d k h more = h
 declaration_shallow (declaration.Wrong names) w d k h more = absurd w
 declaration_shallow other w d k h more = h
 
 declaration_not_shallow : (x : Declaration) → DeclarationWhole x → (d : ℕ) (more : List WrittenLine) → Shallow d (declaration_lines x d more) → d < d
 declaration_not_shallow (declaration.Procedure' name takes p body) w d more h = h
+declaration_not_shallow (declaration.Routine' types name takes p body) w d more h = h
 declaration_not_shallow (declaration.Wrong names) w d more h = absurd w
 declaration_not_shallow other w d more h = h
 
@@ -209,8 +221,17 @@ mutual
   drops_declaration : (x : Declaration) (d k : ℕ) → d < k → (more : List WrittenLine) → drop_deep d (declaration_lines x k more) ≡ drop_deep d more
   drops_declaration (declaration.Procedure' name takes p body) d k h more =
       drop_line d k h _ _ ∙ drops body d (k + 2) (two_more d k h) (line k (Sign symbol.Colon ∷ []) ∷ more) ∙ drop_line d k h _ more
+  drops_declaration (declaration.Routine' types name takes p body) d k h more =
+      drop_line d k h _ _ ∙ drops_body body d (k + 2) (two_more d k h) (line k (Sign symbol.Colon ∷ []) ∷ more) ∙ drop_line d k h _ more
   drops_declaration (declaration.Wrong names) d k h more = refl
   drops_declaration other d k h more = drop_line d k h _ more
+
+  pub drops_body : (x : ValueProcess) (d k : ℕ) → d < k → (more : List WrittenLine) → drop_deep d (body_lines x k more) ≡ drop_deep d more
+  drops_body (value.Declared' p x q body) d k h more = drops_declaration x d k h (body_lines body k more) ∙ drops_body body d k h more
+  drops_body (value.ValOf' p process results span) d k h more =
+      drop_line d k h _ _ ∙ drops process d (k + 2) (two_more d k h) (line (k + 2) (results_spelled results) ∷ more)
+      ∙ drop_line d (k + 2) (two_more d k h) _ more
+  drops_body value.Wrong d k h more = refl
 
   drops_steps : (x : Processes) (d k : ℕ) → d < k → (more : List WrittenLine) → drop_deep d (steps_lines x k more) ≡ drop_deep d more
   drops_steps processes.End d k h more = refl

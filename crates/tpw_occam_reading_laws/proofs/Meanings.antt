@@ -10,7 +10,7 @@ use Rattle.tpw_occam_meaning.specs.declared.expression.Expression.TheVariants as
 use Rattle.tpw_occam_meaning.specs.declared.expression.Expressions.{Expressions}
 use Rattle.tpw_occam_meaning.specs.declared.expression.Expressions.TheVariants.{End, More'}
 use Rattle.tpw_occam_meaning.specs.Maybe.{and_then}
-use Rattle.tpw_occam_meaning.specs.Names.{Word, Constant, Kept, Shape, Form, OfValue, OfArray, Fixed, Whole, Body, behind, Entry, Is, Procedure, Function, Nothing, Names, found}
+use Rattle.tpw_occam_meaning.specs.Names.{Word, Constant, Kept, Shape, Form, OfValue, OfArray, Fixed, Whole, Body, behind, Entry, Is, Procedure, Function, Routine, Nothing, Names, found}
 use Rattle.tpw_occam_meaning.specs.Values.{Value, Known, Varying, operands_of, element_type}
 use Rattle.tpw_occam_meaning.specs.Expressions.{value_of, array_of, elements_of, passed, named, called, within, Passing, type_of, type_in, is_number, compared, view_in, value_in, constant}
 use Rattle.tpw_occam_reading_laws.proofs.Plain.{plain, all_plain, name_of}
@@ -20,7 +20,7 @@ use Rattle.tpw_occam_reading_laws.proofs.Order.{Below, below_refl, below_none, b
 
 pub named_same : (e : Expression) (m n : Names) → NamesBelow m n → named (plain e) n ≡ named e m
 named_same (tree.Name name) m n h =
-    same_lookup view_in (λ forms b c. refl) (λ of forms b c. refl) (found name m) (found (name_of name.text.now) n) (found_below name m n h)
+    same_lookup view_in (λ forms b c. refl) (λ of forms b c. refl) (λ types forms b c. refl) (found name m) (found (name_of name.text.now) n) (found_below name m n h)
 named_same (tree.Bracketed' p e span) m n h = named_same e m n h
 named_same other m n h = refl
 
@@ -31,7 +31,7 @@ is_number_same other = refl
 
 type_in_same : (name : Name) (m n : Names) → NamesBelow m n → type_in (found (name_of name.text.now) n) ≡ type_in (found name m)
 type_in_same name m n h =
-    same_lookup type_in (λ forms b c. refl) (λ of forms b c. refl) (found name m) (found (name_of name.text.now) n) (found_below name m n h)
+    same_lookup type_in (λ forms b c. refl) (λ of forms b c. refl) (λ types forms b c. refl) (found name m) (found (name_of name.text.now) n) (found_below name m n h)
 
 pub type_same : (e : Expression) (m n : Names) → NamesBelow m n → type_of (plain e) n ≡ type_of e m
 type_same (tree.Name name) m n h = type_in_same name m n h
@@ -53,6 +53,7 @@ called_below of (Function other forms gives) y passes passed m n d e h =
     (below_as of other (h forms gives e.0 e.2))
 called_below of (Is place) y passes passed m n d e h = below_none
 called_below of (Procedure forms does) y passes passed m n d e h = below_none
+called_below of (Routine types forms does) y passes passed m n d e h = below_none
 called_below of Nothing y passes passed m n d e h = below_none
 
 within_below : (d : ℕ) (v : Value) (next other : Word → ℕ → Option Value) → ((w : Word) (n : ℕ) → Below (next w n) (other w n))
@@ -74,7 +75,7 @@ mutual
   value_below (tree.Most false span) of m n d h = below_refl
   value_below (tree.Table' p items span) of m n d h = below_none
   value_below (tree.Name name) of m n d h =
-      below_eq (same_lookup (value_in of) (λ forms b c. refl) (λ of forms b c. refl) (found name m) (found (name_of name.text.now) n) (found_below name m n h))
+      below_eq (same_lookup (value_in of) (λ forms b c. refl) (λ of forms b c. refl) (λ types forms b c. refl) (found name m) (found (name_of name.text.now) n) (found_below name m n h))
   value_below (tree.Channel name direction) of m n d h = below_none
   value_below (tree.Element' p a q i span) of m n d h =
       below_then (below_eq (named_same a m n h)) (λ view. below_as _ _ (below_then (value_below i Int m n d h) (λ v. below_refl)))

@@ -123,8 +123,10 @@ has_line : (x : Declaration) → DeclarationWhole x → (d : ℕ) (more : List W
 has_line (declaration.Value of name value) w d more h = cc
 has_line (declaration.Variables of names) w d more h = cc
 has_line (declaration.Retypes of name array) w d more h = cc
+has_line (declaration.Abbreviation of name value) w d more h = cc
 has_line (declaration.Procedure' name takes p body) w d more h = cc
 has_line (declaration.Function of name takes value) w d more h = cc
+has_line (declaration.Routine' types name takes p body) w d more h = cc
 has_line (declaration.Wrong names) w d more h = absurd w
 
 text_after : (x y : Declaration) → SameDeclaration x y → (after other : Names → ℕ → Effect) → WithNames after other → WithNames (declared x after) (declared y other)

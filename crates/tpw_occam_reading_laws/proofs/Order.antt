@@ -5,7 +5,7 @@ use Rattle.tpw_occam_terms.specs.declared.name.Primitive.{Primitive}
 use Rattle.tpw_occam_terms.specs.declared.name.Primitive.TheVariants.{Int, Bool as Truth, Byte}
 use Rattle.tpw_occam_terms.specs.declared.name.Name.{Name}
 use Rattle.tpw_occam_meaning.specs.Maybe.{and_then, where_true}
-use Rattle.tpw_occam_meaning.specs.Names.{Place, Form, Body, behind, Entry, Is, Procedure, Function, Nothing, Names, found}
+use Rattle.tpw_occam_meaning.specs.Names.{Place, Form, Body, behind, Entry, Is, Procedure, Function, Routine, Nothing, Names, found}
 use Rattle.tpw_occam_meaning.specs.States.{State}
 use Rattle.tpw_occam_meaning.specs.Values.{Value, as_type}
 use Rattle.tpw_occam_reading_laws.proofs.Plain.{name_of}
@@ -49,10 +49,15 @@ pub record BodyBelow {R : Type 0} (does other : Body R) : Type 0 where
 pub behind_below : {R : Type 0} {does other : Body R} (place : Place) → BodyBelow does other → BodyBelow (behind place does) (behind place other)
 behind_below place n = record { at = λ places d. n.at (place ∷ places) d }
 
+pub record RoutineBelow (does other : List Place → Body (State → State)) : Type 0 where
+  pub at : (results : List Place) → BodyBelow (does results) (other results)
+
 abbrev pub EntryBelow : Entry → Entry → Type 0
 EntryBelow (Is place) entry = entry ≡ Is place
 EntryBelow (Procedure forms does) entry = (other : Body (State → State)) × (entry ≡ Procedure forms other) × BodyBelow does other
 EntryBelow (Function of forms gives) entry = (other : Body Value) × (entry ≡ Function of forms other) × BodyBelow gives other
+EntryBelow (Routine types forms does) entry =
+    (other : List Place → Body (State → State)) × (entry ≡ Routine types forms other) × RoutineBelow does other
 EntryBelow Nothing entry = entry ≡ Nothing
 
 abbrev pub ListBelow : Names → Names → Type 0
@@ -67,6 +72,7 @@ pub entry_refl : (entry : Entry) → EntryBelow entry entry
 entry_refl (Is place) = refl
 entry_refl (Procedure forms does) = (does, refl, record { at = λ places d. below_refl })
 entry_refl (Function of forms gives) = (gives, refl, record { at = λ places d. below_refl })
+entry_refl (Routine types forms does) = (does, refl, record { at = λ results. record { at = λ places d. below_refl } })
 entry_refl Nothing = refl
 
 list_refl : (names : Names) → ListBelow names names
@@ -98,8 +104,10 @@ found_below name m n h = list_found name m n h.listed
 pub same_lookup : {A : Type 0} (f : Entry → A)
     → ((forms : List Form) (b c : Body (State → State)) → f (Procedure forms b) ≡ f (Procedure forms c))
     → ((of : Primitive) (forms : List Form) (b c : Body Value) → f (Function of forms b) ≡ f (Function of forms c))
+    → ((types : List Primitive) (forms : List Form) (b c : List Place → Body (State → State)) → f (Routine types forms b) ≡ f (Routine types forms c))
     → (x y : Entry) → EntryBelow x y → f y ≡ f x
-same_lookup f p q (Is place) y h = ap f h
-same_lookup f p q (Procedure forms does) y h = ap f h.1 ∙ p forms h.0 does
-same_lookup f p q (Function of forms gives) y h = ap f h.1 ∙ q of forms h.0 gives
-same_lookup f p q Nothing y h = ap f h
+same_lookup f p q r (Is place) y h = ap f h
+same_lookup f p q r (Procedure forms does) y h = ap f h.1 ∙ p forms h.0 does
+same_lookup f p q r (Function of forms gives) y h = ap f h.1 ∙ q of forms h.0 gives
+same_lookup f p q r (Routine types forms does) y h = ap f h.1 ∙ r types forms h.0 does
+same_lookup f p q r Nothing y h = ap f h

@@ -1,6 +1,7 @@
 -- One writing of a declaration or a process is that of one tree, but for places and brackets.
 use Rattle.std.proofs.Common.{◌≡◌, ℕ, ◌+◌, ◌<◌, List, [], ◌∷◌, Option, Some, None, refl, ap, sym, ◌∙◌, subst, arith}
 use Rattle.tpw_occam_terms.specs.declared.name.Name.{Name}
+use Rattle.tpw_occam_terms.specs.declared.name.Primitive.{Primitive}
 use Rattle.tpw_occam_lexing.specs.declared.keywords.Keyword.TheVariants as keyword
 use Rattle.tpw_occam_lexing.specs.declared.symbol.Symbol.TheVariants as symbol
 use Rattle.tpw_occam_lexing.specs.Lexemes.{Lexeme, Word, Sign}
@@ -12,10 +13,15 @@ use Rattle.tpw_occam_meaning.specs.declared.expression.Expressions.{Expressions}
 use Rattle.tpw_occam_meaning.specs.declared.expression.Expressions.TheVariants.{End, More'}
 use Rattle.tpw_occam_meaning.specs.declared.types.Names as list
 use Rattle.tpw_occam_meaning.specs.declared.types.Names.TheVariants as names
+use Rattle.tpw_occam_meaning.specs.declared.types.Primitives.{Primitives}
+use Rattle.tpw_occam_meaning.specs.declared.types.Primitives.TheVariants as primitives
 use Rattle.tpw_occam_meaning.specs.declared.types.Sizes.TheVariants as sizes
 use Rattle.tpw_occam_meaning.specs.declared.types.Type as written
+use Rattle.tpw_occam_meaning.specs.declared.types.Parameters.{Parameters}
 use Rattle.tpw_occam_meaning.specs.declared.tree.Declaration.{Declaration}
 use Rattle.tpw_occam_meaning.specs.declared.tree.Declaration.TheVariants as declaration
+use Rattle.tpw_occam_meaning.specs.declared.tree.ValueProcess.{ValueProcess}
+use Rattle.tpw_occam_meaning.specs.declared.tree.ValueProcess.TheVariants as value
 use Rattle.tpw_occam_meaning.specs.declared.tree.Process.{Process}
 use Rattle.tpw_occam_meaning.specs.declared.tree.Process.TheVariants as process
 use Rattle.tpw_occam_meaning.specs.declared.tree.Processes.{Processes}
@@ -24,16 +30,17 @@ use Rattle.tpw_occam_meaning.specs.declared.tree.Choices.{Choices}
 use Rattle.tpw_occam_meaning.specs.declared.tree.Choices.TheVariants as choices
 use Rattle.tpw_occam_meaning.specs.declared.tree.Cases.{Cases}
 use Rattle.tpw_occam_meaning.specs.declared.tree.Cases.TheVariants as cases
-use Rattle.tpw_occam_reading.specs.Spelled.{named, spelled, listed, type_if, names_spelled}
-use Rattle.tpw_occam_reading.specs.Unparse.{line, declaration_lines, process_lines, steps_lines, choices_lines, cases_lines}
+use Rattle.tpw_occam_meaning.specs.Types.{all_types}
+use Rattle.tpw_occam_reading.specs.Spelled.{named, spelled, listed, type_if, types_spelled, type_spelled, of_primitive, names_spelled, parameters_spelled}
+use Rattle.tpw_occam_reading.specs.Unparse.{line, results_spelled, declaration_lines, body_lines, process_lines, steps_lines, choices_lines, cases_lines}
 use Rattle.tpw_occam_reading_laws.proofs.Plain.{boxed, plain, all_plain, call, IsWhole, AreWhole}
-use Rattle.tpw_occam_reading_laws.proofs.PlainTypes.{plain_type_if, IsTypeIf}
+use Rattle.tpw_occam_reading_laws.proofs.PlainTypes.{plain_type_if, IsType, IsTypeIf, AreParameters}
 use Rattle.tpw_occam_reading_laws.proofs.Reader.{Wants, InList, Top, parse}
 use Rattle.tpw_occam_reading_laws.proofs.Readings.{one_expression, one_list, list_reads, left_of}
 use Rattle.tpw_occam_reading_laws.proofs.TypeReadings.{same_head, same_tail, one_primitive, one_type, one_names, one_bytes, one_parameters, First, ByVal, ByType, ByOther, first, type_first}
 use Rattle.tpw_occam_reading_laws.proofs.Statements.{AreTargets}
-use Rattle.tpw_occam_reading_laws.proofs.Sameness.{DeclarationWhole, ProcessWhole, StepsWhole, ChoicesWhole, CasesWhole, Shallow, SameLines, SameDeclaration, Same, SameSteps, SameChoices, SameCases}
-use Rattle.tpw_occam_reading_laws.proofs.Lines.{first_lexemes, heads, behinds, sort, sort_of, process_sort, shallow_up, process_shallow, process_not_shallow, line_not_shallow, drop_deep, drops, keep_line}
+use Rattle.tpw_occam_reading_laws.proofs.Sameness.{DeclarationWhole, ProcessWhole, BodyWhole, StepsWhole, ChoicesWhole, CasesWhole, Shallow, SameLines, SameBodyLines, SameDeclaration, Same, SameBody, SameSteps, SameChoices, SameCases}
+use Rattle.tpw_occam_reading_laws.proofs.Lines.{first_lexemes, heads, behinds, sort, sort_of, declaration_sort, process_sort, shallow_up, process_shallow, process_not_shallow, line_not_shallow, drop_deep, drops, drops_body, keep_line}
 
 -- ---- declarations
 
@@ -41,16 +48,24 @@ abbrev first_of : Declaration → First
 first_of (declaration.Value of name value) = ByVal
 first_of (declaration.Variables of names) = ByType
 first_of (declaration.Retypes of name array) = ByType
+first_of (declaration.Abbreviation of name value) = ByType
 first_of (declaration.Procedure' name takes p body) = ByOther
 first_of (declaration.Function of name takes value) = ByType
+first_of (declaration.Routine' types name takes p body) = ByType
 first_of (declaration.Wrong names) = ByOther
+
+types_first : (types : Primitives) (rest : List Lexeme) → first (types_spelled types rest) ≡ ByType
+types_first (primitives.One of) rest = type_first (record { sizes = sizes.End; of = of }) rest
+types_first (primitives.More' of p others) rest = type_first (record { sizes = sizes.End; of = of }) _
 
 declaration_first : (x : Declaration) → DeclarationWhole x → (d : ℕ) (more : List WrittenLine) → first (first_lexemes (declaration_lines x d more)) ≡ first_of x
 declaration_first (declaration.Value of name value) w d more = refl
 declaration_first (declaration.Variables of names) w d more = type_first of _
 declaration_first (declaration.Retypes of name array) w d more = type_first of _
+declaration_first (declaration.Abbreviation of name value) w d more = type_first of _
 declaration_first (declaration.Procedure' name takes p body) w d more = refl
 declaration_first (declaration.Function of name takes value) w d more = type_first (record { sizes = sizes.End; of = of }) _
+declaration_first (declaration.Routine' types name takes p body) w d more = types_first types _
 declaration_first (declaration.Wrong names) w d more = absurd w
 
 firsts : (x y : Declaration) → DeclarationWhole x → DeclarationWhole y → (d : ℕ) (more others : List WrittenLine)
@@ -79,6 +94,64 @@ names_no_function (names.More' n p others) rest h = cc
 retypes_no_function : (bytes : List ℕ) (rest others : List Lexeme) → (lexeme.Name bytes ∷ rest) ≡ (Word keyword.Function ∷ others) → ⊥
 retypes_no_function bytes rest others h = cc
 
+-- names in front of a colon are no name in front of IS, and RETYPES is not IS
+names_no_is : (a : list.Names) (bytes : List ℕ) (rest : List Lexeme)
+    → names_spelled a (Sign symbol.Colon ∷ []) ≡ (lexeme.Name bytes ∷ Word keyword.Is ∷ rest) → ⊥
+names_no_is names.End bytes rest h = cc
+names_no_is (names.More' n p names.End) bytes rest h = cc
+names_no_is (names.More' n p (names.More' m q others)) bytes rest h = cc
+
+retypes_no_is : (bytes other : List ℕ) (rest others : List Lexeme)
+    → (lexeme.Name bytes ∷ Word keyword.Retypes ∷ rest) ≡ (lexeme.Name other ∷ Word keyword.Is ∷ others) → ⊥
+retypes_no_is bytes other rest others h = cc
+
+-- types in front of FUNCTION are no type in front of names, and none in front of a name
+names_no_comma : (a : list.Names) (rest : List Lexeme) → names_spelled a (Sign symbol.Colon ∷ []) ≡ (Sign symbol.Comma ∷ rest) → ⊥
+names_no_comma names.End rest h = cc
+names_no_comma (names.More' n p others) rest h = cc
+
+name_no_comma : (bytes : List ℕ) (rest others : List Lexeme) → (lexeme.Name bytes ∷ rest) ≡ (Sign symbol.Comma ∷ others) → ⊥
+name_no_comma bytes rest others h = cc
+
+types_no_names : (types : Primitives) (b : written.Type) → IsType b → (a : list.Names) (rest : List Lexeme)
+    → types_spelled types (Word keyword.Function ∷ rest) ≡ type_spelled b (names_spelled a (Sign symbol.Colon ∷ [])) → ⊥
+types_no_names (primitives.One of) b w a rest h =
+    names_no_function a _ (sym ((one_type (record { sizes = sizes.End; of = of }) b tt w _ _ h).1))
+types_no_names (primitives.More' of p others) b w a rest h =
+    names_no_comma a _ (sym ((one_type (record { sizes = sizes.End; of = of }) b tt w _ _ h).1))
+
+types_no_name : (types : Primitives) (b : written.Type) → IsType b → (bytes : List ℕ) (rest more : List Lexeme)
+    → types_spelled types (Word keyword.Function ∷ rest) ≡ type_spelled b (lexeme.Name bytes ∷ more) → ⊥
+types_no_name (primitives.One of) b w bytes rest more h =
+    retypes_no_function bytes _ _ (sym ((one_type (record { sizes = sizes.End; of = of }) b tt w _ _ h).1))
+types_no_name (primitives.More' of p others) b w bytes rest more h =
+    name_no_comma bytes _ _ (sym ((one_type (record { sizes = sizes.End; of = of }) b tt w _ _ h).1))
+
+-- .. and no line of a FUNCTION of one expression
+no_is : (rest : List Lexeme) → [] ≡ (Word keyword.Is ∷ rest) → ⊥
+no_is rest h = cc
+
+comma_no_function : (rest others : List Lexeme) → (Sign symbol.Comma ∷ rest) ≡ (Word keyword.Function ∷ others) → ⊥
+comma_no_function rest others h = cc
+
+types_no_function : (types : Primitives) (q : Primitive) (m n : Name) (a b : Parameters) → AreParameters a → AreParameters b → (rest : List Lexeme)
+    → types_spelled types (Word keyword.Function ∷ named m ∷ Sign symbol.OpenRound ∷ parameters_spelled a (Sign symbol.CloseRound ∷ []))
+    ≡ (of_primitive q ∷ Word keyword.Function ∷ named n ∷ Sign symbol.OpenRound ∷ parameters_spelled b (Sign symbol.CloseRound ∷ Word keyword.Is ∷ rest)) → ⊥
+types_no_function (primitives.One of) q m n a b v w rest h =
+    no_is rest ((one_parameters a b v w _ _ (same_tail (same_tail (same_tail (same_tail h))))).behind)
+types_no_function (primitives.More' of p others) q m n a b v w rest h = comma_no_function _ _ (same_tail h)
+
+one_types : (s t : Primitives) (rest others : List Lexeme)
+    → types_spelled s (Word keyword.Function ∷ rest) ≡ types_spelled t (Word keyword.Function ∷ others)
+    → (all_types s ≡ all_types t) × (rest ≡ others)
+one_types (primitives.One p) (primitives.One q) rest others h =
+    (ap (λ x. x ∷ []) (one_primitive p q (same_head h)), same_tail (same_tail h))
+one_types (primitives.One p) (primitives.More' q x t) rest others h = absurd (comma_no_function _ _ (sym (same_tail h)))
+one_types (primitives.More' p x s) (primitives.One q) rest others h = absurd (comma_no_function _ _ (same_tail h))
+one_types (primitives.More' p x s) (primitives.More' q y t) rest others h =
+    let one = one_types s t rest others (same_tail (same_tail h)) in
+    ((λ i. one_primitive p q (same_head h) i ∷ one.0 i), one.1)
+
 pub record OneDeclaration (x y : Declaration) (more others : List WrittenLine) : Type 0 where
   pub same : SameDeclaration x y
   pub behind : more ≡ others
@@ -105,6 +178,26 @@ behind_bodies p q d more others h =
     ∙ drops q d (d + 2) deep (line d (Sign symbol.Colon ∷ []) ∷ others) ∙ keep_line d (Sign symbol.Colon ∷ []) others in
     behinds e
 
+of_values : (p q : ValueProcess) (d : ℕ) (more others : List WrittenLine)
+    → body_lines p (d + 2) (line d (Sign symbol.Colon ∷ []) ∷ more) ≡ body_lines q (d + 2) (line d (Sign symbol.Colon ∷ []) ∷ others)
+    → SameBodyLines p q
+of_values p q d more others h = record {
+  depth = d + 2;
+  more = line d (Sign symbol.Colon ∷ []) ∷ more;
+  others = line d (Sign symbol.Colon ∷ []) ∷ others;
+  lines = h;
+}
+
+behind_values : (p q : ValueProcess) (d : ℕ) (more others : List WrittenLine)
+    → body_lines p (d + 2) (line d (Sign symbol.Colon ∷ []) ∷ more) ≡ body_lines q (d + 2) (line d (Sign symbol.Colon ∷ []) ∷ others)
+    → more ≡ others
+behind_values p q d more others h =
+    let deep : d < d + 2 = omega arith in
+    let e : (line d (Sign symbol.Colon ∷ []) ∷ more) ≡ (line d (Sign symbol.Colon ∷ []) ∷ others) =
+    sym (keep_line d (Sign symbol.Colon ∷ []) more) ∙ sym (drops_body p d (d + 2) deep (line d (Sign symbol.Colon ∷ []) ∷ more)) ∙ ap (drop_deep d) h
+    ∙ drops_body q d (d + 2) deep (line d (Sign symbol.Colon ∷ []) ∷ others) ∙ keep_line d (Sign symbol.Colon ∷ []) others in
+    behinds e
+
 pub one_declaration : (x y : Declaration) → DeclarationWhole x → DeclarationWhole y → (d : ℕ) (more others : List WrittenLine)
     → declaration_lines x d more ≡ declaration_lines y d others → OneDeclaration x y more others
 one_declaration (declaration.Wrong names) y v w d more others h = absurd v
@@ -127,6 +220,22 @@ one_declaration (declaration.Retypes a m r) (declaration.Retypes b n s) v w d mo
     record { same = (t.0, one_bytes t.1, one_bytes (same_tail (same_tail t.1))); behind = behinds h }
 one_declaration (declaration.Retypes a m r) (declaration.Function p n t f) v w d more others h =
     absurd (retypes_no_function m.text.now _ _ ((one_type a (record { sizes = sizes.End; of = p }) v tt _ _ (heads h)).1))
+one_declaration (declaration.Abbreviation a m e) (declaration.Abbreviation b n f) v w d more others h =
+    let t = one_type a b v.0 w.0 _ _ (heads h) in
+    let x = one_expression e f v.1 w.1 (Sign symbol.Colon ∷ []) (Sign symbol.Colon ∷ []) tt tt (same_tail (same_tail t.1)) in
+    record { same = (t.0, one_bytes t.1, x.0); behind = behinds h }
+one_declaration (declaration.Abbreviation a m e) (declaration.Variables b l) v w d more others h =
+    absurd (names_no_is l m.text.now _ (sym ((one_type a b v.0 w _ _ (heads h)).1)))
+one_declaration (declaration.Variables a k) (declaration.Abbreviation b n f) v w d more others h =
+    absurd (names_no_is k n.text.now _ ((one_type a b v w.0 _ _ (heads h)).1))
+one_declaration (declaration.Abbreviation a m e) (declaration.Retypes b n s) v w d more others h =
+    absurd (retypes_no_is n.text.now m.text.now _ _ (sym ((one_type a b v.0 w _ _ (heads h)).1)))
+one_declaration (declaration.Retypes a m r) (declaration.Abbreviation b n f) v w d more others h =
+    absurd (retypes_no_is m.text.now n.text.now _ _ ((one_type a b v w.0 _ _ (heads h)).1))
+one_declaration (declaration.Abbreviation a m e) (declaration.Function p n t f) v w d more others h =
+    absurd (retypes_no_function m.text.now _ _ ((one_type a (record { sizes = sizes.End; of = p }) v.0 tt _ _ (heads h)).1))
+one_declaration (declaration.Function p m a e) (declaration.Abbreviation b n f) v w d more others h =
+    absurd (retypes_no_function n.text.now _ _ (sym ((one_type (record { sizes = sizes.End; of = p }) b tt w.0 _ _ (heads h)).1)))
 one_declaration (declaration.Procedure' m a p x) (declaration.Procedure' n b q y) v w d more others h =
     let t = one_parameters a b v w [] [] (same_tail (same_tail (same_tail (heads h)))) in
     record {
@@ -143,6 +252,29 @@ one_declaration (declaration.Function p m a e) (declaration.Function q n b f) v 
     record {
       same = (one_primitive p q (same_head line_same), one_bytes (same_tail (same_tail line_same)), t.parameters, same_tail t.behind);
       behind = behinds h;
+    }
+one_declaration (declaration.Routine' p m a r x) (declaration.Variables b l) v w d more others h =
+    absurd (types_no_names p b w l _ (heads h))
+one_declaration (declaration.Routine' p m a r x) (declaration.Retypes b n s) v w d more others h =
+    absurd (types_no_name p b w n.text.now _ _ (heads h))
+one_declaration (declaration.Routine' p m a r x) (declaration.Function q n b f) v w d more others h =
+    absurd (types_no_function p q m n a b v w _ (heads h))
+one_declaration (declaration.Routine' p m a r x) (declaration.Abbreviation b n f) v w d more others h =
+    absurd (types_no_name p b w.0 n.text.now _ _ (heads h))
+one_declaration (declaration.Abbreviation b n f) (declaration.Routine' p m a r x) v w d more others h =
+    absurd (types_no_name p b v.0 n.text.now _ _ (sym (heads h)))
+one_declaration (declaration.Variables b l) (declaration.Routine' p m a r x) v w d more others h =
+    absurd (types_no_names p b v l _ (sym (heads h)))
+one_declaration (declaration.Retypes b n s) (declaration.Routine' p m a r x) v w d more others h =
+    absurd (types_no_name p b v n.text.now _ _ (sym (heads h)))
+one_declaration (declaration.Function q n b f) (declaration.Routine' p m a r x) v w d more others h =
+    absurd (types_no_function p q m n a b w v _ (sym (heads h)))
+one_declaration (declaration.Routine' p m a r x) (declaration.Routine' q n b s y) v w d more others h =
+    let one = one_types p q _ _ (heads h) in
+    let t = one_parameters a b v w [] [] (same_tail (same_tail one.1)) in
+    record {
+      same = (one.0, one_bytes one.1, t.parameters, of_values x y d more others (behinds h));
+      behind = behind_values x y d more others (behinds h);
     }
 one_declaration x y v w d more others h = cc (firsts x y v w d more others h)
 
@@ -296,3 +428,32 @@ mutual
       let one = one_process x y v.0 w.0 (d + 2) (cases_lines a d more) (cases_lines b d others) (cases_shallow a d more e) (cases_shallow b d others f) (behinds h) in
       let two = one_cases a b v.1 w.1 d more others e f one.behind in
       record { same = (one.same, two.same); behind = two.behind }
+
+-- ---- bodies of FUNCTIONs
+
+pub record OneBody (x y : ValueProcess) (more others : List WrittenLine) : Type 0 where
+  pub same : SameBody x y
+  pub behind : more ≡ others
+
+no_declaration : (x : Declaration) → DeclarationWhole x → (d : ℕ) (more rest : List WrittenLine)
+    → declaration_lines x d more ≡ (line d (Word keyword.ValOf ∷ []) ∷ rest) → ⊥
+no_declaration x w d more rest h = cc (sym (declaration_sort x w d more) ∙ ap (λ l. sort (first_lexemes l)) h)
+
+results_end : (d : ℕ) (results : Expressions) (more : List WrittenLine) → Shallow (d + 2 + 1) (line (d + 2) (results_spelled results) ∷ more)
+results_end d results more = omega arith
+
+pub one_body : (x y : ValueProcess) → BodyWhole x → BodyWhole y → (d : ℕ) (more others : List WrittenLine)
+    → body_lines x d more ≡ body_lines y d others → OneBody x y more others
+one_body value.Wrong y v w d more others h = absurd v
+one_body x value.Wrong v w d more others h = absurd w
+one_body (value.Declared' p a r x) (value.Declared' q b t y) v w d more others h =
+    let one = one_declaration a b v.0 w.0 d (body_lines x d more) (body_lines y d others) h in
+    let two = one_body x y v.1 w.1 d more others one.behind in
+    record { same = (one.same, two.same); behind = two.behind }
+one_body (value.Declared' p a r x) (value.ValOf' q y f t) v w d more others h = absurd (no_declaration a v.0 d (body_lines x d more) _ h)
+one_body (value.ValOf' p x e s) (value.Declared' q b t y) v w d more others h = absurd (no_declaration b w.0 d (body_lines y d others) _ (sym h))
+one_body (value.ValOf' p x e s) (value.ValOf' q y f t) v w d more others h =
+    let one = one_process x y v.0 w.0 (d + 2) (line (d + 2) (results_spelled e) ∷ more) (line (d + 2) (results_spelled f) ∷ others)
+    (results_end d e more) (results_end d f others) (behinds h) in
+    let two = one_list e f v.1 w.1 [] [] tt tt (same_tail (heads one.behind)) in
+    record { same = (one.same, two.0); behind = behinds one.behind }

@@ -6,6 +6,8 @@ use Rattle.tpw_occam_lexing.specs.Lexemes.{Sign}
 use Rattle.tpw_occam_lexing.specs.Lines.{WrittenLine}
 use Rattle.tpw_occam_meaning.specs.declared.tree.Declaration.{Declaration}
 use Rattle.tpw_occam_meaning.specs.declared.tree.Declaration.TheVariants as declaration
+use Rattle.tpw_occam_meaning.specs.declared.tree.ValueProcess.{ValueProcess}
+use Rattle.tpw_occam_meaning.specs.declared.tree.ValueProcess.TheVariants as value
 use Rattle.tpw_occam_meaning.specs.declared.tree.Process.{Process}
 use Rattle.tpw_occam_meaning.specs.declared.tree.Process.TheVariants as process
 use Rattle.tpw_occam_meaning.specs.declared.tree.Processes.{Processes}
@@ -15,8 +17,9 @@ use Rattle.tpw_occam_meaning.specs.declared.tree.Choices.TheVariants as choices
 use Rattle.tpw_occam_meaning.specs.declared.tree.Cases.{Cases}
 use Rattle.tpw_occam_meaning.specs.declared.tree.Cases.TheVariants as cases
 use Rattle.tpw_occam_meaning.specs.Processes.{elses}
+use Rattle.tpw_occam_meaning.specs.Types.{all_types}
 use Rattle.tpw_occam_reading.specs.Spelled.{spelled}
-use Rattle.tpw_occam_reading.specs.Unparse.{process_lines}
+use Rattle.tpw_occam_reading.specs.Unparse.{process_lines, body_lines}
 use Rattle.tpw_occam_reading_laws.proofs.Plain.{plain, all_plain, IsWhole, AreWhole}
 use Rattle.tpw_occam_reading_laws.proofs.PlainTypes.{plain_type, plain_type_if, plain_names, plain_parameters, IsType, IsTypeIf, AreParameters}
 use Rattle.tpw_occam_reading_laws.proofs.Statements.{AreTargets}
@@ -27,8 +30,10 @@ abbrev pub DeclarationWhole : Declaration → Type 0
 DeclarationWhole (declaration.Value of name value) = IsTypeIf of × IsWhole value
 DeclarationWhole (declaration.Variables of names) = IsType of
 DeclarationWhole (declaration.Retypes of name array) = IsType of
+DeclarationWhole (declaration.Abbreviation of name value) = IsType of × IsWhole value
 DeclarationWhole (declaration.Procedure' name takes p body) = AreParameters takes
 DeclarationWhole (declaration.Function of name takes value) = AreParameters takes
+DeclarationWhole (declaration.Routine' types name takes p body) = AreParameters takes
 DeclarationWhole (declaration.Wrong names) = ⊥
 
 abbrev mutual
@@ -59,6 +64,11 @@ abbrev mutual
   CasesWhole (cases.Constants' constants p body q others) = AreWhole constants × ProcessWhole body × CasesWhole others
   CasesWhole (cases.Else' p body q others) = ProcessWhole body × CasesWhole others
 
+abbrev pub BodyWhole : ValueProcess → Type 0
+BodyWhole (value.Declared' p declaration q body) = DeclarationWhole declaration × BodyWhole body
+BodyWhole (value.ValOf' p process results span) = ProcessWhole process × AreWhole results
+BodyWhole value.Wrong = ⊥
+
 -- .. of the choices of a CASE those with constants, and the one behind ELSE
 abbrev pub ConstantsWhole : Cases → Type 0
 ConstantsWhole cases.End = Unit {0}
@@ -86,6 +96,13 @@ pub record SameLines (p q : Process) : Type 0 where
   pub other_ends : Shallow (depth + 1) others
   pub lines : process_lines p depth more ≡ process_lines q depth others
 
+-- .. and two bodies of FUNCTIONs
+pub record SameBodyLines (p q : ValueProcess) : Type 0 where
+  pub depth : ℕ
+  pub more : List WrittenLine
+  pub others : List WrittenLine
+  pub lines : body_lines p depth more ≡ body_lines q depth others
+
 abbrev pub SameDeclaration : Declaration → Declaration → Type 0
 SameDeclaration (declaration.Value of m e) (declaration.Value other_of n f) =
     (plain_type_if of ≡ plain_type_if other_of) × (m.text.now ≡ n.text.now) × (plain e ≡ plain f)
@@ -93,11 +110,15 @@ SameDeclaration (declaration.Variables of a) (declaration.Variables other_of b) 
     (plain_type of ≡ plain_type other_of) × (plain_names a ≡ plain_names b)
 SameDeclaration (declaration.Retypes of m a) (declaration.Retypes other_of n b) =
     (plain_type of ≡ plain_type other_of) × (m.text.now ≡ n.text.now) × (a.text.now ≡ b.text.now)
+SameDeclaration (declaration.Abbreviation of m e) (declaration.Abbreviation other_of n f) =
+    (plain_type of ≡ plain_type other_of) × (m.text.now ≡ n.text.now) × (plain e ≡ plain f)
 SameDeclaration (declaration.Procedure' m a p body) (declaration.Procedure' n b q other) =
     (m.text.now ≡ n.text.now) × (plain_parameters a ≡ plain_parameters b) × SameLines body other
 SameDeclaration (declaration.Function of m a e) (declaration.Function other_of n b f) =
     (of ≡ other_of) × (m.text.now ≡ n.text.now) × (plain_parameters a ≡ plain_parameters b)
     × (spelled e (Sign symbol.Colon ∷ []) ≡ spelled f (Sign symbol.Colon ∷ []))
+SameDeclaration (declaration.Routine' types m a p body) (declaration.Routine' others n b q other) =
+    (all_types types ≡ all_types others) × (m.text.now ≡ n.text.now) × (plain_parameters a ≡ plain_parameters b) × SameBodyLines body other
 SameDeclaration one other = ⊥
 
 abbrev mutual
@@ -131,3 +152,8 @@ abbrev mutual
   SameCases (cases.Constants' e p x r a) (cases.Constants' f q y t b) = (all_plain e ≡ all_plain f) × Same x y × SameCases a b
   SameCases (cases.Else' p x r a) (cases.Else' q y t b) = Same x y × SameCases a b
   SameCases one other = ⊥
+
+abbrev pub SameBody : ValueProcess → ValueProcess → Type 0
+SameBody (value.Declared' p a r x) (value.Declared' q b t y) = SameDeclaration a b × SameBody x y
+SameBody (value.ValOf' p x e s) (value.ValOf' q y f t) = Same x y × (all_plain e ≡ all_plain f)
+SameBody one other = ⊥

@@ -1,5 +1,5 @@
 -- Assignments, calls and messages: by their plain trees they mean the same; what means something is well formed.
-use Rattle.std.proofs.Common.{◌≡◌, ℕ, ◌+◌, Bool, true, false, List, [], ◌∷◌, Option, Some, None, refl, sym, ap, subst}
+use Rattle.std.proofs.Common.{◌≡◌, ℕ, ◌+◌, Bool, true, false, List, [], ◌∷◌, map, Option, Some, None, refl, sym, ap, subst}
 use Rattle.tpw_occam_terms.specs.declared.name.Primitive.{Primitive}
 use Rattle.tpw_occam_terms.specs.declared.name.Primitive.TheVariants.{Int}
 use Rattle.tpw_occam_terms.specs.declared.name.Name.{Name}
@@ -7,20 +7,23 @@ use Rattle.tpw_occam_meaning.specs.declared.expression.Expression.{Expression}
 use Rattle.tpw_occam_meaning.specs.declared.expression.Expression.TheVariants as tree
 use Rattle.tpw_occam_meaning.specs.declared.expression.Expressions.{Expressions}
 use Rattle.tpw_occam_meaning.specs.declared.expression.Expressions.TheVariants.{End, More'}
+use Rattle.tpw_occam_meaning.specs.declared.types.Sizes.{Sizes}
+use Rattle.tpw_occam_meaning.specs.declared.types.Sizes.TheVariants as sizes
 use Rattle.tpw_occam_meaning.specs.declared.types.Type as written
-use Rattle.tpw_occam_meaning.specs.Assignments.{target_in, target_of, written_array, all_assigned, whole_target, copied, assignment}
-use Rattle.tpw_occam_meaning.specs.Calls.{lent, referred, same_protocol, traces_of, entered, called}
-use Rattle.tpw_occam_meaning.specs.Declarations.{is_table, type_in_table, shape_of_table, type_of_value, table_entry, retyped}
+use Rattle.tpw_occam_meaning.specs.Assignments.{target_in, target_of, written_array, all_assigned, whole_target, copied, assignment, results_given}
+use Rattle.tpw_occam_meaning.specs.Calls.{lent, referred, same_protocol, traces_of, entered, called, call_in, call_alone, results_taken, taken_from}
+use Rattle.tpw_occam_meaning.specs.Declarations.{is_table, is_array, type_in_table, shape_of_table, type_of_value, array_entry, table_entry, retyped}
 use Rattle.tpw_occam_meaning.specs.Effects.{Effect, given}
 use Rattle.tpw_occam_meaning.specs.Expressions.{view_in}
 use Rattle.tpw_occam_meaning.specs.Maybe.{and_then, where_true}
 use Rattle.tpw_occam_meaning.specs.Messages.{message_of, carried, received}
 use Rattle.tpw_occam_meaning.specs.Names.{Word, Constant, Kept, View, Place, Form, OfValue, OfVariable, OfArray, OfChannel, Protocol, OneWord, Several, Channel, Traces, Fixed, Whole, Carrier, Element}
-use Rattle.tpw_occam_meaning.specs.Names.{Body, behind, Entry, Is, Procedure, Function, Nothing, Names, found}
+use Rattle.tpw_occam_meaning.specs.Names.{Body, behind, Entry, Is, Procedure, Function, Routine, Nothing, Names, found}
 use Rattle.tpw_occam_meaning.specs.States.{State}
+use Rattle.tpw_occam_meaning.specs.Types.{shape_of, by_sizes}
 use Rattle.tpw_occam_meaning.specs.Values.{Value, Known, Varying, element_type}
 use Rattle.tpw_occam_reading_laws.proofs.Plain.{plain, all_plain, name_of, is_name, IsWhole, AreWhole}
-use Rattle.tpw_occam_reading_laws.proofs.PlainTypes.{plain_name_of, plain_type, plain_type_if, IsType, IsTypeIf}
+use Rattle.tpw_occam_reading_laws.proofs.PlainTypes.{plain_name_of, plain_sizes, plain_type, plain_type_if, IsType, IsTypeIf}
 use Rattle.tpw_occam_reading_laws.proofs.Order.{Below, below_refl, below_none, below_eq, below_then, below_where, below_as, BodyBelow, behind_below, EntryBelow, NamesBelow, found_below, same_lookup}
 use Rattle.tpw_occam_reading_laws.proofs.Wellformed.{Needs, needs_none, needs_fact, needs_map, needs_both, needs_first, needs_then, needs_where, needs_as, named_needs, value_needs, array_needs}
 use Rattle.tpw_occam_reading_laws.proofs.Meanings.{named_same, type_same, value_below, array_below}
@@ -53,7 +56,7 @@ target_needs other names d = needs_none
 
 pub target_below : (e : Expression) (m n : Names) (d : ℕ) → NamesBelow m n → Below (target_of e m d) (target_of (plain e) n d)
 target_below (tree.Name name) m n d h =
-    below_eq (same_lookup target_in (λ forms b c. refl) (λ of forms b c. refl) (found name m) (found (name_of name.text.now) n) (found_below name m n h))
+    below_eq (same_lookup target_in (λ forms b c. refl) (λ of forms b c. refl) (λ types forms b c. refl) (found name m) (found (name_of name.text.now) n) (found_below name m n h))
 target_below (tree.Element' p a q i span) m n d h =
     below_then (below_eq (named_same a m n h)) (λ view. below_then (value_below i Int m n d h) (λ i. below_refl))
 target_below (tree.Bracketed' p e span) m n d h = target_below e m n d h
@@ -79,6 +82,24 @@ all_assigned_below (More' p t q targets) (More' r e u values) m n d h =
     below_then (all_assigned_below targets values m n d h) (λ f. below_refl)))
 all_assigned_below End (More' r e u values) m n d h = below_none
 all_assigned_below (More' p t q targets) End m n d h = below_none
+
+pub results_given_needs : (places : List Place) (results : Expressions) (names : Names) (d : ℕ)
+    → Needs (AreWhole results) (results_given places results names d)
+results_given_needs [] End names d = needs_fact tt
+results_given_needs (place ∷ places) (More' p e q results) names d =
+    needs_then (target_in (Is place)) (λ target. needs_both (value_needs e target.of names d) (λ v.
+    needs_first _ (results_given_needs places results names d)))
+results_given_needs [] (More' p e q results) names d = needs_none
+results_given_needs (place ∷ places) End names d = needs_none
+
+pub results_given_below : (places : List Place) (results : Expressions) (m n : Names) (d : ℕ) → NamesBelow m n
+    → Below (results_given places results m d) (results_given places (all_plain results) n d)
+results_given_below [] End m n d h = below_refl
+results_given_below (place ∷ places) (More' p e q results) m n d h =
+    below_then below_refl (λ target. below_then (value_below e target.of m n d h) (λ v.
+    below_then (results_given_below places results m n d h) (λ f. below_refl)))
+results_given_below [] (More' p e q results) m n d h = below_none
+results_given_below (place ∷ places) End m n d h = below_none
 
 whole_target_same : (targets : Expressions) (m n : Names) → NamesBelow m n → whole_target (all_plain targets) n ≡ whole_target targets m
 whole_target_same End m n h = refl
@@ -134,7 +155,7 @@ given_below d (Known word false) next other h = h (Constant word) d
 given_below d (Known word true) next other h = below_then (h (Kept d) (d + 1)) (λ f. below_refl)
 given_below d (Varying f) next other h = below_then (h (Kept d) (d + 1)) (λ f. below_refl)
 
-referred_needs : {F : Type 0} (e : Expression) (of : Primitive) (names : Names) (d : ℕ) (next : Place → ℕ → Effect)
+pub referred_needs : {F : Type 0} (e : Expression) (of : Primitive) (names : Names) (d : ℕ) (next : Place → ℕ → Effect)
     → ((place : Place) (n : ℕ) → Needs F (next place n)) → Needs (IsWhole e × F) (referred e of names d next)
 referred_needs (tree.Name name) of names d next h = needs_then _ (λ place. needs_map (λ f. (tt, f)) (h place d))
 referred_needs (tree.Element' p a q i span) of names d next h =
@@ -144,10 +165,10 @@ referred_needs (tree.Element' p a q i span) of names d next h =
 referred_needs (tree.Bracketed' p e span) of names d next h = referred_needs e of names d next h
 referred_needs other of names d next h = needs_none
 
-referred_below : (e : Expression) (of : Primitive) (m n : Names) (d : ℕ) (next other : Place → ℕ → Effect) → NamesBelow m n
+pub referred_below : (e : Expression) (of : Primitive) (m n : Names) (d : ℕ) (next other : Place → ℕ → Effect) → NamesBelow m n
     → ((place : Place) (k : ℕ) → Below (next place k) (other place k)) → Below (referred e of m d next) (referred (plain e) of n d other)
 referred_below (tree.Name name) of m n d next other h b =
-    below_then (below_eq (same_lookup (lent of) (λ forms b c. refl) (λ of forms b c. refl) (found name m) (found (name_of name.text.now) n) (found_below name m n h)))
+    below_then (below_eq (same_lookup (lent of) (λ forms b c. refl) (λ of forms b c. refl) (λ types forms b c. refl) (found name m) (found (name_of name.text.now) n) (found_below name m n h)))
     (λ place. b place d)
 referred_below (tree.Element' p a q i span) of m n d next other h b =
     below_then (below_eq (named_same a m n h)) (λ view. below_then below_refl (λ a. below_as of (element_type view.kind)
@@ -165,6 +186,7 @@ pub carried_same : (channel : Channel) (name : Name) (m n : Names) → NamesBelo
     → carried channel (found (name_of name.text.now) n) ≡ carried channel (found name m)
 carried_same channel name m n h =
     same_lookup (carried channel) (λ forms b c. of_procedure channel forms b c) (λ of forms b c. of_function channel of forms b c)
+    (λ types forms b c. of_routine channel types forms b c)
     (found name m) (found (name_of name.text.now) n) (found_below name m n h)
   where
     of_procedure : (channel : Channel) (forms : List Form) (b c : Body (State → State)) → carried channel (Procedure forms b) ≡ carried channel (Procedure forms c)
@@ -174,6 +196,11 @@ carried_same channel name m n h =
     of_function : (channel : Channel) (of : Primitive) (forms : List Form) (b c : Body Value) → carried channel (Function of forms b) ≡ carried channel (Function of forms c)
     of_function Traces of forms b c = refl
     of_function other of forms b c = refl
+
+    of_routine : (channel : Channel) (types : List Primitive) (forms : List Form) (b c : List Place → Body (State → State))
+        → carried channel (Routine types forms b) ≡ carried channel (Routine types forms c)
+    of_routine Traces types forms b c = refl
+    of_routine other types forms b c = refl
 
 traces_same : (e : Expression) (m n : Names) → NamesBelow m n → traces_of (plain e) n ≡ traces_of e m
 traces_same (tree.Name name) m n h = carried_same Traces name m n h
@@ -222,7 +249,79 @@ called_below (Procedure forms does) y arguments m n d e h =
     (entered_below arguments forms does e.0 e.2 m n d h)
 called_below (Is place) y arguments m n d e h = below_none
 called_below (Function of forms gives) y arguments m n d e h = below_none
+called_below (Routine types forms does) y arguments m n d e h = below_none
 called_below Nothing y arguments m n d e h = below_none
+
+-- ---- calls of FUNCTIONs with a body
+
+reference_needs : {F : Type 0} (e : Expression) (of : Primitive) (names : Names) (d : ℕ) (next : Place → ℕ → Effect)
+    → ((place : Place) (n : ℕ) → Needs F (next place n)) → Needs (((is_target e ≡ true) × IsWhole e) × F) (referred e of names d next)
+reference_needs (tree.Name name) of names d next h = needs_then _ (λ place. needs_map (λ f. ((refl, tt), f)) (h place d))
+reference_needs (tree.Element' p a q i span) of names d next h =
+    needs_map (λ w. ((refl, w.0), w.1)) (referred_needs (tree.Element' p a q i span) of names d next h)
+reference_needs (tree.Bracketed' p e span) of names d next h = reference_needs e of names d next h
+reference_needs other of names d next h = needs_none
+
+targets_needs : {F : Type 0} (types : List Primitive) (targets : Expressions) (does : Body (State → State)) (names : Names) (d : ℕ)
+    → ((places : List Place) (n : ℕ) → Needs F (does places n))
+    → Needs (AreTargets targets × F) (entered targets (map OfVariable types) does names d)
+targets_needs [] End does names d h = needs_map (λ f. (tt, f)) (h [] d)
+targets_needs (of ∷ types) End does names d h = needs_none
+targets_needs [] (More' p e q targets) does names d h = needs_none
+targets_needs (of ∷ types) (More' p e q targets) does names d h =
+    needs_map (λ w. ((w.0.0, w.0.1, w.1.0), w.1.1)) (reference_needs e of names d _ (λ place n.
+    targets_needs types targets (behind place does) names n (λ places k. h (place ∷ places) k)))
+
+results_taken_needs : (entry : Entry) (targets arguments : Expressions) (other : Effect) (names : Names) (d : ℕ)
+    → Needs (AreTargets targets × AreWhole arguments) other
+    → Needs (AreTargets targets × AreWhole arguments) (results_taken entry targets arguments other names d)
+results_taken_needs (Routine types forms does) targets arguments other names d n =
+    targets_needs types targets _ names d (λ results k. entered_needs arguments forms (does results) names k)
+results_taken_needs entry targets arguments other names d n = n
+
+call_needs : (e : Expression) (targets : Expressions) (other : Effect) (names : Names) (d : ℕ)
+    → Needs (AreTargets targets × IsWhole e) other → Needs (AreTargets targets × IsWhole e) (taken_from (call_in e) targets other names d)
+call_needs (tree.Call' name p arguments) targets other names d n = results_taken_needs (found name names) targets arguments other names d n
+call_needs (tree.Bracketed' p e span) targets other names d n = call_needs e targets other names d n
+call_needs e targets other names d n = n
+
+pub taken_needs : (targets values : Expressions) (other : Effect) (names : Names) (d : ℕ)
+    → Needs (AreTargets targets × AreWhole values) other
+    → Needs (AreTargets targets × AreWhole values) (taken_from (call_alone values) targets other names d)
+taken_needs targets End other names d n = n
+taken_needs targets (More' p e q End) other names d n =
+    needs_map (λ w. (w.0, (w.1, tt))) (call_needs e targets other names d (needs_map (λ w. (w.0, w.1.0)) n))
+taken_needs targets (More' p e q (More' r f s more)) other names d n = n
+
+results_taken_below : (x y : Entry) (targets arguments : Expressions) (other after : Effect) (m n : Names) (d : ℕ) → EntryBelow x y → NamesBelow m n
+    → Below other after
+    → Below (results_taken x targets arguments other m d) (results_taken y (all_plain targets) (all_plain arguments) after n d)
+results_taken_below (Routine types forms does) y targets arguments other after m n d e h b =
+    subst (λ z. Below (results_taken (Routine types forms does) targets arguments other m d)
+    (results_taken z (all_plain targets) (all_plain arguments) after n d)) (sym e.1)
+    (entered_below targets (map OfVariable types) _ _
+    (record { at = λ results k. entered_below arguments forms (does results) (e.0 results) (e.2.at results) m n k h }) m n d h)
+results_taken_below (Is place) y targets arguments other after m n d e h b =
+    subst (λ z. Below other (results_taken z (all_plain targets) (all_plain arguments) after n d)) (sym e) b
+results_taken_below (Procedure forms does) y targets arguments other after m n d e h b =
+    subst (λ z. Below other (results_taken z (all_plain targets) (all_plain arguments) after n d)) (sym e.1) b
+results_taken_below (Function of forms gives) y targets arguments other after m n d e h b =
+    subst (λ z. Below other (results_taken z (all_plain targets) (all_plain arguments) after n d)) (sym e.1) b
+results_taken_below Nothing y targets arguments other after m n d e h b =
+    subst (λ z. Below other (results_taken z (all_plain targets) (all_plain arguments) after n d)) (sym e) b
+
+call_below : (e : Expression) (targets : Expressions) (other after : Effect) (m n : Names) (d : ℕ) → NamesBelow m n → Below other after
+    → Below (taken_from (call_in e) targets other m d) (taken_from (call_in (plain e)) (all_plain targets) after n d)
+call_below (tree.Call' name p arguments) targets other after m n d h b =
+    results_taken_below (found name m) (found (name_of name.text.now) n) targets arguments other after m n d (found_below name m n h) h b
+call_below (tree.Bracketed' p e span) targets other after m n d h b = call_below e targets other after m n d h b
+call_below e targets other after m n d h b = b
+
+pub taken_below : (targets values : Expressions) (other after : Effect) (m n : Names) (d : ℕ) → NamesBelow m n → Below other after
+    → Below (taken_from (call_alone values) targets other m d) (taken_from (call_alone (all_plain values)) (all_plain targets) after n d)
+taken_below targets End other after m n d h b = b
+taken_below targets (More' p e q End) other after m n d h b = call_below e targets other after m n d h b
+taken_below targets (More' p e q (More' r f s more)) other after m n d h b = b
 
 -- ---- messages
 
@@ -251,6 +350,15 @@ is_table_same (tree.Text spelled span) = refl
 is_table_same (tree.Bracketed' p e span) = is_table_same e
 is_table_same other = refl
 
+sized_same : (s : Sizes) → by_sizes (plain_sizes s) false true ≡ by_sizes s false true
+sized_same sizes.End = refl
+sized_same (sizes.Open' p others) = refl
+sized_same (sizes.Of' e p others) = refl
+
+pub is_array_same : (of : Option written.Type) (e : Expression) → is_array (plain_type_if of) (plain e) ≡ is_array of e
+is_array_same None e = is_table_same e
+is_array_same (Some of) e = sized_same of.sizes
+
 type_in_table_same : (e : Expression) (m n : Names) → NamesBelow m n → type_in_table (plain e) n ≡ type_in_table e m
 type_in_table_same (tree.Table' p End span) m n h = refl
 type_in_table_same (tree.Table' p (More' q e r more) span) m n h = type_same e m n h
@@ -273,6 +381,14 @@ pub table_below : (of : Option written.Type) (e : Expression) (m n : Names) → 
     → Below (table_entry of e m) (table_entry (plain_type_if of) (plain e) n)
 table_below of e m n h = below_then (shape_of_table_below of e m n h) (λ shape. below_then (array_below e shape m n h) (λ view. below_refl))
 
+pub array_entry_needs : (of : written.Type) (e : Expression) (names : Names)
+    → Needs (IsType of × IsWhole e) (array_entry (shape_of of true names) e names)
+array_entry_needs of e names = needs_both (shape_needs of true names) (λ shape. needs_first _ (array_needs e shape names))
+
+pub array_entry_below : (of : written.Type) (e : Expression) (m n : Names) → NamesBelow m n
+    → Below (array_entry (shape_of of true m) e m) (array_entry (shape_of (plain_type of) true n) (plain e) n)
+array_entry_below of e m n h = below_then (shape_below of true m n h) (λ shape. below_then (array_below e shape m n h) (λ view. below_refl))
+
 pub type_of_value_needs : (of : Option written.Type) (e : Expression) (names : Names) → Needs (IsTypeIf of) (type_of_value of e names)
 type_of_value_needs None e names = needs_fact tt
 type_of_value_needs (Some of) e names = by_sizes_needs of.sizes _ needs_none
@@ -288,5 +404,5 @@ retyped_needs of array names = needs_then (view_in (found array names)) (λ view
 pub retyped_below : (of : written.Type) (array : Name) (m n : Names) → NamesBelow m n
     → Below (retyped of array m) (retyped (plain_type of) (plain_name_of array) n)
 retyped_below of array m n h =
-    below_then (below_eq (same_lookup view_in (λ forms b c. refl) (λ of forms b c. refl) (found array m) (found (name_of array.text.now) n) (found_below array m n h)))
+    below_then (below_eq (same_lookup view_in (λ forms b c. refl) (λ of forms b c. refl) (λ types forms b c. refl) (found array m) (found (name_of array.text.now) n) (found_below array m n h)))
     (λ view. below_then (shape_below of view.is_variable m n h) (λ shape. below_refl))

@@ -1,17 +1,20 @@
 -- What is declared.
-use Rattle.std.proofs.Common.{◌≡◌, ℕ, List, map, Some, sym, ap, ◌∙◌}
+use Rattle.std.proofs.Common.{◌≡◌, ℕ, true, List, map, Some, sym, ap, ◌∙◌}
+use Rattle.std.specs.List.{list_all}
 use Rattle.std.specs.declared.boxed.Box.{Box}
 use Rattle.std.specs.declared.alloc.Global.{Global}
 use Rattle.tpw_occam_terms.specs.declared.name.Name.{Name}
 use Rattle.tpw_occam_meaning.specs.declared.tree.Declaration.{Declaration}
 use Rattle.tpw_occam_meaning.specs.declared.tree.Declaration.TheVariants as declaration
 use Rattle.tpw_occam_meaning.specs.declared.tree.Process.{Process}
+use Rattle.tpw_occam_meaning.specs.declared.tree.ValueProcess.{ValueProcess}
+use Rattle.tpw_occam_meaning.specs.declared.types.Primitives.{Primitives}
 use Rattle.tpw_occam_meaning.specs.declared.types.Parameters.{Parameters}
 use Rattle.tpw_occam_meaning.specs.Effects.{Effect}
-use Rattle.tpw_occam_meaning.specs.Maybe.{and_then}
-use Rattle.tpw_occam_meaning.specs.Names.{Procedure, Names, with_name, taking}
-use Rattle.tpw_occam_meaning.specs.Processes.{run, declared}
-use Rattle.tpw_occam_meaning.specs.Types.{forms_of}
+use Rattle.tpw_occam_meaning.specs.Maybe.{and_then, where_true}
+use Rattle.tpw_occam_meaning.specs.Names.{Procedure, Routine, Names, with_name, taking}
+use Rattle.tpw_occam_meaning.specs.Processes.{run, declared, valued}
+use Rattle.tpw_occam_meaning.specs.Types.{forms_of, is_value, all_types}
 use Rattle.tpw_occam_names.specs.declared.scope.Form.{Form}
 use Rattle.tpw_occam_names.specs.Scopes.{form_of}
 
@@ -24,5 +27,20 @@ procedure_done p after names d name takes b body forms found e p-is body-is foun
     h
     ∙ (λ i. after (with_name name (Procedure (map form_of (forms-is i)) (taking takes (run (body-is i)) names)) names) d)
     ∙ sym (ap (λ o. and_then (and_then o (λ forms. Some (Procedure forms (taking takes (run b.value) names))))
+    (λ entry. after (with_name name entry names) d)) found-is)
+    ∙ sym (ap (λ x. declared x after names d) p-is)
+
+pub routine_done : (p : Declaration) (after : Names → ℕ → Effect) (names : Names) (d : ℕ) (types : Primitives) (name : Name) (takes : Parameters)
+    (b : Box ValueProcess Global) (body : ValueProcess) (forms found : List Form) (e : Effect) → p ≡ declaration.Routine types name takes b →
+    body ≡ b.value → forms_of takes names ≡ Some (map form_of found) → list_all is_value (map form_of found) ≡ true → forms ≡ found →
+    e ≡ after (with_name name (Routine (all_types types) (map form_of forms) (λ results. taking takes (valued body results) names)) names) d →
+    e ≡ declared p after names d
+routine_done p after names d types name takes b body forms found e p-is body-is found-is values forms-is h =
+    h
+    ∙ (λ i. after (with_name name (Routine (all_types types) (map form_of (forms-is i)) (λ results. taking takes (valued (body-is i) results) names)) names) d)
+    ∙ sym (ap (λ t. and_then (where_true t (Some (Routine (all_types types) (map form_of found) (λ results. taking takes (valued b.value results) names))))
+    (λ entry. after (with_name name entry names) d)) values)
+    ∙ sym (ap (λ o. and_then (and_then o (λ forms. where_true (list_all is_value forms)
+    (Some (Routine (all_types types) forms (λ results. taking takes (valued b.value results) names)))))
     (λ entry. after (with_name name entry names) d)) found-is)
     ∙ sym (ap (λ x. declared x after names d) p-is)

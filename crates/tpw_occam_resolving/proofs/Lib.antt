@@ -1,5 +1,6 @@
 pub mod Declaring
 pub mod Entering
+pub mod Giving
 pub mod Making
 pub mod Operating
 pub mod Selecting

@@ -2,7 +2,7 @@
 use Rattle.std.proofs.Common.{◌≡◌, ◌∙◌, ℕ, ◌+◌, ◌*◌, ◌==◌, nat_lt, Bool, true, false, if◌then◌else◌, Option, Some, None, List, [], ◌∷◌, drop, sym, ap}
 use Rattle.tpw_occam_terms.specs.Spelling as tree
 use Rattle.tpw_occam_terms.specs.Spelling.{digit, letter, front, escaped, hexadecimal, two_digits}
-use Rattle.tpw_occam_meaning.specs.Literals.{Escape, Plain, Star, Hash, High, in_front, spelled_behind, text}
+use Rattle.tpw_occam_meaning.specs.Literals.{Plain, Star, Hash, High, in_front, spelled_behind, text}
 use Rattle.tpw_occam_meaning.specs.Maybe.{and_then, where_true}
 
 pair_same : (p q : ℕ × List ℕ) → ◌≡◌ {A = Option (ℕ × List ℕ)} (Some p) (Some q) → p ≡ q

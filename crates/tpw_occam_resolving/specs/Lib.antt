@@ -1,3 +1,5 @@
--- What a reader must believe: how parameters begin, and which place one is another name for.
+-- What a reader must believe: how parameters begin, which place one is another name for, and what stands behind
+-- declarations.
+pub mod Behind
 pub mod Cases
 pub mod Passing

@@ -16,7 +16,7 @@ BeginsWith takes name more =
     (place : text.Place) (places : List text.Place) (names : Names) →
     bound takes (place ∷ places) names ≡ bound more places ((name, Is place) ∷ names)
 
--- what a parameter is another name for
+-- what a parameter, or a name that is declared, is another name for
 abbrev pub place_of : Place → text.Place
 place_of (place.Variable of x) = text.Variable of x
 place_of (place.Element view word) = text.Element (view_of view) (word_of word)

@@ -1,4 +1,4 @@
-//! Arguments that are passed to PROCs under another name.
+//! Other names: of arguments that are passed to PROCs, and of declarations.
 
 ghost use Rattle.std.specs.Prelude.{◌≡◌, ℕ, Some, IfOk};
 ghost use Rattle.tpw_occam_meaning.specs.Calls as text;
@@ -23,22 +23,22 @@ use tpw_occam_names::{
 use tpw_occam_scoped::Value;
 use tpw_occam_terms::{Name, Primitive};
 
-/// The place that a parameter is another name for.
+/// The place that a parameter, or a name that is declared, is another name for.
 #[derive(Clone, Copy)]
-pub(crate) enum Place<'s> {
+pub enum Place<'s> {
     Variable(Primitive, usize),
     Element(View<'s>, Word),
 }
 
 /// An argument under another name: its place, and the subscript that is worked out for it, or a constant.
 #[derive(Drop)]
-pub(crate) struct Lent<'s> {
-    pub(crate) place: Place<'s>,
-    pub(crate) subscript: Value,
+pub struct Lent<'s> {
+    pub place: Place<'s>,
+    pub subscript: Value,
 }
 
-/// The binding of the parameter.
-pub(crate) fn meaning_of<'t, 'r, 'a>(lent: &'r Lent<'r>) -> Meaning<'r, 't, 'a>
+/// The binding of the parameter, or of the name that is declared.
+pub fn meaning_of<'t, 'r, 'a>(lent: &'r Lent<'r>) -> Meaning<'r, 't, 'a>
     ensures { (names : Names) → entry_of result names ≡ Is (place_of lent.now.place) }
 {
     match lent.place {
@@ -68,8 +68,9 @@ fn lent_by_name<'s>(
     }
 }
 
-/// An argument that is another name for a variable or an element, whose subscript is worked out at the call.
-pub(crate) fn referred<'t, 's, 'a>(
+/// What another name for a variable or an element stands for: of an argument, whose subscript is worked out at the call,
+/// or of a declaration, whose is worked out there.
+pub fn referred<'t, 's, 'a>(
     alloc: Global,
     scope: &Scope<'s, 't, 'a>,
     d: usize,

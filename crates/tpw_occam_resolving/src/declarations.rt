@@ -1,6 +1,6 @@
 //! The values and shapes of declarations.
 
-ghost use Rattle.std.specs.Prelude.{◌≡◌, ◌∷◌, Some, IfOk, map};
+ghost use Rattle.std.specs.Prelude.{◌≡◌, ◌∷◌, true, Some, IfOk, map};
 ghost use Rattle.std.specs.List.{list_all};
 ghost use Rattle.std.specs.Option.{option_map};
 ghost use Rattle.tpw_occam_core.specs.Sound.{is_message};
@@ -16,19 +16,32 @@ use crate::expressions::array;
 use crate::types::{bytes_of, is_single, kind_of, shape};
 use std::alloc::Global;
 use tpw_occam_core::Kind;
-use tpw_occam_meaning::{Expression, Expressions, Parameters, Type};
+use tpw_occam_meaning::{Expression, Expressions, Parameters, Sizes, Type};
 use tpw_occam_names::{Fault, Form, Meaning, Protocol, Scope, Shape, View, look_up, type_of};
 use tpw_occam_scoped::Value;
 use tpw_occam_terms::{Name, Passing, Primitive};
 
 /// Whether an expression is a text or a table.
-pub fn is_table(e: &Expression<'_>) -> bool
+fn is_table(e: &Expression<'_>) -> bool
     ensures { result ≡ text.is_table e.now }
 {
     match e {
         Expression::Text { .. } | Expression::Table { .. } => true,
         Expression::Bracketed { within, .. } => is_table(within),
         _ => false,
+    }
+}
+
+/// Whether what is declared is an array, by its type, or else by what it is.
+pub fn is_array(of: &Option<Type<'_>>, e: &Expression<'_>) -> bool
+    ensures { result ≡ text.is_array of.now e.now }
+{
+    match of {
+        None => is_table(e),
+        Some(of) => match &of.sizes {
+            Sizes::End => false,
+            Sizes::Open(_) | Sizes::Of(_, _) => true,
+        },
     }
 }
 
@@ -131,7 +144,7 @@ fn form<'t, 'a>(
 }
 
 /// A form in front of others.
-fn with_form(form: Form, forms: Vec<Form>) -> Result<Vec<Form>, Fault>
+pub(crate) fn with_form(form: Form, forms: Vec<Form>) -> Result<Vec<Form>, Fault>
     ensures { IfOk result (λ all. map form_of all.items ≡ form_of form ∷ map form_of forms.items) }
 {
     let mut all = forms;
@@ -247,7 +260,7 @@ fn shape_of_table<'t, 'a>(
     }
 }
 
-/// A table that is declared.
+/// An array or a table that is declared, and not written to.
 pub fn table_declared<'t, 's, 'a>(
     alloc: Global,
     scope: &Scope<'s, 't, 'a>,
@@ -258,6 +271,21 @@ pub fn table_declared<'t, 's, 'a>(
     ensures { IfOk result (λ a. text.table_entry of.now e.now (names_of scope.now) ≡ Some (Is (Whole (array_made a)))) }
 {
     let shape = shape_of_table(alloc, scope, of, e, room)?;
+    array(alloc, scope, e, shape, room)
+}
+
+/// Another name for an array that may be written to.
+pub fn array_abbreviated<'t, 's, 'a>(
+    alloc: Global,
+    scope: &Scope<'s, 't, 'a>,
+    of: &Type<'a>,
+    e: &Expression<'a>,
+    room: u32,
+) -> Result<Array<'s>, Fault>
+    ensures { IfOk result (λ a. text.array_entry (types.shape_of of.now true (names_of scope.now)) e.now
+        (names_of scope.now) ≡ Some (Is (Whole (array_made a)))) }
+{
+    let shape = shape(alloc, scope, of, true, room)?;
     array(alloc, scope, e, shape, room)
 }
 

@@ -7,20 +7,24 @@ mod cases;
 mod declarations;
 mod depths;
 mod expressions;
+mod functions;
 mod lines;
 mod messages;
 mod operands;
 mod operators;
 mod parameters;
 mod processes;
+mod rest;
 mod targets;
 mod texts;
 mod types;
 mod values;
 
 pub use arrays::{Array, view};
+pub use calls::{Lent, Place, meaning_of, referred};
 pub use declarations::{
-    are_values, forms_of, is_table, may_be_declared, retyped, table_declared, type_of_value,
+    are_values, array_abbreviated, forms_of, is_array, may_be_declared, retyped, table_declared,
+    type_of_value,
 };
 pub use depths::{depth_behind, next, word_passed};
 pub use expressions::{array, value};

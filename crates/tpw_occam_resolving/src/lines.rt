@@ -37,8 +37,10 @@ fn declared_place(declaration: &Declaration<'_>) -> Option<Span> {
     match declaration {
         Declaration::Value { name, .. }
         | Declaration::Retypes { name, .. }
+        | Declaration::Abbreviation { name, .. }
         | Declaration::Procedure { name, .. }
-        | Declaration::Function { name, .. } => Some(name.span),
+        | Declaration::Function { name, .. }
+        | Declaration::Routine { name, .. } => Some(name.span),
         Declaration::Variables { names, .. } | Declaration::Wrong { names } => match names {
             Names::More(name, _) => Some(name.span),
             Names::End => None,

@@ -5,9 +5,11 @@ ghost use Rattle.tpw_occam_meaning.specs.Calls as calls;
 ghost use Rattle.tpw_occam_meaning.specs.Declarations as text_declarations;
 ghost use Rattle.tpw_occam_meaning.specs.Effects.{followed_by};
 ghost use Rattle.tpw_occam_meaning.specs.Expressions.{value_of};
-ghost use Rattle.tpw_occam_meaning.specs.Names.{Is, Whole, Procedure, Function, found, with_name, taking};
+ghost use Rattle.tpw_occam_meaning.specs.Names.{Is, Whole, Procedure, Function, Routine, found, with_name, taking};
 ghost use Rattle.tpw_occam_meaning.specs.Processes as text;
+ghost use Rattle.tpw_occam_meaning.specs.Types.{all_types};
 ghost use Rattle.tpw_occam_names.specs.Scopes.{names_of, form_of, word_of};
+ghost use Rattle.tpw_occam_resolving.specs.Behind.{after_of};
 ghost use Rattle.tpw_occam_resolving.specs.Cases.{cased};
 ghost use Rattle.tpw_occam_resolving.specs.Passing.{array_made};
 ghost use Rattle.tpw_occam_scoped.specs.Made.{effect_of};
@@ -16,20 +18,23 @@ use crate::arrays::{Array, view};
 use crate::calls::{meaning_of, referred, same_protocol, traces_of};
 use crate::cases::{all_constants, are_distinct, constants_of, has_else, selection};
 use crate::declarations::{
-    are_values, forms_of, is_table, may_be_declared, retyped, table_declared, type_of_value,
+    are_values, array_abbreviated, forms_of, is_array, may_be_declared, retyped, table_declared,
+    type_of_value,
 };
 use crate::depths::{depth_behind, next, word_passed};
 use crate::expressions::{array, value};
+use crate::functions::{assigned, valued};
 use crate::lines::{at, expression_line, first_line, process_line};
 use crate::messages::traced;
 use crate::parameters::first;
-use crate::targets::{assignment, cell_kind};
+use crate::rest::Rest;
+use crate::targets::cell_kind;
 use crate::types::{are_turns, bytes_of, constant, is_single, shape};
 use std::alloc::Global;
 use tpw_occam_core::Kind;
 use tpw_occam_meaning::{
-    Cases, Choices, Declaration, Expression, Expressions, Names, Parameters, Process as Tree,
-    Processes,
+    Cases, Choices, Declaration, Expression, Expressions, Names, Parameters, Primitives,
+    Process as Tree, Processes, Type, ValueProcess,
 };
 use tpw_occam_names::{
     Channel, Fault, Form, Meaning, Scope, Storage, View, Word, look_up, type_of,
@@ -76,7 +81,7 @@ fn without_line<'t, 'a>(
             targets,
             values,
             ..
-        } => assignment(alloc, scope, d, targets, values, room),
+        } => assigned(alloc, scope, d, targets, values, room - 1),
         Tree::Sequence { steps, .. } => all(alloc, scope, d, steps, room - 1),
         Tree::Replicated {
             index,
@@ -103,7 +108,14 @@ fn without_line<'t, 'a>(
         Tree::Declared {
             declaration,
             process,
-        } => declared(alloc, scope, d, declaration, process, room - 1),
+        } => declared(
+            alloc,
+            scope,
+            d,
+            declaration,
+            Rest::Process(process),
+            room - 1,
+        ),
         Tree::Case {
             selector,
             cases,
@@ -207,23 +219,23 @@ fn first_true<'t, 'a>(
 
 /// The process behind a declaration, with the names and the numbers that it takes.
 #[cycle(process)]
-fn declared<'t, 'a>(
+pub(crate) fn declared<'t, 'a>(
     alloc: Global,
     scope: &Scope<'_, 't, 'a>,
     d: usize,
     declaration: &'t Declaration<'a>,
-    rest: &'t Tree<'a>,
+    rest: Rest<'_, 't, 'a>,
     room: u32,
 ) -> Result<Process, Fault>
     ensures { IfOk result (λ made.
-        effect_of made ≡ text.declared declaration.now (text.run rest.now) (names_of scope.now) d) }
+        effect_of made ≡ text.declared declaration.now (after_of rest.entry) (names_of scope.now) d) }
 {
     if room == 0 {
         return Err(Fault::Deep);
     }
     match declaration {
         Declaration::Value { of, name, value: e } => {
-            if is_table(e) {
+            if is_array(of, e) {
                 let table = table_declared(alloc, scope, of, e, room)?;
                 return array_declared(alloc, scope, d, *name, &table, rest, room - 1);
             }
@@ -234,7 +246,7 @@ fn declared<'t, 'a>(
             }
             let word = word_passed(d, &value);
             let within = Scope::Within(name.text, Meaning::Fixed(of, word), &*scope);
-            let body = process(alloc, &within, depth_behind(d, &value)?, rest, room - 1)?;
+            let body = behind(alloc, &within, depth_behind(d, &value)?, rest, room - 1)?;
             Ok(Process::passed_to(alloc, Some(name.span), d, value, body)?)
         }
         Declaration::Variables { of, names } => {
@@ -250,6 +262,9 @@ fn declared<'t, 'a>(
         Declaration::Retypes { of, name, array } => {
             let seen = retyped(alloc, scope, of, *array, room)?;
             array_declared(alloc, scope, d, *name, &seen, rest, room - 1)
+        }
+        Declaration::Abbreviation { of, name, value: e } => {
+            abbreviated(alloc, scope, d, of, *name, e, rest, room - 1)
         }
         Declaration::Procedure {
             name,
@@ -292,11 +307,54 @@ fn declared<'t, 'a>(
                 room - 1,
             )
         }
+        Declaration::Routine {
+            of,
+            name,
+            parameters,
+            body,
+        } => {
+            let forms = forms_of(alloc, scope, parameters, room)?;
+            if !are_values(&forms) {
+                return Err(Fault::Wrong);
+            }
+            routine_declared(
+                alloc,
+                scope,
+                d,
+                of,
+                *name,
+                &forms,
+                parameters,
+                body,
+                rest,
+                room - 1,
+            )
+        }
         _ => Err(Fault::Wrong),
     }
 }
 
-/// The process behind another name for an array, or one for a table.
+/// The rest behind declarations.
+#[cycle(process)]
+fn behind<'t, 'a>(
+    alloc: Global,
+    scope: &Scope<'_, 't, 'a>,
+    d: usize,
+    rest: Rest<'_, 't, 'a>,
+    room: u32,
+) -> Result<Process, Fault>
+    ensures { IfOk result (λ made. effect_of made ≡ after_of rest.entry (names_of scope.now) d) }
+{
+    if room == 0 {
+        return Err(Fault::Deep);
+    }
+    match rest {
+        Rest::Process(p) => process(alloc, scope, d, p, room - 1),
+        Rest::Valued(body, results) => valued(alloc, scope, d, body, results, room - 1),
+    }
+}
+
+/// The process behind another name for an array or a table.
 #[cycle(process)]
 fn array_declared<'t, 'a>(
     alloc: Global,
@@ -304,17 +362,67 @@ fn array_declared<'t, 'a>(
     d: usize,
     name: Name<'a>,
     array: &Array<'_>,
-    rest: &'t Tree<'a>,
+    rest: Rest<'_, 't, 'a>,
     room: u32,
 ) -> Result<Process, Fault>
-    ensures { IfOk result (λ made. effect_of made ≡ text.run rest.now
+    ensures { IfOk result (λ made. effect_of made ≡ after_of rest.entry
         (with_name name.entry (Is (Whole (array_made array.now))) (names_of scope.now)) d) }
 {
     if room == 0 {
         return Err(Fault::Deep);
     }
     let within = Scope::Within(name.text, Meaning::Whole(view(&*array)), &*scope);
-    process(alloc, &within, d, rest, room - 1)
+    behind(alloc, &within, d, rest, room - 1)
+}
+
+/// The process behind another name for a variable, an element or an array.
+#[cycle(process)]
+fn abbreviated<'t, 'a>(
+    alloc: Global,
+    scope: &Scope<'_, 't, 'a>,
+    d: usize,
+    of: &Type<'a>,
+    name: Name<'a>,
+    e: &Expression<'a>,
+    rest: Rest<'_, 't, 'a>,
+    room: u32,
+) -> Result<Process, Fault>
+    ensures { IfOk result (λ made. effect_of made
+        ≡ text_declarations.abbreviated of.now name.entry e.now (after_of rest.entry) (names_of scope.now) d) }
+{
+    if room == 0 {
+        return Err(Fault::Deep);
+    }
+    if is_single(&of.sizes) {
+        return place_declared(alloc, scope, d, of.of, name, e, rest, room - 1);
+    }
+    let named = array_abbreviated(alloc, scope, of, e, room)?;
+    array_declared(alloc, scope, d, name, &named, rest, room - 1)
+}
+
+/// The process behind another name for a variable or an element, whose subscript is worked out there.
+#[cycle(process)]
+fn place_declared<'t, 'a>(
+    alloc: Global,
+    scope: &Scope<'_, 't, 'a>,
+    d: usize,
+    of: Primitive,
+    name: Name<'a>,
+    e: &Expression<'a>,
+    rest: Rest<'_, 't, 'a>,
+    room: u32,
+) -> Result<Process, Fault>
+    ensures { IfOk result (λ made. effect_of made ≡ calls.referred e.now of (names_of scope.now) d
+        (λ place n. after_of rest.entry (with_name name.entry (Is place) (names_of scope.now)) n)) }
+{
+    if room == 0 {
+        return Err(Fault::Deep);
+    }
+    let lent = referred(alloc, scope, d, e, of, room)?;
+    let n = depth_behind(d, &lent.subscript)?;
+    let within = Scope::Within(name.text, meaning_of(&lent), &*scope);
+    let body = behind(alloc, &within, n, rest, room - 1)?;
+    Ok(Process::passed_to(alloc, None, d, lent.subscript, body)?)
 }
 
 /// The process behind the declaration of a PROC.
@@ -327,10 +435,10 @@ fn procedure_declared<'t, 'a>(
     forms: &[Form],
     takes: &'t Parameters<'a>,
     body: &'t Tree<'a>,
-    rest: &'t Tree<'a>,
+    rest: Rest<'_, 't, 'a>,
     room: u32,
 ) -> Result<Process, Fault>
-    ensures { IfOk result (λ made. effect_of made ≡ text.run rest.now (with_name name.entry
+    ensures { IfOk result (λ made. effect_of made ≡ after_of rest.entry (with_name name.entry
         (Procedure (map form_of forms.now) (taking takes.now (text.run body.now) (names_of scope.now)))
         (names_of scope.now)) d) }
 {
@@ -338,7 +446,7 @@ fn procedure_declared<'t, 'a>(
         return Err(Fault::Deep);
     }
     let within = Scope::Within(name.text, Meaning::Procedure(&*forms, takes, body), &*scope);
-    process(alloc, &within, d, rest, room - 1)
+    behind(alloc, &within, d, rest, room - 1)
 }
 
 /// The process behind the declaration of a FUNCTION.
@@ -352,10 +460,10 @@ fn function_declared<'t, 'a>(
     forms: &[Form],
     takes: &'t Parameters<'a>,
     e: &'t Expression<'a>,
-    rest: &'t Tree<'a>,
+    rest: Rest<'_, 't, 'a>,
     room: u32,
 ) -> Result<Process, Fault>
-    ensures { IfOk result (λ made. effect_of made ≡ text.run rest.now (with_name name.entry
+    ensures { IfOk result (λ made. effect_of made ≡ after_of rest.entry (with_name name.entry
         (Function of (map form_of forms.now) (taking takes.now (value_of e.now of) (names_of scope.now)))
         (names_of scope.now)) d) }
 {
@@ -363,7 +471,36 @@ fn function_declared<'t, 'a>(
         return Err(Fault::Deep);
     }
     let within = Scope::Within(name.text, Meaning::Function(of, &*forms, takes, e), &*scope);
-    process(alloc, &within, d, rest, room - 1)
+    behind(alloc, &within, d, rest, room - 1)
+}
+
+/// The process behind the declaration of a FUNCTION with a body.
+#[cycle(process)]
+fn routine_declared<'t, 'a>(
+    alloc: Global,
+    scope: &Scope<'_, 't, 'a>,
+    d: usize,
+    types: &'t Primitives,
+    name: Name<'a>,
+    forms: &[Form],
+    takes: &'t Parameters<'a>,
+    body: &'t ValueProcess<'a>,
+    rest: Rest<'_, 't, 'a>,
+    room: u32,
+) -> Result<Process, Fault>
+    ensures { IfOk result (λ made. effect_of made ≡ after_of rest.entry (with_name name.entry
+        (Routine (all_types types.now) (map form_of forms.now)
+        (λ results. taking takes.now (text.valued body.now results) (names_of scope.now))) (names_of scope.now)) d) }
+{
+    if room == 0 {
+        return Err(Fault::Deep);
+    }
+    let within = Scope::Within(
+        name.text,
+        Meaning::Routine(types, &*forms, takes, body),
+        &*scope,
+    );
+    behind(alloc, &within, d, rest, room - 1)
 }
 
 /// Variables, which are 0 at first.
@@ -374,17 +511,17 @@ fn variables<'t, 'a>(
     d: usize,
     of: Primitive,
     names: &'t Names<'a>,
-    rest: &'t Tree<'a>,
+    rest: Rest<'_, 't, 'a>,
     room: u32,
 ) -> Result<Process, Fault>
     ensures { IfOk result (λ made.
-        effect_of made ≡ text_declarations.variables of names.now (text.run rest.now) (names_of scope.now) d) }
+        effect_of made ≡ text_declarations.variables of names.now (after_of rest.entry) (names_of scope.now) d) }
 {
     if room == 0 {
         return Err(Fault::Deep);
     }
     match names {
-        Names::End => process(alloc, scope, d, rest, room - 1),
+        Names::End => behind(alloc, scope, d, rest, room - 1),
         Names::More(name, more) => {
             let within = Scope::Within(name.text, Meaning::Variable(of, d), &*scope);
             let body = variables(alloc, &within, next(d)?, of, more, rest, room - 1)?;
@@ -402,17 +539,17 @@ fn arrays<'t, 'a>(
     kind: Kind,
     size: usize,
     names: &'t Names<'a>,
-    rest: &'t Tree<'a>,
+    rest: Rest<'_, 't, 'a>,
     room: u32,
 ) -> Result<Process, Fault>
     ensures { IfOk result (λ made.
-        effect_of made ≡ text_declarations.arrays kind (Some size) names.now (text.run rest.now) (names_of scope.now) d) }
+        effect_of made ≡ text_declarations.arrays kind (Some size) names.now (after_of rest.entry) (names_of scope.now) d) }
 {
     if room == 0 {
         return Err(Fault::Deep);
     }
     match names {
-        Names::End => process(alloc, scope, d, rest, room - 1),
+        Names::End => behind(alloc, scope, d, rest, room - 1),
         Names::More(name, more) => {
             let view = View {
                 storage: Storage::Array(d),
@@ -452,7 +589,7 @@ fn called<'t, 'a>(
                 forms,
                 takes,
                 arguments,
-                body,
+                Rest::Process(body),
                 d,
                 room - 1,
             )
@@ -461,28 +598,28 @@ fn called<'t, 'a>(
     }
 }
 
-/// A PROC's body, with the rest of what is passed.
+/// The body of a PROC, or of a FUNCTION, with the rest of what is passed.
 #[cycle(process)]
-fn entered<'t, 'a>(
+pub(crate) fn entered<'t, 'a>(
     alloc: Global,
     scope: &Scope<'_, 't, 'a>,
     own: &Scope<'_, 't, 'a>,
     forms: &[Form],
     takes: &Parameters<'a>,
     arguments: &Expressions<'a>,
-    body: &'t Tree<'a>,
+    body: Rest<'_, 't, 'a>,
     d: usize,
     room: u32,
 ) -> Result<Process, Fault>
     ensures { IfOk result (λ made. effect_of made ≡ calls.entered arguments.now (map form_of forms.now)
-        (taking takes.now (text.run body.now) (names_of own.now)) (names_of scope.now) d) }
+        (taking takes.now (after_of body.entry) (names_of own.now)) (names_of scope.now) d) }
 {
     if room == 0 {
         return Err(Fault::Deep);
     }
     let Expressions::More(e, more) = arguments else {
         return match (forms, takes) {
-            ([], Parameters::End) => process(alloc, own, d, body, room - 1),
+            ([], Parameters::End) => behind(alloc, own, d, body, room - 1),
             _ => Err(Fault::Wrong),
         };
     };

@@ -48,7 +48,7 @@ pub fn written_array(view: View<'_>) -> Option<usize>
 }
 
 /// An element at a subscript.
-fn element_target(alloc: Global, view: View<'_>, i: Value) -> Result<Typed, Fault>
+pub(crate) fn element_target(alloc: Global, view: View<'_>, i: Value) -> Result<Typed, Fault>
     ensures { IfOk result (λ t. text.element_target (view_of view.entry) (value_made i) ≡ Some (target_made t.of t.target)) }
 {
     match written_array(view) {
@@ -65,7 +65,7 @@ fn element_target(alloc: Global, view: View<'_>, i: Value) -> Result<Typed, Faul
 }
 
 /// A variable.
-fn variable_target(of: Primitive, cell: usize) -> Typed
+pub(crate) fn variable_target(of: Primitive, cell: usize) -> Typed
     ensures { text.target_in (Is (Variable of cell)) ≡ Some (target_made result.of result.target) }
 {
     Typed {

@@ -50,6 +50,16 @@ pub enum Wanted {
     ProcAbove,
     /// The colon that ends the PROC above.
     EndOfProc,
+    /// The colon that ends the FUNCTION above.
+    EndOfFunction,
+    /// VALOF below a FUNCTION.
+    ValOf,
+    /// RESULT below VALOF.
+    Result,
+    /// A FUNCTION around VALOF and RESULT.
+    InFunction,
+    /// VALOF in place of IS, where there are several results.
+    OneResult,
     /// Declarations alone, outside all PROCs.
     Declarations,
     /// `TRUE`, where an IF has `ELSE`.
@@ -74,6 +84,10 @@ impl Wanted {
                 | Wanted::ProcessBehind
                 | Wanted::ProcAbove
                 | Wanted::EndOfProc
+                | Wanted::EndOfFunction
+                | Wanted::ValOf
+                | Wanted::Result
+                | Wanted::InFunction
                 | Wanted::Declarations
         )
     }
@@ -119,9 +133,19 @@ impl fmt::Display for Wanted {
             Wanted::ProcessBehind =>
                 "a process is wanted behind these declarations, as deep as they are",
             Wanted::ProcAbove =>
-                "this colon ends no PROC: it stands alone, as deep as the PROC does",
+                "this colon ends no PROC or FUNCTION: it stands alone, as deep as that does",
             Wanted::EndOfProc =>
                 "this PROC has no end: a line with a colon alone, as deep as it is",
+            Wanted::EndOfFunction =>
+                "this FUNCTION has no end: a line with a colon alone, as deep as it is",
+            Wanted::ValOf =>
+                "below a FUNCTION stand declarations, and then VALOF, which is wanted here",
+            Wanted::Result =>
+                "below VALOF stand a process, and then RESULT with what is given, which is wanted here",
+            Wanted::InFunction =>
+                "VALOF is the last below a FUNCTION, and RESULT the last below VALOF: they stand nowhere else",
+            Wanted::OneResult =>
+                "IS gives one result: for several write VALOF below, and RESULT e, f below that",
             Wanted::Declarations =>
                 "outside a PROC stand declarations alone: put processes into the worker's PROC",
             Wanted::True => "the last guard of an IF is TRUE: ELSE belongs to CASE",

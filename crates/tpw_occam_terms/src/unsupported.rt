@@ -27,8 +27,6 @@ pub enum Unsupported {
     Reshape,
     /// `INLINE`
     Inline,
-    /// `VALOF`, `RESULT`
-    ValueProcess,
     /// `FROM`
     Slice,
     /// `STEP`
@@ -53,8 +51,6 @@ impl fmt::Display for Unsupported {
             Unsupported::Width => "numbers are INT, of 32 bits, or BYTE",
             Unsupported::Type =>
                 "channels carry INT, [n]INT or [n]BYTE, and arrays have elements of these",
-            Unsupported::ValueProcess =>
-                "a FUNCTION is one expression, behind IS; write a PROC for more",
             Unsupported::Channel => {
                 "a worker declares no channels: it has the packet's, the result's and the traces'"
             }

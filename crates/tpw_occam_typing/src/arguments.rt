@@ -1,4 +1,4 @@
-//! Arguments of calls, bound to parameters.
+//! Arguments of calls, bound to parameters; and other names that are declared.
 
 ghost use Rattle.std.specs.Prelude.{◌≤◌, IfOk};
 
@@ -10,15 +10,16 @@ use crate::signatures::{Callee, Form, Signature};
 use crate::trees::{bare, count_of, name_alone, span_of};
 use crate::value::{Constness, Root, Value};
 use tpw_occam_faults::{FaultKind, Interrupt, Limit, Use};
-use tpw_occam_meaning::{Expression as Tree, Expressions};
+use tpw_occam_meaning::{Expression as Tree, Expressions, Type};
 use tpw_occam_names::element_type;
-use tpw_occam_terms::{Name, Primitive, Span};
+use tpw_occam_terms::{Name, Passing, Primitive, Span};
 
-/// The binding of a parameter, and whether a name is bound around the body for it.
+/// The binding of a parameter, and whether a name is bound around the body for it; or that of another name that is
+/// declared.
 #[derive(Clone, Copy)]
-pub(crate) struct Passed<'t, 'a> {
-    meaning: Meaning<'t, 'a>,
-    is_bound: bool,
+pub struct Passed<'t, 'a> {
+    pub meaning: Meaning<'t, 'a>,
+    pub is_bound: bool,
 }
 
 /// The scope in which the body of a call stands, and how many names are bound around it.
@@ -343,6 +344,20 @@ impl<'t, 'a> Checker<'t, 'a> {
         }
         Ok(bound)
     }
+
+    /// The binding of a name that is declared as another one: as that of a parameter which is no VAL.
+    pub fn other_name(
+        &mut self,
+        frame: Frame,
+        of: &'t Type<'a>,
+        name: Name<'a>,
+        e: &'t Tree<'a>,
+        depth: u32,
+    ) -> Result<Passed<'t, 'a>, Interrupt> {
+        let form = self.form(frame, Passing::Variable, of, name.span)?;
+        self.passed(frame, form, e, Callee::Procedure, depth)
+    }
+
     /// Inlines a call: the body stands where the parameters are bound to the arguments.
     #[cycle(expressions)]
     pub fn inline(

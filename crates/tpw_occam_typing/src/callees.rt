@@ -61,7 +61,9 @@ impl<'t, 'a> Checker<'t, 'a> {
     pub fn uncalled(&self, index: usize) -> Option<Entry<'t, 'a>> {
         let entry = self.environment.at(index)?;
         match entry.meaning {
-            Meaning::Procedure { signature, .. } | Meaning::Function { signature, .. }
+            Meaning::Procedure { signature, .. }
+            | Meaning::Function { signature, .. }
+            | Meaning::Routine { signature, .. }
                 if !self.callees.is_called(signature.number) => Some(entry),
             _ => None,
         }

@@ -36,6 +36,11 @@ impl<'a> Cells<'a> {
         Ok(at)
     }
 
+    /// The name of one.
+    pub(crate) fn name(&self, at: usize) -> Option<Name<'a>> {
+        Some(self.cells.get(at)?.name)
+    }
+
     /// How many there are.
     pub fn count(&self) -> usize {
         self.cells.len()

@@ -2,7 +2,7 @@
 
 use crate::callees::Callees;
 use crate::cells::Cells;
-use crate::environment::{Environment, Meaning, Scope};
+use crate::environment::{Environment, Meaning, Scope, Storage};
 use crate::limits::{MAX_CALLS, MAX_IN_LINE};
 use crate::per_call::PerCall;
 use crate::signatures::{Parameter, Signature};
@@ -19,6 +19,16 @@ pub struct Frame {
     call: Option<usize>,
     /// How many choices lie around: what is within one more may not be done.
     pub(crate) choices: u32,
+    /// The FUNCTION whose body it is in, where it has one.
+    valued: Option<Valued>,
+}
+
+/// The body of a FUNCTION: how many variables and arrays were declared in front of it, and the place of the first PROC
+/// that is called in it.
+#[derive(Clone, Copy)]
+struct Valued {
+    outer: usize,
+    call: Option<Span>,
 }
 
 impl Frame {
@@ -28,6 +38,7 @@ impl Frame {
         calls: MAX_CALLS,
         call: None,
         choices: 0,
+        valued: None,
     };
 
     /// The same call with other names in scope.
@@ -42,6 +53,26 @@ impl Frame {
             calls: self.calls.saturating_sub(1),
             call: Some(self.call.unwrap_or(span.line)),
             choices: self.choices,
+            valued: self.valued,
+        }
+    }
+
+    /// The frame of the body of a FUNCTION, behind so many variables and arrays.
+    pub fn in_function(self, outer: usize) -> Frame {
+        Frame {
+            valued: Some(Valued { outer, call: None }),
+            ..self
+        }
+    }
+
+    /// The frame of the body of a PROC that is called at a place: what it does to the outside the call does.
+    pub fn in_procedure(self, span: Span) -> Frame {
+        Frame {
+            valued: self.valued.map(|valued| Valued {
+                outer: valued.outer,
+                call: Some(valued.call.unwrap_or(span)),
+            }),
+            ..self
         }
     }
 
@@ -115,6 +146,41 @@ impl<'t, 'a> Checker<'t, 'a> {
     pub fn limit(&mut self, frame: Frame, span: Span, limit: Limit) -> Interrupt {
         let call = frame.call;
         self.fault(span, FaultKind::Limit { limit, call })
+    }
+
+    /// Reports, in the body of a FUNCTION, an assignment to a variable or an array that is declared outside of it.
+    pub fn check_own(&mut self, frame: Frame, cell: usize, span: Span) -> Result<(), Interrupt> {
+        match (frame.valued, self.cells.name(cell)) {
+            (Some(valued), Some(name)) if cell < valued.outer => {
+                let span = valued.call.unwrap_or(span);
+                Err(self.fault(span, FaultKind::Outside { name: name.text }))
+            }
+            _ => Ok(()),
+        }
+    }
+
+    /// .. to an array, where it is none that is written out.
+    pub fn check_own_array(
+        &mut self,
+        frame: Frame,
+        storage: Storage,
+        span: Span,
+    ) -> Result<(), Interrupt> {
+        match storage {
+            Storage::Array(array) => self.check_own(frame, array, span),
+            Storage::Table(_) => Ok(()),
+        }
+    }
+
+    /// Reports, in the body of a FUNCTION, a trace at a place.
+    pub fn check_silent(&mut self, frame: Frame, span: Span) -> Result<(), Interrupt> {
+        match frame.valued {
+            Some(valued) => {
+                let span = valued.call.unwrap_or(span);
+                Err(self.fault(span, FaultKind::TracesInFunction))
+            }
+            None => Ok(()),
+        }
     }
 
     /// Counts an expression or a process.

@@ -3,7 +3,7 @@
 //! `depth` counts down with each expression that lies within another, inlined calls among them.
 
 use crate::checker::{Checker, Frame};
-use crate::environment::{Meaning, Scope, Storage, View};
+use crate::environment::{Entry, Meaning, Scope, Storage, View};
 use crate::flags::decides;
 use crate::operators::{is_order, low_byte, of_one, of_two, operand_of, operands_of};
 use crate::subscripts::Subscript;
@@ -264,6 +264,18 @@ impl<'t, 'a> Checker<'t, 'a> {
         self.element_of(name, view, subscript.constness, place)
     }
 
+    /// Reports what is called in an expression, and is no FUNCTION of one expression.
+    fn no_function(&mut self, name: Name<'a>, entry: Entry<'t, 'a>) -> Interrupt {
+        if let Meaning::Routine { .. } = entry.meaning {
+            let kind = FaultKind::NotAlone {
+                name: name.text,
+                declared: entry.name.span,
+            };
+            return self.fault(name.span, kind);
+        }
+        self.not_a(name, entry, Use::Function)
+    }
+
     /// `f (e, ..)`: the FUNCTION's expression, with its parameters bound.
     #[cycle(expressions)]
     fn call(
@@ -281,7 +293,7 @@ impl<'t, 'a> Checker<'t, 'a> {
             scope,
         } = entry.meaning
         else {
-            return Err(self.not_a(name, entry, Use::Function));
+            return Err(self.no_function(name, entry));
         };
         let inlined = self.inline(frame, name, entry, signature, arguments, scope, depth)?;
         let value = self.expression(inlined.frame, value, Some(of), inlined.depth)?;

@@ -22,7 +22,7 @@ mod trees;
 mod value;
 mod words;
 
-pub use arguments::Inlined;
+pub use arguments::{Inlined, Passed};
 pub use cells::Cells;
 pub use checker::{Checker, Frame, or_else, recovered};
 pub use environment::{Access, Channel, Entry, Meaning, Protocol, Scope, Storage, View};

@@ -68,6 +68,16 @@ impl<'t, 'a> Checker<'t, 'a> {
         }
     }
 
+    /// The binding of a name, where it is that of a FUNCTION with a body.
+    pub fn routine(&self, scope: Scope, name: Name<'a>) -> Option<Entry<'t, 'a>> {
+        let entry = self.environment.find(scope, name.text)?;
+        if let Meaning::Routine { .. } = entry.meaning {
+            Some(entry)
+        } else {
+            None
+        }
+    }
+
     /// The array that a name stands for.
     pub fn view_of(&mut self, scope: Scope, name: Name<'a>) -> Result<View, Interrupt> {
         let entry = self.find(scope, name)?;

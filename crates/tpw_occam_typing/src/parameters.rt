@@ -46,7 +46,7 @@ impl<'t, 'a> Checker<'t, 'a> {
     }
 
     /// The form that an argument of such parameters has to have.
-    fn form(
+    pub(crate) fn form(
         &mut self,
         frame: Frame,
         passing: Passing,

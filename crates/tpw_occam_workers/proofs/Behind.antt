@@ -17,8 +17,10 @@ module _ (b : Box Declarations Global) (x : Declaration) (c : Box Declarations G
   by_cases (declaration.Value of name e) = refl
   by_cases (declaration.Variables of list) = refl
   by_cases (declaration.Retypes of name array) = refl
+  by_cases (declaration.Abbreviation of name e) = refl
   by_cases (declaration.Procedure' name takes p body) = refl
   by_cases (declaration.Function of name takes e) = refl
+  by_cases (declaration.Routine' types name takes p body) = refl
   by_cases (declaration.Wrong list) = refl
 
   -- one that is not the last

@@ -1,11 +1,13 @@
 //! Declarations, and what stands behind them.
 
 ghost use Rattle.std.specs.Prelude.{◌≡◌, Some, IfOk, map};
+ghost use Rattle.tpw_occam_meaning.specs.Calls as calls;
 ghost use Rattle.tpw_occam_meaning.specs.Declarations as text_declarations;
 ghost use Rattle.tpw_occam_meaning.specs.Expressions.{value_of};
 ghost use Rattle.tpw_occam_meaning.specs.Maybe.{and_then};
-ghost use Rattle.tpw_occam_meaning.specs.Names.{Is, Whole, Procedure, Function, bound, with_name, taking};
+ghost use Rattle.tpw_occam_meaning.specs.Names.{Is, Whole, Procedure, Function, Routine, bound, with_name, taking};
 ghost use Rattle.tpw_occam_meaning.specs.Processes as processes;
+ghost use Rattle.tpw_occam_meaning.specs.Types.{all_types};
 ghost use Rattle.tpw_occam_meaning.specs.Texts as text;
 ghost use Rattle.tpw_occam_meaning.specs.Texts.{MeansText};
 ghost use Rattle.tpw_occam_names.specs.Scopes.{names_of, form_of};
@@ -20,13 +22,14 @@ use crate::steps::{finished, first};
 use std::alloc::Global;
 use tpw_occam_core::Kind;
 use tpw_occam_meaning::{
-    Declaration, Declarations, Expression, Names, Parameters, Process as Tree, Processes, Source,
+    Declaration, Declarations, Expression, Names, Parameters, Primitives, Process as Tree,
+    Processes, Source, Type, ValueProcess,
 };
 use tpw_occam_names::{Channel, Fault, Form, Meaning, Protocol, Scope, Storage, View};
 use tpw_occam_resolving::{
-    Array, are_values, bytes_of, cell_kind, depth_behind, first as first_parameter, forms_of,
-    is_single, is_table, may_be_declared, next, retyped, shape, table_declared, type_of_value,
-    value, view, word_passed,
+    Array, are_values, array_abbreviated, bytes_of, cell_kind, depth_behind,
+    first as first_parameter, forms_of, is_array, is_single, may_be_declared, meaning_of, next,
+    referred, retyped, shape, table_declared, type_of_value, value, view, word_passed,
 };
 use tpw_occam_scoped::Process;
 use tpw_occam_terms::{Name, Primitive};
@@ -214,7 +217,7 @@ fn declared<'t, 'a>(
     }
     match declaration {
         Declaration::Value { of, name, value: e } => {
-            if is_table(e) {
+            if is_array(of, e) {
                 let table = table_declared(alloc, scope, of, e, room)?;
                 return array_declared(alloc, scope, d, *name, &table, rest, room - 1);
             }
@@ -241,6 +244,9 @@ fn declared<'t, 'a>(
         Declaration::Retypes { of, name, array } => {
             let seen = retyped(alloc, scope, of, *array, room)?;
             array_declared(alloc, scope, d, *name, &seen, rest, room - 1)
+        }
+        Declaration::Abbreviation { of, name, value: e } => {
+            abbreviated(alloc, scope, d, of, *name, e, rest, room - 1)
         }
         Declaration::Procedure {
             name,
@@ -283,11 +289,34 @@ fn declared<'t, 'a>(
                 room - 1,
             )
         }
+        Declaration::Routine {
+            of,
+            name,
+            parameters,
+            body,
+        } => {
+            let forms = forms_of(alloc, scope, parameters, room)?;
+            if !are_values(&forms) {
+                return Err(Fault::Wrong);
+            }
+            routine_declared(
+                alloc,
+                scope,
+                d,
+                of,
+                *name,
+                &forms,
+                parameters,
+                body,
+                rest,
+                room - 1,
+            )
+        }
         _ => Err(Fault::Wrong),
     }
 }
 
-/// The rest behind another name for an array, or one for a table.
+/// The rest behind another name for an array or a table.
 #[cycle(rest)]
 fn array_declared<'t, 'a>(
     alloc: Global,
@@ -306,6 +335,56 @@ fn array_declared<'t, 'a>(
     }
     let within = Scope::Within(name.text, Meaning::Whole(view(&*array)), &*scope);
     behind(alloc, &within, d, rest, room - 1)
+}
+
+/// The rest behind another name for a variable, an element or an array.
+#[cycle(rest)]
+fn abbreviated<'t, 'a>(
+    alloc: Global,
+    scope: &Scope<'_, 't, 'a>,
+    d: usize,
+    of: &Type<'a>,
+    name: Name<'a>,
+    e: &Expression<'a>,
+    rest: Rest<'t, 'a>,
+    room: u32,
+) -> Result<Process, Fault>
+    ensures { IfOk result (λ made. effect_of made
+        ≡ text_declarations.abbreviated of.now name.entry e.now (after_of rest.entry) (names_of scope.now) d) }
+{
+    if room == 0 {
+        return Err(Fault::Deep);
+    }
+    if is_single(&of.sizes) {
+        return place_declared(alloc, scope, d, of.of, name, e, rest, room - 1);
+    }
+    let named = array_abbreviated(alloc, scope, of, e, room)?;
+    array_declared(alloc, scope, d, name, &named, rest, room - 1)
+}
+
+/// The rest behind another name for a variable or an element, whose subscript is worked out there.
+#[cycle(rest)]
+fn place_declared<'t, 'a>(
+    alloc: Global,
+    scope: &Scope<'_, 't, 'a>,
+    d: usize,
+    of: Primitive,
+    name: Name<'a>,
+    e: &Expression<'a>,
+    rest: Rest<'t, 'a>,
+    room: u32,
+) -> Result<Process, Fault>
+    ensures { IfOk result (λ made. effect_of made ≡ calls.referred e.now of (names_of scope.now) d
+        (λ place n. after_of rest.entry (with_name name.entry (Is place) (names_of scope.now)) n)) }
+{
+    if room == 0 {
+        return Err(Fault::Deep);
+    }
+    let lent = referred(alloc, scope, d, e, of, room)?;
+    let n = depth_behind(d, &lent.subscript)?;
+    let within = Scope::Within(name.text, meaning_of(&lent), &*scope);
+    let body = behind(alloc, &within, n, rest, room - 1)?;
+    Ok(Process::passed_to(alloc, None, d, lent.subscript, body)?)
 }
 
 /// The rest behind the declaration of a PROC.
@@ -354,6 +433,35 @@ fn function_declared<'t, 'a>(
         return Err(Fault::Deep);
     }
     let within = Scope::Within(name.text, Meaning::Function(of, &*forms, takes, e), &*scope);
+    behind(alloc, &within, d, rest, room - 1)
+}
+
+/// The rest behind the declaration of a FUNCTION with a body.
+#[cycle(rest)]
+fn routine_declared<'t, 'a>(
+    alloc: Global,
+    scope: &Scope<'_, 't, 'a>,
+    d: usize,
+    types: &'t Primitives,
+    name: Name<'a>,
+    forms: &[Form],
+    takes: &'t Parameters<'a>,
+    body: &'t ValueProcess<'a>,
+    rest: Rest<'t, 'a>,
+    room: u32,
+) -> Result<Process, Fault>
+    ensures { IfOk result (λ made. effect_of made ≡ after_of rest.entry (with_name name.entry
+        (Routine (all_types types.now) (map form_of forms.now)
+        (λ results. taking takes.now (processes.valued body.now results) (names_of scope.now))) (names_of scope.now)) d) }
+{
+    if room == 0 {
+        return Err(Fault::Deep);
+    }
+    let within = Scope::Within(
+        name.text,
+        Meaning::Routine(types, &*forms, takes, body),
+        &*scope,
+    );
     behind(alloc, &within, d, rest, room - 1)
 }
 

@@ -21,3 +21,9 @@ decreases-declaration l = 4 * l.depth + 2
 
 abbrev pub decreases-scoped : goal.decreases-scoped
 decreases-scoped l = 4 * l.depth + 3
+
+abbrev pub decreases-valued : goal.decreases-valued
+decreases-valued l = 4 * l.depth
+
+abbrev pub decreases-routine : goal.decreases-routine
+decreases-routine l = 4 * l.depth + 1

@@ -18,3 +18,6 @@ decreases-choices l = 2 * l.room + 1
 
 abbrev pub decreases-cases : goal.decreases-cases
 decreases-cases l = 2 * l.room + 1
+
+abbrev pub decreases-value_process : goal.decreases-value_process
+decreases-value_process l = 2 * l.room

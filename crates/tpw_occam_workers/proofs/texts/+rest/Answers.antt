@@ -1,6 +1,9 @@
+use Rattle.std.proofs.Common.{map, sym, ap, ◌∙◌}
 use Rattle.std.proofs.lemmas.Result.{IfOk-weaker}
-use Rattle.tpw_occam_names.specs.Scopes.{names_of}
-use Rattle.tpw_occam_resolving.proofs.Declaring.{procedure_done}
+use Rattle.std.specs.List.{list_all}
+use Rattle.tpw_occam_meaning.specs.Types.{is_value}
+use Rattle.tpw_occam_names.specs.Scopes.{names_of, form_of}
+use Rattle.tpw_occam_resolving.proofs.Declaring.{procedure_done, routine_done}
 use Rattle.tpw_occam_scoped.specs.Made.{effect_of}
 use Rattle.tpw_occam_workers.specs.Behind.{after_of}
 use Rattle.tpw_occam_workers.proofs.Behind.{text_behind}
@@ -22,3 +25,15 @@ declared-returns-in_ok-forms-in-Procedure t c =
     c.in_ok-forms-in-Procedure.forms.items (effect_of made) c.in-Procedure.is c.deref-in-Procedure.ensures
     c.in_ok-forms-in-Procedure.ensures c.deref.ensures.value h)
     c.procedure_declared.ensures
+
+pub declared-returns-else-not-are_values-2 : goal.declared-returns-else-not-are_values-2
+declared-returns-else-not-are_values-2 t c =
+    IfOk-weaker c.routine_declared.result _ _
+    (λ made h. routine_done c.args.declaration.now (after_of c.args.rest) (names_of c.args.scope.now) c.args.d
+    c.in-Routine.of c.in-Routine.name c.in-Routine.parameters c.in-Routine.body c.deref-in-Routine-3.result.now
+    c.deref-in-Routine-2.result.now c.in_ok-forms-in-Routine.forms.items (effect_of made) c.in-Routine.is
+    c.deref-in-Routine-3.ensures c.in_ok-forms-in-Routine.ensures
+    (ap (λ x. list_all is_value (map form_of x)) (sym c.deref-in-Routine.ensures.value) ∙ sym c.are_values-in-Routine.ensures
+    ∙ c.if-not-are_values-2.false)
+    c.deref-in-Routine-2.ensures.value h)
+    c.routine_declared.ensures

@@ -1,5 +1,8 @@
 use Rattle.tpw_occam_workers.proofs.texts.+rest.Given as goal
 
+abbrev pub decreases-abbreviated : goal.decreases-abbreviated
+decreases-abbreviated l = l.room
+
 abbrev pub decreases-array_declared : goal.decreases-array_declared
 decreases-array_declared l = l.room
 
@@ -21,6 +24,9 @@ decreases-declared l = l.room
 abbrev pub decreases-function_declared : goal.decreases-function_declared
 decreases-function_declared l = l.room
 
+abbrev pub decreases-place_declared : goal.decreases-place_declared
+decreases-place_declared l = l.room
+
 abbrev pub decreases-procedure_declared : goal.decreases-procedure_declared
 decreases-procedure_declared l = l.room
 
@@ -32,3 +38,6 @@ decreases-variables l = l.room
 
 abbrev pub decreases-worker : goal.decreases-worker
 decreases-worker l = l.room
+
+abbrev pub decreases-routine_declared : goal.decreases-routine_declared
+decreases-routine_declared l = l.room

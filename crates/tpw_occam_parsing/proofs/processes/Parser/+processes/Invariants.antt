@@ -33,3 +33,12 @@ decreases-skip l = 10 * l.depth + 6
 
 abbrev pub decreases-filled : goal.decreases-filled
 decreases-filled l = 10 * l.depth + 7
+
+abbrev pub decreases-wants : goal.decreases-wants
+decreases-wants l = 10 * l.depth + 2
+
+abbrev pub decreases-valof : goal.decreases-valof
+decreases-valof l = 10 * l.depth + 2
+
+abbrev pub decreases-value_process : goal.decreases-value_process
+decreases-value_process l = 10 * l.depth + 3

@@ -1,0 +1,70 @@
+use Rattle.tpw_occam_resolving.proofs.+process.Given as goal
+
+abbrev pub decreases-processes::abbreviated : goal.decreases-processes::abbreviated
+decreases-processes::abbreviated l = l.room
+
+abbrev pub decreases-processes::all : goal.decreases-processes::all
+decreases-processes::all l = l.room
+
+abbrev pub decreases-processes::array_declared : goal.decreases-processes::array_declared
+decreases-processes::array_declared l = l.room
+
+abbrev pub decreases-processes::arrays : goal.decreases-processes::arrays
+decreases-processes::arrays l = l.room
+
+abbrev pub decreases-processes::called : goal.decreases-processes::called
+decreases-processes::called l = l.room
+
+abbrev pub decreases-processes::case : goal.decreases-processes::case
+decreases-processes::case l = l.room
+
+abbrev pub decreases-processes::declared : goal.decreases-processes::declared
+decreases-processes::declared l = l.room
+
+abbrev pub decreases-processes::entered : goal.decreases-processes::entered
+decreases-processes::entered l = l.room
+
+abbrev pub decreases-processes::first_true : goal.decreases-processes::first_true
+decreases-processes::first_true l = l.room
+
+abbrev pub decreases-processes::function_declared : goal.decreases-processes::function_declared
+decreases-processes::function_declared l = l.room
+
+abbrev pub decreases-processes::otherwise : goal.decreases-processes::otherwise
+decreases-processes::otherwise l = l.room
+
+abbrev pub decreases-processes::place_declared : goal.decreases-processes::place_declared
+decreases-processes::place_declared l = l.room
+
+abbrev pub decreases-processes::procedure_declared : goal.decreases-processes::procedure_declared
+decreases-processes::procedure_declared l = l.room
+
+abbrev pub decreases-processes::process : goal.decreases-processes::process
+decreases-processes::process l = l.room
+
+abbrev pub decreases-processes::selected : goal.decreases-processes::selected
+decreases-processes::selected l = l.room
+
+abbrev pub decreases-processes::variables : goal.decreases-processes::variables
+decreases-processes::variables l = l.room
+
+abbrev pub decreases-processes::some : goal.decreases-processes::some
+decreases-processes::some l = l.room
+
+abbrev pub decreases-processes::without_line : goal.decreases-processes::without_line
+decreases-processes::without_line l = l.room
+
+abbrev pub decreases-processes::behind : goal.decreases-processes::behind
+decreases-processes::behind l = l.room
+
+abbrev pub decreases-functions::valued : goal.decreases-functions::valued
+decreases-functions::valued l = l.room
+
+abbrev pub decreases-functions::assigned : goal.decreases-functions::assigned
+decreases-functions::assigned l = l.room
+
+abbrev pub decreases-functions::taken : goal.decreases-functions::taken
+decreases-functions::taken l = l.room
+
+abbrev pub decreases-processes::routine_declared : goal.decreases-processes::routine_declared
+decreases-processes::routine_declared l = l.room
