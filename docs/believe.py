@@ -20,7 +20,7 @@ TOP = pathlib.Path(__file__).resolve().parent.parent
 PAGE = TOP / "docs/PROOFS.md"
 FIRST, LAST = "<!-- docs/believe.py -->\n", "<!-- /docs/believe.py -->"
 RUN, TEXT = "a run", "a text in occam"
-TEXTS = ["tpw_occam_lexing.specs.Lines", "tpw_occam_reading.specs.Unparse", "tpw_occam_meaning.specs.Texts"]
+TEXTS = ["tpw_occam_lexing.specs.Lines", "tpw_occam_reading.specs.Predefined", "tpw_occam_reading.specs.Unparse", "tpw_occam_meaning.specs.Texts"]
 # A root that ends with this is counted without what it imports: the row takes definitions of it that cite only what the
 # row's other roots import.
 ALONE = "!"

@@ -231,6 +231,51 @@ def functions():
          '    x := step (x)', '    result ! x', ':'], [packet(a) for a in ENDS])
 
 
+def predefined():
+    """The predefined routines at the ends of their arguments, as variables and as constants."""
+    ends = [0, 1, 2, 0x7FFFFFFF, 0x80000000, 0x80000001, 0xFFFFFFFE, 0xFFFFFFFF]
+    counts = [0, 1, 2, 5, 15, 16, 30, 31, 32, 33, 63, 64, 0x80000000, 0xFFFFFFFF]
+    words = ends + [0x10000, 0xFFFF, 0x12345678, 0xAAAAAAAA]
+    threes = [packet(a, b, c) for a in ends for b in ends for c in (0, 1, 2, 0xFFFFFFFF)]
+    for name in ('LONGADD', 'LONGSUB'):
+        worker(name, [f'r := {name} (p[0], p[1], p[2])'], threes, words=3)
+        worker(f'{name} in an expression', [f'r := ({name} (p[0], p[1], 1)) >< ({name} (p[1], 7, 0))'], pairs()[::3])
+    for name in ('LONGSUM', 'LONGDIFF', 'LONGPROD'):
+        worker(name, [f'q, s := {name} (p[0], p[1], p[2])', 'r := (q TIMES 1000003) PLUS s'], threes, words=3, declared=['INT q, s:'])
+    worker('LONGPROD with a carry of a word', ['q, s := LONGPROD (p[0], p[1], p[2])', 'r := (q TIMES 1000003) PLUS s'],
+           [packet(a, b, c) for a in words for b in words[3:] for c in (0x12345678, 0xFFFF0000, 0x8000)], words=3, declared=['INT q, s:'])
+    worker('LONGDIV', ['q, s := LONGDIV (p[0], p[1], p[2])', 'r := (q TIMES 1000003) PLUS s'],
+           [packet(a, b, c) for a in words[:6] for b in words[4:] for c in words], words=3, declared=['INT q, s:'])
+    worker('a quotient of several words', ['SEQ i = 0 FOR 3', '  p[i], rest := LONGDIV (rest, p[i], 10)', 'r := ((p[0] TIMES 7) PLUS (p[1] TIMES 5)) PLUS (p[2] PLUS rest)'],
+           [packet(a, b, c) for a in words[:8] for b in words[2:9] for c in (3, 0xFFFFFFFF)], words=3, declared=['INT rest:'])
+    worker('a product of several words', ['carry, p[1] := LONGPROD (p[1], 10, 7)', 'carry, p[0] := LONGPROD (p[0], 10, carry)',
+           'r := (p[0] TIMES 7) PLUS ((p[1] TIMES 5) PLUS carry)'], pairs()[::3], declared=['INT carry:'])
+    worker('a sum of two words', ['carry, low := LONGSUM (p[1], p[3], 0)', 'high := LONGADD (p[0], p[2], carry)', 'r := (high TIMES 7) PLUS low'],
+           [packet(a, b, c, 1) for a in ends for b in ends[4:] for c in ends], words=4, declared=['INT carry, high, low:'])
+    for name in ('SHIFTLEFT', 'SHIFTRIGHT'):
+        body = [f'q, s := {name} (p[0], p[1], p[2])', 'r := (q TIMES 1000003) PLUS s']
+        worker(name, body, [packet(a, b, c) for a in words[3:] for b in words[8:] for c in counts], words=3, declared=['INT q, s:'])
+        for count in (0, 1, 31, 32, 33, 63, 64, 65):
+            worker(f'{name} by {count}', [f'q, s := {name} (p[0], p[1], {count})', 'r := (q TIMES 1000003) PLUS s'],
+                   [packet(a, b) for a in words[6:] for b in words[6:]], declared=['INT q, s:'])
+    worker('NORMALISE', ['n, q, s := NORMALISE (p[0], p[1])', 'r := ((q TIMES 1000003) PLUS s) PLUS (n TIMES 77)'],
+           pairs() + [packet(1 << n, 0x10001) for n in range(32)] + [packet(0, 1 << n) for n in range(32)], declared=['INT n, q, s:'])
+    for name in ('ASHIFTLEFT', 'ASHIFTRIGHT', 'ROTATELEFT', 'ROTATERIGHT'):
+        worker(name, [f'r := {name} (p[0], p[1])'], [packet(a, c) for a in words for c in counts])
+        worker(f'{name} in an expression', [f'r := ({name} (p[0], p[1] /\\ 31)) PLUS ({name} (p[1], 7))'], pairs()[::3])
+        for count in (0, 1, 15, 16, 30, 31):
+            worker(f'{name} by {count}', [f'r := {name} (p[0], {count})'], [packet(a, 0) for a in words])
+    worker('predefined routines of constants', ['VAL INT a IS ROTATELEFT (#12345678, 8):', 'VAL INT b IS LONGADD (3, -5, 1):', 'VAL INT c IS ASHIFTRIGHT (-17, 2):',
+           'r := (p[0] PLUS a) >< (b TIMES c)'], pairs()[::5])
+    worker('a name of a predefined routine that is declared again', ['r := LONGADD (p[0], p[1])'], pairs()[::5],
+           declared=['INT FUNCTION LONGADD (VAL INT a, b) IS a PLUS (b TIMES 3):'])
+    worker('a variable with the name of a predefined routine', ['ROTATELEFT := p[0]', 'r := ROTATELEFT PLUS (ROTATERIGHT (p[1], 3))'], pairs()[::5],
+           declared=['INT ROTATELEFT:'])
+    worker('predefined routines in a FUNCTION and a PROC', ['twice (p[0], r)', 'r := mixed (r, p[1])'], pairs()[::3],
+           declared=['INT FUNCTION mixed (VAL INT a, b) IS (ROTATELEFT (a, 5)) >< (ROTATERIGHT (b, 3)):', 'PROC twice (VAL INT v, INT to)', '  INT n, high:', '  SEQ',
+                     '    n, high, to := NORMALISE (0, v)', '    to := (to PLUS n) >< high', ':'])
+
+
 def choices():
     worker('no guard is true', ['IF', '  p[0] = 1', '    r := 1', '  p[1] = 1', '    r := 2'], pairs())
     worker('the first guard that is true', ['IF', '  p[0] > 1', '    r := 1', '  p[0] > 0', '    r := 2', '  TRUE', '    r := 3'], pairs()[::14])
@@ -359,6 +404,105 @@ def other_arrays():
          '    result ! ((INT u[p[0]]) TIMES 256) PLUS (INT m[p[1] /\\ 3])', ':'], pairs()[::5])
 
 
+def counts():
+    """Loops whose count is no constant, within its limit."""
+    limited = ['p[0] /\\ 7', '7 /\\ p[0]', '(p[0] /\\ 255) \\ 6', 'p[0] >> 29', 'INT c', 'INT (p[0] < p[1])', '(p[0] BITAND k) REM 5', '(p[0] /\\ 3) /\\ p[1]',
+               'n', 'v']
+    for start in ('0', '1', '-3', 'MOSTNEG INT'):
+        for count in limited:
+            worker(f'FOR {count}, from {start}', ['c := BYTE (p[0] /\\ 3)', 'VAL INT n IS p[0] /\\ k:', 'VAL v IS n:', f'SEQ i = {start} FOR {count}',
+                   '  r := ((r TIMES 3) PLUS i) PLUS p[1]'], pairs()[::5], declared=['VAL INT k IS 7:', 'BYTE c:'])
+    worker('FOR p[0] /\\ 7, up to the last INT', ['SEQ i = 2147483641 FOR p[0] /\\ 7', '  r := r >< i'], pairs()[::5])
+    worker('a count that sets the flag', ['SEQ i = 0 FOR (p[0] + p[1]) /\\ 3', '  r := r + i'], pairs())
+    worker('a count that the turns change', ['r := p[0]', 'SEQ i = 0 FOR r /\\ 7', '  r := r + 1'], pairs()[::7])
+    worker('a loop up to the index of another', ['SEQ i = 0 FOR 6', '  SEQ j = 0 FOR i', '    r := (r TIMES 5) PLUS (j >< p[0])'], pairs()[::7])
+    worker('a loop up to the index of one with such a count', ['SEQ i = 1 FOR p[0] /\\ 3', '  SEQ j = 2 FOR i', '    r := (r TIMES 5) PLUS (j >< p[1])'],
+           pairs()[::3])
+    worker('a count that is passed', ['add (p[0] /\\ 7, r)', 'add (2, r)', 'r := r PLUS p[1]'], pairs()[::5],
+           declared=['PROC add (VAL INT n, INT x)', '  SEQ i = 0 FOR n', '    x := (x TIMES 3) PLUS (i + 1)', ':'])
+    worker('a count in a FUNCTION with a body', ['r := triangle (p[0] /\\ 15)'], pairs()[::5],
+           declared=['INT FUNCTION triangle (VAL INT n)', '  INT sum:', '  VALOF', '    SEQ i = 0 FOR n', '      SEQ j = 0 FOR i', '        sum := sum + 1',
+                     '    RESULT sum', ':'])
+
+
+def searches():
+    """An IF with a replicator as a choice."""
+    array = ['[4]INT a:', 'VAL []INT t IS [7, 31, 256, 7, 32]:']
+    fill = ['a[0], a[1], a[2], a[3] := p[1], p[0], p[0], 7']
+    for start in ('0', '1', '-2', 'MOSTNEG INT'):
+        worker(f'a search from {start}', ['IF', f'  IF i = {start} FOR 5', f'    t[i MINUS ({start})] = p[0]', '      r := i', '  TRUE', '    r := 99'],
+               pairs()[::5], declared=array[1:])
+    worker('a search that finds nothing, as STOP', ['IF', '  IF i = 0 FOR 5', '    t[i] = p[0]', '      r := i'], pairs()[::5], declared=array[1:])
+    worker('two guards of a search', fill + ['IF', '  IF i = 0 FOR 4', '    a[i] = 3', '      r := i + 10', '    a[i] = 7', '      r := i + 20', '  p[0] = 2',
+           '    r := 30', '  TRUE', '    r := 40'], pairs()[::3], declared=array[:1])
+    worker('three guards of a search, and guards around it', fill + ['IF', '  p[0] = 1', '    r := 5', '  IF i = 1 FOR 3', '    a[i] = 31', '      r := i',
+           '    (a[i] < 0) AND (i = 2)', '      SEQ', '        a[0] := a[i]', '        r := a[0]', '    a[i] = a[0]', '      r := i TIMES 7', '  p[1] > 2',
+           '    r := 8', '  TRUE', '    SKIP'], pairs()[::2], declared=array[:1])
+    worker('two searches of one IF', ['IF', '  IF i = 0 FOR 5', '    t[i] = p[0]', '      r := i', '  IF i = 0 FOR 5', '    t[i] = p[1]', '      r := i + 10',
+           '  TRUE', '    r := 20'], pairs()[::3], declared=array[1:])
+    worker('what is behind the first guard sets no flag', ['IF', '  IF i = 0 FOR 4', '    (p[0] + i) > 100', '      r := i', '    (p[1] + i) = 9',
+           '      r := i + 10', '  TRUE', '    r := 20'], pairs()[::2])
+    worker('a search of no turns, and of one', ['IF', '  IF i = 0 FOR 0', '    TRUE', '      r := 1', '  IF j = 7 FOR 1', '    p[0] = j', '      r := j', '  TRUE',
+           '    r := 3'], pairs()[::7])
+    worker('a search in a loop and one within it', ['SEQ k = 0 FOR 3', '  IF', '    IF i = 0 FOR 5', '      t[i] = (p[0] PLUS k)',
+           '        IF', '          IF j = 0 FOR 3', '            j = (k /\\ 1)', '              r := ((r TIMES 11) PLUS i) PLUS j', '    TRUE', '      r := r PLUS 1'],
+           pairs()[::3], declared=array[1:])
+    worker('a search in a PROC', ['find (t, p[0], r)', 'find (p, 2, r)'], pairs()[::3],
+           declared=[*array[1:], 'PROC find (VAL []INT x, VAL INT key, INT place)', '  IF', '    IF i = 0 FOR SIZE x', '      x[i] = key',
+                     '        place := (place TIMES 8) PLUS i', '    TRUE', '      place := place MINUS 1', ':'])
+
+
+def rows():
+    """Arrays of two dimensions, their elements and their rows."""
+    fill = ['SEQ i = 0 FOR SIZE a', '  SEQ j = 0 FOR SIZE a[i]', '    a[i][j] := (10 * i) + j']
+    for m, n in ((2, 3), (4, 4), (1, 5), (5, 1), (3, 8)):
+        worker(f'elements of [{m}][{n}]INT, read', [*fill, 'r := a[p[0]][p[1]]'], pairs(), declared=[f'[{m}][{n}]INT a:'])
+        worker(f'elements of [{m}][{n}]INT, written', [*fill, 'a[p[0]][p[1]] := 77', 'SEQ i = 0 FOR SIZE a', '  SEQ j = 0 FOR SIZE a[0]',
+               '    r := (r TIMES 7) PLUS a[i][j]'], pairs(), declared=[f'[{m}][{n}]INT a:'])
+        worker(f'elements of [{m}][{n}]BYTE', ['a[p[0]][p[1]] := 255', 'SEQ i = 0 FOR SIZE a', '  SEQ j = 0 FOR SIZE a[0]',
+               '    r := (r TIMES 3) PLUS (INT a[i][j])'], pairs()[::3], declared=[f'[{m}][{n}]BYTE a:'])
+        worker(f'rows of [{m}][{n}]INT by name', [*fill, '[]INT row IS a[p[0]]:', 'SEQ', '  row[p[1]] := 66', '  SEQ i = 0 FOR SIZE a',
+               '    SEQ j = 0 FOR SIZE row', '      r := (r TIMES 7) PLUS a[i][j]'], pairs(), declared=[f'[{m}][{n}]INT a:'])
+    worker('a constant row, and a constant column', [*fill, 'r := ((a[1][p[0]] TIMES 100) PLUS a[p[1]][2]) PLUS a[1][1]'], pairs(),
+           declared=['[2][3]INT a:'])
+    worker('subscripts of a row that are constants, in a name', [*fill, '[3]INT row IS a[1]:', 'SEQ', '  row[2] := p[0]', '  r := row[p[1]] PLUS a[1][2]'],
+           pairs()[::3], declared=['[2][3]INT a:'])
+    worker('a row that is worked out once', ['i := p[0] /\\ 1', '[]INT row IS a[i]:', 'SEQ', '  i := 1 - i', '  row[0] := 5',
+           '  r := (a[0][0] TIMES 10) PLUS a[1][0]'], pairs()[::3], declared=['[2][3]INT a:', 'INT i:'])
+    worker('a row as an argument', [*fill, 'add (a[p[0]], a[p[1]])', 'add (a[1], a[0])', 'SEQ i = 0 FOR 2', '  SEQ j = 0 FOR 3',
+           '    r := (r TIMES 7) PLUS a[i][j]'], pairs(), declared=['[2][3]INT a:', 'PROC add ([]INT x, VAL []INT y)', '  SEQ i = 0 FOR SIZE x',
+                                                                '    x[i] := x[i] PLUS y[i]', ':'])
+    worker('a row as an argument of a FUNCTION', [*fill, 'r := sum (a[p[0]], p[1]) PLUS sum (a[2], 1)'], pairs(),
+           declared=['[3][4]INT a:', 'INT FUNCTION sum (VAL []INT x, VAL INT i) IS ((x[0] + x[1]) + x[i]) + (SIZE x):'])
+    worker('a row as an argument of a FUNCTION with a body', [*fill, 'a[p[0]][1] := sum (a[p[1]])', 'r := (a[0][1] TIMES 100) PLUS a[1][1]'], pairs(),
+           declared=['[2][3]INT a:', 'INT FUNCTION sum (VAL []INT x)', '  INT s:', '  VALOF', '    SEQ i = 0 FOR SIZE x', '      s := s + x[i]',
+                     '    RESULT s', ':'])
+    worker('an element of two subscripts as an argument', [*fill, 'step (a[p[0]][p[1]])', 'step (a[1][p[0]])', 'SEQ i = 0 FOR 2', '  SEQ j = 0 FOR 3',
+           '    r := (r TIMES 7) PLUS a[i][j]'], pairs(), declared=['[2][3]INT a:', 'PROC step (INT x)', '  x := x PLUS 100', ':'])
+    worker('an element of two subscripts by another name', [*fill, 'INT x IS a[p[0]][p[1]]:', 'SEQ', '  x := x PLUS 100', '  SEQ i = 0 FOR 2',
+           '    SEQ j = 0 FOR 3', '      r := (r TIMES 7) PLUS a[i][j]'], pairs(), declared=['[2][3]INT a:'])
+    worker('an element of a row by another name', [*fill, '[]INT row IS a[p[0]]:', 'INT x IS row[p[1]]:', 'SEQ', '  x := x PLUS 100',
+           '  SEQ i = 0 FOR 2', '    SEQ j = 0 FOR 3', '      r := (r TIMES 7) PLUS a[i][j]'], pairs(), declared=['[2][3]INT a:'])
+    worker('arrays of two dimensions as arguments', ['fill (a, p[0])', 'fill (b, p[1])', 'b := a', 'a[1][1] := 3', 'r := total (b) PLUS total (a)'], pairs()[::3],
+           declared=['[3][2]INT a, b:', 'PROC fill ([][2]INT x, VAL INT v)', '  SEQ i = 0 FOR SIZE x', '    SEQ', '      x[i][0] := v PLUS i', '      x[i][1] := i',
+                     ':', 'INT FUNCTION total (VAL [][]INT x) IS ((x[0][0] TIMES 7) PLUS x[2][1]) PLUS ((SIZE x) TIMES (SIZE x[0])):'])
+    worker('an array of two dimensions by another name', [*fill, '[][]INT b IS a:', '[2][3]INT c IS b:', 'VAL [][3]INT t IS c:', 'SEQ', '  b[p[0]][1] := 8',
+           '  c[1][p[1]] := 9', '  r := (t[0][1] TIMES 100) PLUS t[1][p[0]]'], pairs()[::3], declared=['[2][3]INT a:'])
+    worker('tables of two dimensions', ['r := ((t[p[0]][p[1]] TIMES 3) PLUS (INT u[p[1]][p[0]])) PLUS ((t[1][0] TIMES 5) PLUS k)'], pairs(),
+           declared=['VAL [2][2]INT t IS [[1, -2], [MOSTNEG INT, 4]]:', 'VAL [][]BYTE u IS ["abc", "d*n*#FF", [1, \'x\', 3]]:', 'VAL INT k IS t[0][1]:'])
+    worker('rows of tables', ['r := ((x[p[0]] TIMES 3) PLUS y[p[1]]) PLUS pick (t[p[0]], t[1][2])'], pairs(),
+           declared=['VAL []INT x IS [5, 6, 7]:', 'VAL [][3]INT t IS [x, [8, 9, 1]]:', 'VAL []INT y IS t[1]:',
+                     'INT FUNCTION pick (VAL []INT a, VAL INT i) IS a[i]:'])
+    worker('words and bytes seen in rows', ['[2][4]BYTE m RETYPES p:', '[]INT w RETYPES m:', '[4][2]BYTE n RETYPES w:', 'SEQ', '  m[p[0]][1] := 255',
+           '  n[3][0] := 7', '  r := w[0] >< w[1]'], pairs()[::3])
+    worker('a table of two dimensions that is assigned', ['a := [[1, 2, 3], [4, 5, 6]]', 'a[p[0]][0] := 9', 'b := a', 'r := b[p[1]][0] PLUS b[1][2]'], pairs()[::3],
+           declared=['[2][3]INT a, b:'])
+    worker('two elements of one row that are exchanged', [*fill, 'a[p[0]][0], a[0][p[1]] := a[0][p[1]], a[p[0]][0]', 'SEQ i = 0 FOR 2', '  SEQ j = 0 FOR 3',
+           '    r := (r TIMES 7) PLUS a[i][j]'], pairs(), declared=['[2][3]INT a:'])
+    worker('a row in a loop that has its number', [*fill, 'SEQ i = 0 FOR 3', '  []INT row IS a[i]:', '  SEQ j = 0 FOR SIZE row', '    row[j] := row[j] PLUS p[0]',
+           'r := a[p[1]][1]'], pairs()[::3], declared=['[3][4]INT a:'])
+
+
 def stops():
     """STOP wherever it stands, and what stops."""
     worker('an IF without guards', ['IF', 'r := p[0]'], pairs()[:3])
@@ -371,6 +515,14 @@ def stops():
     worker('a CASE of a BOOL without a choice for it', ['CASE p[0] = p[1]', '  FALSE', '    r := 3'], pairs()[::7])
     worker('a CASE without choices', ['CASE p[0]', 'r := p[1]'], pairs()[:3])
     worker('a CASE without a choice for it', ['CASE p[0]', '  1', '    r := 5'], pairs()[::14])
+    worker('ASSERT', ['ASSERT (p[0] < p[1])', 'r := p[0]'], pairs())
+    worker('ASSERT of what sets the flag', ['ASSERT ((p[0] + p[1]) <> 7)', 'r := p[1]'], pairs()[::3])
+    worker('ASSERT of constants', ['ASSERT (TRUE)', 'ASSERT (n = 3)', 'IF', '  p[0] = 7', '    ASSERT (n = p[0])', '  TRUE', '    SKIP', 'r := n'], pairs()[::7],
+           declared=['VAL INT n IS 3:'])
+    worker('ASSERT of a BOOL in a PROC', ['check (p[0] < 0, p[1])', 'r := p[1]'], pairs()[::5],
+           declared=['PROC check (VAL BOOL b, VAL INT x)', '  SEQ', '    ASSERT (b OR (x = 1))', '    ASSERT (NOT b)', ':'])
+    worker('a PROC of the name ASSERT', ['ASSERT (p[0], r)', 'ASSERT (p[1], r)'], pairs()[::5],
+           declared=['PROC ASSERT (VAL INT x, INT y)', '  y := (3 TIMES y) PLUS x', ':'])
     worker('STOP in a PROC', ['stop (p[0])', 'r := p[1]'], pairs()[::14],
            declared=['PROC stop (VAL INT x)', '  IF', '    x = 0', '      SKIP', '    TRUE', '      STOP', ':'])
     worker('STOP in a PROC of a PROC', ['outer (p[0])', 'r := p[1]'], pairs()[::14],
@@ -408,8 +560,8 @@ def shared():
 
 
 def main():
-    parts = (operators, conversions, truth, registers, subscripts, assignments, parameters, functions, choices, messages, spellings, declarations, stops, shared,
-             other_names, other_arrays)
+    parts = (operators, conversions, truth, registers, subscripts, assignments, parameters, functions, predefined, choices, messages, spellings,
+             declarations, stops, counts, searches, shared, other_names, other_arrays, rows)
     for part in parts:
         part()
 

@@ -9,9 +9,9 @@ It takes good texts: of the faults that tpw reports it finds those that it stumb
 import re
 import sys
 
+from predefined import BITS, LEAST, MOST, ROUTINES, signed
+
 INT, BOOL, BYTE = 'INT', 'BOOL', 'BYTE'
-BITS = 0xFFFFFFFF
-LEAST, MOST = -0x80000000, 0x7FFFFFFF
 MAX_TRACED = 256
 CHAINED = {'+', '*', 'PLUS', 'TIMES', '/\\', '\\/', '><', 'AND', 'OR'}
 SAME = {'REM': '\\', 'BITAND': '/\\', 'BITOR': '\\/', 'BITNOT': '~', 'INT32': 'INT'}
@@ -30,10 +30,6 @@ class Fault(Exception):
 
 class NoConstant(Exception):
     """A constant sets the flag, which is a fault of the text."""
-
-
-def signed(word):
-    return word - 0x100000000 if word > MOST else word
 
 
 def spelled_bytes(body):
@@ -177,10 +173,12 @@ class Line:
             return ('list', items)
         if kind != 'name':
             raise Fault(f'{self.number}: an operand is wanted, and here is {word}')
-        if self.take('['):
-            subscript = self.expression()
-            self.want(']')
-            return ('element', word, subscript)
+        if self.peek() == '[':
+            tree = ('name', word)
+            while self.take('['):
+                tree = ('element', tree, self.expression())
+                self.want(']')
+            return tree
         if self.take('('):
             arguments = [] if self.peek() == ')' else self.expressions()
             self.want(')')
@@ -188,15 +186,15 @@ class Line:
         return ('name', word)
 
     def type(self):
-        """A type: an element's, and how many of them: None for one, () for as many as there are, or an expression."""
-        size = None
-        if self.take('['):
-            size = () if self.peek() == ']' else self.expression()
+        """A type: an element's, and sizes: none for one, else () for as many as there are, or an expression."""
+        sizes = []
+        while self.take('['):
+            sizes.append(() if self.peek() == ']' else self.expression())
             self.want(']')
         word = self.next()
         if word not in (INT, BOOL, BYTE):
             raise Fault(f'{self.number}: a type is wanted, and here is {word}')
-        return (word, size)
+        return (word, sizes)
 
     def parameters(self):
         self.want('(')
@@ -322,13 +320,7 @@ class Parser:
         if word == 'IF':
             line.next()
             line.end()
-            choices = []
-            while self.indent() == indent + 2:
-                guard = self.line()
-                condition = guard.expression()
-                guard.end()
-                choices.append((condition, self.block(indent + 4)))
-            return ('if', choices)
+            return ('if', self.choices(indent + 2))
         if word == 'CASE':
             line.next()
             selector = line.expression()
@@ -355,15 +347,32 @@ class Parser:
         line.end()
         return ('assign', targets, values)
 
+    def choices(self, indent):
+        """Guards, each with its block; or a replicator, and the choices below it."""
+        found = []
+        while self.indent() == indent:
+            line = self.line()
+            if line.take('IF'):
+                found.append((self.replicator(line), self.choices(indent + 2)))
+            else:
+                condition = line.expression()
+                line.end()
+                found.append((condition, self.block(indent + 2)))
+        return found
+
+    def replicator(self, line):
+        name = line.next()
+        line.want('=')
+        start = line.expression()
+        line.want('FOR')
+        count = line.expression()
+        line.end()
+        return ('for', name, start, count)
+
     def sequence(self, line, indent):
         index = None
         if line.peek() is not None:
-            name = line.next()
-            line.want('=')
-            start = line.expression()
-            line.want('FOR')
-            index = (name, start, line.expression())
-            line.end()
+            index = self.replicator(line)[1:]
         steps = []
         while self.indent() == indent + 2:
             steps.append(self.block(indent + 2))
@@ -377,21 +386,29 @@ class Parser:
 
 
 class Array:
-    """Words or bytes in storage that others may see too."""
+    """Words or bytes in storage that others may see too, in rows of so many where it has two dimensions."""
 
-    def __init__(self, of, memory, is_table=False):
+    def __init__(self, of, memory, is_table=False, row=None):
         self.of = of
         self.memory = memory
         self.is_table = is_table
+        self.row = row
+        self.first = 0
         self.width = 4 if of == INT else 1
-        self.size = len(memory) // self.width
+        self.size = len(memory) // self.width // (row or 1)
+
+    def row_at(self, place):
+        """A row, in the same storage."""
+        row = Array(self.of, self.memory, self.is_table)
+        row.first, row.size = self.first + place * self.row, self.row
+        return row
 
     def read(self, place):
-        at = place * self.width
+        at = (self.first + place) * self.width
         return int.from_bytes(self.memory[at:at + self.width], 'little')
 
     def write(self, place, word):
-        at = place * self.width
+        at = (self.first + place) * self.width
         self.memory[at:at + self.width] = (word & (BITS if self.width == 4 else 255)).to_bytes(self.width, 'little')
 
 
@@ -483,8 +500,10 @@ class Machine:
             return BYTE
         if kind == 'truth':
             return BOOL
-        if kind in ('name', 'element'):
+        if kind == 'name':
             return names[tree[1]].of
+        if kind == 'element':
+            return self.type_of(tree[1], names)
         if kind == 'call':
             return names[tree[1]][1]
         if kind == 'convert':
@@ -503,7 +522,7 @@ class Machine:
         if kind == 'name':
             return names[tree[1]].read()
         if kind == 'element':
-            array = names[tree[1]]
+            array = self.indexed(tree[1], names)
             return array.read(self.subscript(tree[2], array.size, names))
         if kind == 'call':
             return self.function(tree, names)
@@ -518,6 +537,13 @@ class Machine:
         word, sets = operate(operator, self.word(left, names), self.word(right, names))
         self.flag |= sets
         return word
+
+    def indexed(self, tree, names):
+        """The array that takes a subscript: that of a name, or a row of it, whose subscript is worked out."""
+        if tree[0] == 'name':
+            return names[tree[1]]
+        array = self.indexed(tree[1], names)
+        return array.row_at(self.subscript(tree[2], array.size, names))
 
     def subscript(self, tree, size, names):
         word = self.word(tree, names)
@@ -535,7 +561,8 @@ class Machine:
 
     def monadic(self, operator, operand, names):
         if operator == 'SIZE':
-            return self.array(operand, names, None).size
+            # The subscript of a row is not worked out.
+            return names[operand[1][1]].row if operand[0] == 'element' else names[operand[1]].size
         word = self.word(operand, names)
         if operator == '~':
             return word ^ BITS
@@ -546,14 +573,20 @@ class Machine:
         return negated
 
     def function(self, tree, names):
-        kind, _, parameters, value, own = names[tree[1]]
+        entry = names[tree[1]]
+        if entry[0] == 'predefined' and entry[2] == 1:
+            return self.results(tree, names)[0]
+        kind, _, parameters, value, own = entry
         if kind != 'function':
             raise Fault(f'{tree[1]} stands in an expression')
         return self.word(value, {**own, **self.arguments(parameters, tree[2], names)})
 
     def results(self, tree, names):
         """The words that a FUNCTION with a body gives: its process is done among its own names, and then they are worked out."""
-        _, types, parameters, (declarations, process, results), own = names[tree[1]]
+        entry = names[tree[1]]
+        if entry[0] == 'predefined':
+            return self.predefined(entry, tree[2], names)
+        _, types, parameters, (declarations, process, results), own = entry
         own = {**own, **self.arguments(parameters, tree[2], names)}
         for declaration in declarations:
             self.declare(declaration, own)
@@ -562,10 +595,22 @@ class Machine:
             raise Fault(f'{len(types)} results are wanted')
         return [self.word(result, own) for result in results]
 
-    def array(self, tree, names, of):
-        """The array of a name, or of a table that is written there."""
-        if tree[0] == 'name':
-            return names[tree[1]]
+    def predefined(self, entry, arguments, names):
+        """The words that a predefined routine gives."""
+        _, _, _, count, give = entry
+        if len(arguments) != count:
+            raise Fault(f'{count} arguments are wanted')
+        words, sets = give(*(self.word(argument, names) for argument in arguments))
+        self.flag |= sets
+        return words
+
+    def array(self, tree, names, of, is_of_rows=False):
+        """The array of a name, a row of it, or a table that is written there."""
+        if tree[0] in ('name', 'element'):
+            return self.indexed(tree, names)
+        if is_of_rows:
+            rows = [self.array(item, names, of) for item in tree[1]]
+            return Array(of, bytearray(b''.join(bytes(row.memory) for row in rows)), True, rows[0].size)
         if tree[0] == 'text':
             return Array(BYTE, bytearray(tree[1]), True)
         if tree[0] != 'list':
@@ -577,6 +622,9 @@ class Machine:
         return table
 
     def is_array(self, tree, names):
+        if tree[0] == 'element':
+            array = names.get(tree[1][1]) if tree[1][0] == 'name' else None
+            return isinstance(array, Array) and array.row is not None
         return tree[0] in ('text', 'list') or (tree[0] == 'name' and isinstance(names.get(tree[1]), Array))
 
     def arguments(self, parameters, arguments, names):
@@ -584,11 +632,11 @@ class Machine:
         if len(parameters) != len(arguments):
             raise Fault(f'{len(parameters)} arguments are wanted')
         found = {}
-        for (passing, (of, size), name), tree in zip(parameters, arguments):
+        for (passing, (of, sizes), name), tree in zip(parameters, arguments):
             if passing == 'CHAN':
                 found[name] = names[tree[1]]
-            elif size is not None:
-                found[name] = self.array(tree, names, of)
+            elif sizes:
+                found[name] = self.array(tree, names, of, len(sizes) > 1)
             elif passing == 'VAL':
                 found[name] = Value(of, self.word(tree, names), self.is_constant(tree, names))
             else:
@@ -605,7 +653,8 @@ class Machine:
             value = names[tree[1]]
             return isinstance(value, Value) and value.is_constant
         if kind == 'element':
-            return names[tree[1]].is_table and self.is_constant(tree[2], names)
+            is_table = names[tree[1][1]].is_table if tree[1][0] == 'name' else self.is_constant(tree[1], names)
+            return is_table and self.is_constant(tree[2], names)
         if kind == 'call':
             return all(self.is_constant(argument, names) for argument in tree[2])
         if kind == 'monadic' and tree[1] == 'SIZE':
@@ -626,22 +675,25 @@ class Machine:
         if kind == 'val':
             _, of, name, tree = declaration
             if self.is_array(tree, names):
-                names[name] = self.array(tree, names, of and of[0])
+                names[name] = self.array(tree, names, of and of[0], bool(of) and len(of[1]) > 1)
             else:
                 names[name] = self.named_value(of[0] if of else self.type_of(tree, names) or INT, tree, names)
         elif kind == 'variables':
-            _, (of, size), new = declaration
+            _, (of, sizes), new = declaration
             for name in new:
-                if size is None:
+                if not sizes:
                     names[name] = Variable(of)
                 else:
-                    names[name] = Array(of, bytearray(self.word(size, names) * (4 if of == INT else 1)))
+                    size, *rows = [self.word(size, names) for size in sizes]
+                    elements = size * (rows[0] if rows else 1)
+                    names[name] = Array(of, bytearray(elements * (4 if of == INT else 1)), row=rows[0] if rows else None)
         elif kind == 'retypes':
-            _, (of, _), name, array = declaration
-            names[name] = Array(of, names[array].memory, names[array].is_table)
+            _, (of, sizes), name, array = declaration
+            row = self.word(sizes[1], names) if len(sizes) > 1 else None
+            names[name] = Array(of, names[array].memory, names[array].is_table, row)
         elif kind == 'other':
-            _, (of, size), name, tree = declaration
-            names[name] = self.target(tree, names) if size is None else self.array(tree, names, of)
+            _, (of, sizes), name, tree = declaration
+            names[name] = self.array(tree, names, of, len(sizes) > 1) if sizes else self.target(tree, names)
         elif kind == 'proc':
             _, name, parameters, body = declaration
             names[name] = ('proc', None, parameters, body, dict(names))
@@ -664,7 +716,7 @@ class Machine:
 
     def target(self, tree, names):
         if tree[0] == 'element':
-            array = names[tree[1]]
+            array = self.indexed(tree[1], names)
             return Element(array, self.subscript(tree[2], array.size, names))
         return names[tree[1]]
 
@@ -684,17 +736,27 @@ class Machine:
             return
         name, start, count = index
         first = self.word(start, names)
-        for turn in range(self.word(count, names)):
+        for turn in range(self.named_value(INT, count, names).word):
             inner = {**names, name: Value(INT, (first + turn) & BITS)}
             for step in steps:
                 self.block(step, inner)
 
     def run_if(self, names, choices):
-        for guard, block in choices:
-            if self.word(guard, names):
-                self.block(block, names)
-                return
-        self.flag = True
+        if not self.is_chosen(names, choices):
+            self.flag = True
+
+    def is_chosen(self, names, choices):
+        """Whether one of the choices is done."""
+        for guard, behind in choices:
+            if guard[0] == 'for':
+                _, name, start, count = guard
+                first = self.word(start, names)
+                if any(self.is_chosen({**names, name: Value(INT, (first + turn) & BITS)}, behind) for turn in range(self.word(count, names))):
+                    return True
+            elif self.word(guard, names):
+                self.block(behind, names)
+                return True
+        return False
 
     def run_case(self, names, selector, choices):
         word = self.word(selector, names)
@@ -711,16 +773,25 @@ class Machine:
             self.flag = True
 
     def run_call(self, names, name, arguments):
+        if name == 'ASSERT' and name not in names:
+            [condition] = arguments
+            if not self.word(condition, names):
+                self.flag = True
+            return
         _, _, parameters, body, own = names[name]
         self.block(body, {**own, **self.arguments(parameters, arguments, names)})
+
+    def is_called_alone(self, entry):
+        """Whether a FUNCTION is called alone behind :=."""
+        return entry[0] == 'valof' or (entry[0] == 'predefined' and entry[2] > 1)
 
     def run_assign(self, names, targets, values):
         if len(targets) == 1 and self.is_array(targets[0], names):
             to = names[targets[0][1]]
-            to.memory[:] = bytes(self.array(values[0], names, to.of).memory)
+            to.memory[:] = bytes(self.array(values[0], names, to.of, to.row is not None).memory)
             return
         places = [self.target(target, names) for target in targets]
-        if values[0][0] == 'call' and names[values[0][1]][0] == 'valof':
+        if values[0][0] == 'call' and self.is_called_alone(names[values[0][1]]):
             words = self.results(values[0], names)
         else:
             words = [self.word(value, names) for value in values]
@@ -750,7 +821,7 @@ class Machine:
 def run(tree, packet):
     """The result, the flag and the traces of a packet; None where it is lost."""
     machine = Machine(packet)
-    names = {}
+    names = {name: ('predefined', INT, *routine) for name, routine in ROUTINES.items()}
     for declaration in tree:
         machine.declare(declaration, names)
     _, _, parameters, body, own = names[tree[-1][1]]
@@ -779,36 +850,10 @@ def answer(tree, packet):
     return f'{digits(result)} {int(flag)} {digits(traced)}'
 
 
-def parts(tree):
-    """A tree, and all that are in it."""
-    yield tree
-    for part in tree:
-        if isinstance(part, (tuple, list)):
-            yield from parts(part)
-
-
-def is_literal(tree):
-    """Whether an expression has no name."""
-    kind = tree[0] if tree else None
-    return kind in ('number', 'byte', 'truth') or kind in ('dyadic', 'monadic', 'convert') and all(map(is_literal, tree[2:]))
-
-
-def sets_flag(tree):
-    """Whether a VAL has a part without names that sets the flag: a fault also where no packet comes."""
-    machine = Machine(b'')
-    for declaration in parts(tree):
-        if declaration and declaration[0] == 'val':
-            for part in filter(is_literal, parts(declaration[3])):
-                machine.word(part, {})
-    return machine.flag
-
-
 def answered(lines):
     """A worker's lines, with the answers of its packets; none where a constant sets the flag."""
     is_packet = [line.startswith('@packet ') for line in lines]
     tree = parse('\n'.join(line for line, packet in zip(lines[1:], is_packet[1:]) if not packet))
-    if sets_flag(tree):
-        return []
     try:
         return [f'{line} > {answer(tree, bytes.fromhex(line.split()[1]))}' if packet else line
                 for line, packet in zip(lines, is_packet)]

@@ -9,6 +9,7 @@ import re
 import sys
 
 from model import BOOL, BYTE, INT, MAX_TRACED
+from predefined import ROUTINES
 
 NAMES = ['a', 'b', 'c', 'd', 'e', 'f', 'g', 'h', 'k', 'n', 'p', 'q', 's', 't', 'x', 'y', 'z', 'Value', 'up.to', 'last2', 'in.it', 'X']
 ENDS = [0, 1, 2, 3, 4, 5, 7, 8, 15, 16, 17, 31, 32, 33, 63, 64, 127, 128, 255, 256, 257, 32767, 32768, 65535, 65536, 0x7FFFFFFF]
@@ -18,26 +19,33 @@ CHARACTERS = ["'a'", "'Z'"] + [f"'{escape}'" for escape in ESCAPES]
 CHECKED = ['+', '-', '*', '/', '\\', 'REM', '<<', '>>']
 FREE = ['PLUS', 'MINUS', 'TIMES', '/\\', '\\/', '><', 'BITAND', 'BITOR', '>>', '<<', '/', '\\']
 CHAINED = ['+', '*', 'PLUS', 'TIMES', '/\\', '\\/', '><']
+# The most loops of more than one turn in an image.
+MOST_LOOPS = 16
 # Where a line may be broken, but for operators.
 BREAKS = re.compile(r', |\bIS |:= |\(|\[(?!\])')
 WORD = re.compile(r'[A-Za-z][A-Za-z0-9.]*')
+SIZED = re.compile(r'SIZE [A-Za-z][A-Za-z0-9.]*')
 
 
 class Entry:
     """What a name means: a value, a variable, an array, a table, a procedure, a function, or a routine: a FUNCTION with a body, of
     several types."""
 
-    def __init__(self, kind, of=None, size=None, parameters=(), is_open=False):
+    def __init__(self, kind, of=None, size=None, parameters=(), is_open=False, rows=None, loops=0):
         self.kind = kind
         self.of = of
         self.size = size
         self.parameters = parameters
         self.is_open = is_open
+        # How many rows there are of `size` elements, where it is an array or a table of two dimensions, which are `rows` and `row table`.
+        self.rows = rows
+        # How many loops a call has.
+        self.loops = loops
 
     def read_only(self):
         """What it is where nothing outside is assigned to."""
-        kind = {'variable': 'value', 'array': 'table'}.get(self.kind, self.kind)
-        return Entry(kind, self.of, self.size, self.parameters, self.is_open)
+        kind = {'variable': 'value', 'array': 'table', 'part': 'part table', 'rows': 'row table'}.get(self.kind, self.kind)
+        return Entry(kind, self.of, self.size, self.parameters, self.is_open, self.rows, self.loops)
 
 
 class Maker:
@@ -47,6 +55,17 @@ class Maker:
         self.is_long = seed % 8 == 5
         self.has_truth_cases = seed % 4 == 2
         self.has_other_names = seed % 4 == 3
+        # Whether counts are no constants, and whether predefined routines are called.
+        self.has_counts = seed % 4 == 0
+        self.has_predefined = seed % 4 == 0
+        # Whether there are arrays of two dimensions.
+        self.has_rows = seed % 8 == 4
+        # Whether conditions are asserted, and whether an IF has searches: these come with rows too.
+        self.has_asserts = seed % 4 == 1 or self.has_rows
+        self.has_searches = seed % 8 == 6 or seed % 16 == 4
+        # How many calls have a loop of many turns; and how many loops there are so far, in the worker or in the body that is written.
+        self.long_loops = 0
+        self.loops = 0
         self.scope = {}
         self.out = []
         self.indent = 0
@@ -143,8 +162,18 @@ class Maker:
         text = self.number()
         return text, True
 
+    def row(self, wanted, depth):
+        """A row of an array of two dimensions."""
+        name = self.pick(lambda entry: entry.rows and wanted(entry)) if self.has_rows else None
+        return name and f'{name}[{self.subscript(self.scope[name].rows, depth)}]'
+
     def element(self, of, depth):
-        name = self.pick(lambda entry: entry.kind in ('array', 'table') and entry.of == of)
+        if self.has_rows and self.chance(0.5):
+            name = self.pick(lambda entry: entry.rows and entry.of == of)
+            if name:
+                entry = self.scope[name]
+                return f'{name}[{self.subscript(entry.rows, depth - 1)}][{self.subscript(entry.size, depth)}]'
+        name = self.pick(lambda entry: entry.kind in ('array', 'table', 'part', 'part table') and entry.of == of)
         if not name:
             return None
         return f'{name}[{self.subscript(self.scope[name].size, depth)}]'
@@ -163,13 +192,35 @@ class Maker:
 
     def varying(self, text):
         """A subscript that is no constant, since one of these beyond the size is a fault."""
-        found = [self.scope.get(word) for word in WORD.findall(text)]
-        if any(entry and entry.kind in ('variable', 'array') for entry in found):
+        # The size of an array is a constant.
+        words = WORD.findall(SIZED.sub('', text) if self.has_rows else text)
+        found = [self.scope.get(word) for word in words]
+        if any(entry and entry.kind in ('variable', 'array', 'part', 'rows') for entry in found):
             return text
         names = self.names(lambda entry: entry.kind == 'variable' and entry.of == INT)
         return f'({text}) PLUS ({names[0]} /\\ 1)' if names else '0'
 
+    def predefined(self, results, depth):
+        """A call of a predefined routine of one result or of several, and how many it has. Those with a loop are called twice at the
+        most, in no other loop."""
+        name = self.random.choice([name for name, (count, _, _) in ROUTINES.items() if (count > 1) == (results > 1)])
+        count, arguments, _ = ROUTINES[name]
+        if name in ('LONGDIV', 'NORMALISE'):
+            if self.long_loops == 2 or self.turns > 1 or self.loops == MOST_LOOPS:
+                return None
+            self.long_loops += 1
+            self.loops += 1
+        words = [self.whole(INT, depth - 1) for _ in range(arguments)]
+        if 'SHIFT' in name or 'ROTATE' in name:
+            words[-1] = self.of(str(self.random.randint(0, 31)), f'{self.closed(INT, depth - 2)} /\\ 31')
+        if name == 'LONGDIV':
+            words[0] = f'{self.closed(INT, depth - 2)} /\\ 255'
+            words[2] = f'{self.closed(INT, depth - 2)} \\/ 256'
+        return f'{name} ({", ".join(words)})', count
+
     def call(self, of, depth):
+        if self.has_predefined and of == INT and self.chance(0.5):
+            return self.predefined(1, depth)[0]
         name = self.pick(lambda entry: entry.kind == 'function' and entry.of == of)
         if not name or self.calls > 40:
             return None
@@ -184,7 +235,11 @@ class Maker:
         if passing == 'CHAN':
             return self.pick(lambda entry: entry.kind == 'channel')
         if size is not None:
-            kinds = ('array', 'table') if passing == 'VAL' else ('array',)
+            kinds = ('array', 'table', 'part', 'part table') if passing == 'VAL' else ('array', 'part')
+            rows = ('rows', 'row table') if passing == 'VAL' else ('rows',)
+            row = self.row(lambda e: e.kind in rows and e.of == of and (size == () or e.size == size), depth)
+            if row and self.chance(0.6):
+                return row
             name = self.pick(lambda e: e.kind in kinds and e.of == of and (size == () or e.size == size))
             return name or self.table(of, 4 if size == () else size)
         if passing == 'VAL':
@@ -197,7 +252,7 @@ class Maker:
             if passing == 'VAR' and size is None and not self.names(lambda e: e.kind == 'variable' and e.of == of):
                 return False
             if passing == 'VAR' and size is not None and not self.names(
-                    lambda e: e.kind == 'array' and e.of == of and (size == () or e.size == size)):
+                    lambda e: e.kind in ('array', 'part') and e.of == of and (size == () or e.size == size)):
                 return False
             if passing == 'CHAN' and not self.names(lambda e: e.kind == 'channel'):
                 return False
@@ -233,7 +288,8 @@ class Maker:
         if pick < 0.27:
             return f'{self.of("-", "MINUS ", "MINUS ", "~", "BITNOT ")}{self.closed(INT, depth - 1)}', False
         if pick < 0.3:
-            name = self.pick(lambda entry: entry.kind in ('array', 'table'))
+            row = self.row(lambda entry: True, 0) if self.has_rows and self.chance(0.5) else None
+            name = row or self.pick(lambda entry: entry.kind in ('array', 'table', 'part', 'part table', 'rows', 'row table'))
             if name:
                 return f'SIZE {name}', False
         if pick < 0.42:
@@ -291,7 +347,9 @@ class Maker:
     def declaration(self, depth):
         pick = self.random.random()
         name = self.new()
-        if self.has_other_names and self.chance(0.3):
+        if self.has_rows and self.chance(0.4):
+            self.declared_rows(name)
+        elif self.has_other_names and self.chance(0.3):
             self.other_name(name)
         elif pick < 0.25:
             of = self.of(INT, INT, BOOL, BYTE)
@@ -323,6 +381,63 @@ class Maker:
             self.procedure(name)
         elif self.levels < 2:
             self.of(self.function, self.routine)(name)
+
+    def declared_rows(self, name):
+        """An array or a table of two dimensions; or another name for one, for its bytes or words, or for a row."""
+        pick = self.random.random()
+        of = self.of(INT, BYTE)
+        rows, size = self.of(1, 2, 3, 4), self.of(1, 2, 3, 4, 5)
+        if pick < 0.2:
+            bounds = self.of(f'[{rows}][{size}]', f'[][{size}]', '[][]', f'[{rows}][]')
+            items = ', '.join(self.table(of, size) for _ in range(rows))
+            self.line(f'VAL {bounds}{of} {name} IS [{items}]:')
+            self.scope[name] = Entry('row table', of, size, rows=rows)
+        elif not self.indent:
+            return
+        elif pick < 0.5:
+            self.line(f'[{self.computed(rows)}][{self.computed(size)}]{of} {name}:')
+            self.scope[name] = Entry('rows', of, size, rows=rows)
+        elif pick < 0.6:
+            self.rows_retyped(name)
+        elif pick < 0.8:
+            self.other_rows(name)
+        else:
+            self.other_row(name)
+
+    def rows_retyped(self, name):
+        """An array in rows, or the rows of one as an array."""
+        array = self.pick(lambda e: e.kind == 'array' and not e.is_open and e.size % 2 == 0)
+        if array and self.chance(0.5):
+            entry = self.scope[array]
+            self.line(f'[{entry.size // 2}][2]{entry.of} {name} RETYPES {array}:')
+            self.scope[name] = Entry('rows', entry.of, 2, rows=entry.size // 2)
+            return
+        array = self.pick(lambda e: e.kind == 'rows')
+        if array:
+            entry = self.scope[array]
+            self.line(f'[{self.of("", entry.rows * entry.size)}]{entry.of} {name} RETYPES {array}:')
+            self.scope[name] = Entry('array', entry.of, entry.rows * entry.size)
+
+    def other_rows(self, name):
+        kind, kinds = ('rows', ('rows',)) if self.chance(0.5) else ('row table', ('rows', 'row table'))
+        array = self.pick(lambda e: e.kind in kinds)
+        if array:
+            entry = self.scope[array]
+            bounds = self.of('[][]', f'[][{entry.size}]', *[f'[{entry.rows}][{entry.size}]'] * 2)
+            self.line(f'{"VAL " if kind == "row table" else ""}{bounds}{entry.of} {name} IS {array}:')
+            self.scope[name] = Entry(kind, entry.of, entry.size, rows=entry.rows)
+
+    def other_row(self, name):
+        """Another name for a row, or for one to be read."""
+        kinds = self.of(('rows',), ('rows', 'row table'))
+        array = self.pick(lambda e: e.kind in kinds)
+        if array:
+            entry = self.scope[array]
+            is_read = entry.kind == 'row table' or self.chance(0.4)
+            row = f'{array}[{self.subscript(entry.rows, 2)}]'
+            self.line(f'{"VAL " if is_read else ""}[{self.of("", entry.size)}]{entry.of} {name} IS {row}:')
+            # It is neither copied nor sent: its elements are used, and it is passed.
+            self.scope[name] = Entry('part table' if is_read else 'part', entry.of, entry.size)
 
     def declared_table(self, name, of, size):
         self.line(f'VAL [{self.of("", self.computed(size))}]{of} {name} IS {self.table(of, size)}:')
@@ -391,7 +506,10 @@ class Maker:
             elif size is not None:
                 # How many an open array has is not known here: one is always there.
                 is_open = size == ()
-                self.scope[name] = Entry('table' if passing == 'VAL' else 'array', of, 1 if is_open else size, is_open=is_open)
+                kind = 'part' if self.has_rows else 'array'
+                if passing == 'VAL':
+                    kind = 'part table' if self.has_rows else 'table'
+                self.scope[name] = Entry(kind, of, 1 if is_open else size, is_open=is_open)
             else:
                 self.scope[name] = Entry('value' if passing == 'VAL' else 'variable', of)
 
@@ -399,18 +517,20 @@ class Maker:
         passings = ['VAL', 'VAL', 'VAR', 'VAR'] + ['CHAN'] * self.is_traced
         parameters = self.parameters(passings)
         self.line(f'PROC {name} ({self.spelled(parameters)})')
-        outer, turns = dict(self.scope), self.turns
+        outer, turns, loops = dict(self.scope), self.turns, self.loops
         self.with_parameters(parameters)
         self.levels += 1
         self.indent += 1
         self.turns *= 8
+        self.loops = 0
         self.block(2)
         self.indent -= 1
         self.levels -= 1
         self.turns = turns
         self.scope = outer
         self.line(':')
-        self.scope[name] = Entry('procedure', None, None, [one[:3] for one in parameters])
+        self.scope[name] = Entry('procedure', None, None, [one[:3] for one in parameters], loops=self.loops)
+        self.loops = loops
 
     def function(self, name):
         of = self.of(INT, INT, BOOL, BYTE)
@@ -431,12 +551,13 @@ class Maker:
         types = [self.of(INT, INT, BOOL, BYTE) for _ in range(self.of(1, 1, 2, 3))]
         parameters = self.parameters(['VAL'])
         self.line(f'{", ".join(types)} FUNCTION {name} ({self.spelled(parameters)})')
-        outer, turns = dict(self.scope), self.turns
+        outer, turns, loops = dict(self.scope), self.turns, self.loops
         self.scope = {one: entry.read_only() for one, entry in outer.items() if entry.kind not in ('procedure', 'channel')}
         self.with_parameters(parameters)
         self.levels += 1
         self.indent += 1
         self.turns *= 8
+        self.loops = 0
         for of in dict.fromkeys(types):
             own = self.new()
             self.line(f'{of} {own}:')
@@ -451,9 +572,17 @@ class Maker:
         self.turns = turns
         self.scope = outer
         self.line(':')
-        self.scope[name] = Entry('routine', types, None, [one[:3] for one in parameters])
+        self.scope[name] = Entry('routine', types, None, [one[:3] for one in parameters], loops=self.loops)
+        self.loops = loops
 
     # Processes
+
+    def has_room(self, loops):
+        """Counts so many loops more, where an image has room for them."""
+        if self.loops + loops > MOST_LOOPS:
+            return False
+        self.loops += loops
+        return True
 
     def block(self, depth):
         outer = dict(self.scope)
@@ -490,6 +619,8 @@ class Maker:
             self.line('SKIP')
         elif pick < (0.05 if self.levels else 0.042):
             self.line('STOP')
+        elif self.has_asserts and pick < 0.075:
+            self.line(f'ASSERT ({self.whole(BOOL, 2)})' if self.chance(0.2) else 'ASSERT (TRUE)')
         elif pick < 0.15:
             self.trace()
         elif pick < 0.22:
@@ -498,16 +629,25 @@ class Maker:
             self.assign()
 
     def target(self, of):
-        array = self.pick(lambda e: e.kind == 'array' and e.of == of)
+        rows = self.pick(lambda e: e.kind == 'rows' and e.of == of) if self.has_rows else None
+        if rows and self.chance(0.4):
+            entry = self.scope[rows]
+            return f'{rows}[{self.subscript(entry.rows, 1)}][{self.subscript(entry.size, 2)}]'
+        array = self.pick(lambda e: e.kind in ('array', 'part') and e.of == of)
         if array and self.chance(0.4):
             return f'{array}[{self.subscript(self.scope[array].size, 2)}]'
         return self.pick(lambda e: e.kind == 'variable' and e.of == of)
 
     def take_results(self):
         """A call of a FUNCTION with a body, where there are variables for its results."""
+        if self.has_predefined and self.chance(0.5) and self.names(lambda e: e.kind == 'variable' and e.of == INT):
+            call = self.predefined(2, 2)
+            if call:
+                self.line(f'{", ".join(self.target(INT) for _ in range(call[1]))} := {call[0]}')
+            return call is not None
         name = self.pick(lambda e: e.kind == 'routine' and all(
             self.names(lambda one, of=of: one.kind == 'variable' and one.of == of) for of in e.of))
-        if not name or self.calls > 20:
+        if not name or self.calls > 20 or not self.has_room(self.scope[name].loops):
             return False
         self.calls += 1
         entry = self.scope[name]
@@ -572,11 +712,13 @@ class Maker:
 
     def replicated(self, depth):
         count = self.random.choice([0, 1, 1, 2, 3, 4, 7])
-        if self.turns * max(count, 1) > 60:
+        if self.turns * max(count, 1) > 60 or not self.has_room(count > 1):
             count = self.of(0, 1)
         start = self.of('0', '0', '1', '-1', '250', 'MOSTNEG INT', '2147483600')
         index = self.new()
-        self.line(f'SEQ {index} = {start} FOR {self.computed(count)}')
+        is_limited = self.has_counts and count > 1 and self.chance(0.5)
+        text = self.limited(count) if is_limited else self.computed(count)
+        self.line(f'SEQ {index} = {start} FOR {text}')
         outer, turns = dict(self.scope), self.turns
         self.scope[index] = Entry('value', INT)
         self.turns *= max(count, 1)
@@ -585,16 +727,42 @@ class Maker:
         self.indent -= 1
         self.scope, self.turns = outer, turns
 
+    def limited(self, most):
+        """A count that is at most so much; no constant in it sets the flag."""
+        word = self.leaf(INT)[0]
+        if most == 7:
+            return self.of(f'{word} /\\ 7', f'7 BITAND {word}', f'{word} >> 29')
+        if most == 3:
+            return self.of(f'{word} /\\ 3', f'{word} >> 30')
+        return self.of(f'({word} /\\ 255) \\ {most + 1}', f'(INT {self.leaf(BYTE)[0]}) REM {most + 1}')
+
     def choice(self, depth):
         self.line('IF')
         if self.chance(0.03):
             return
         self.indent += 1
         for _ in range(self.random.randint(1, 3)):
-            self.guarded(self.whole(BOOL, self.random.randint(0, 3)), depth)
+            if self.has_searches and self.chance(0.4):
+                self.search(depth)
+            else:
+                self.guarded(self.whole(BOOL, self.random.randint(0, 3)), depth)
         if self.chance(0.97):
             self.guarded('TRUE', depth)
         self.indent -= 1
+
+    def search(self, depth):
+        index, count = self.new(), self.of(1, 2, 3, 5)
+        if not self.has_room(count > 1):
+            count = 1
+        self.line(f'IF {index} = {self.of("0", "1", "-1", "MOSTNEG INT")} FOR {self.computed(count)}')
+        outer = dict(self.scope)
+        self.scope[index] = Entry('value', INT)
+        self.indent += 1
+        for _ in range(self.random.choice([1, 1, 1, 2, 3])):
+            text = f'{index} = {self.closed(INT, 1)}' if self.chance(0.4) else self.whole(BOOL, self.random.randint(0, 2))
+            self.guarded(text, depth)
+        self.indent -= 1
+        self.scope = outer
 
     def guarded(self, text, depth):
         self.line(text)
@@ -634,7 +802,7 @@ class Maker:
 
     def call_procedure(self):
         name = self.pick(lambda e: e.kind == 'procedure' and self.can_call(e.parameters))
-        if not name or self.calls > 20:
+        if not name or self.calls > 20 or not self.has_room(self.scope[name].loops):
             self.simple()
             return
         self.calls += 1

@@ -9,7 +9,7 @@ use tpw_debug::Diagnostic;
 use tpw_files::Failure;
 use tpw_occam::{CallLines, CompiledText, fault_at};
 
-/// A replicated SEQ: its number, the line that it begins in, its turns, and the bytes of a turn.
+/// A loop: its number, the line that it begins in, its turns, and the bytes of a turn.
 #[derive(Clone, Copy)]
 struct Share {
     number: usize,
@@ -33,7 +33,7 @@ impl fmt::Display for Share {
     }
 }
 
-/// The replicated SEQ that has the largest share of the costs of an image. Its loops have these lines.
+/// The loop that has the largest share of the costs of an image. Its loops have these lines.
 fn largest_share(image: &Image, lines: &[u32], costs: &[Counted]) -> Option<Share> {
     let mut largest: Option<Share> = None;
     for (number, (row, line)) in image.loops.iter().zip(lines).enumerate() {
@@ -54,7 +54,7 @@ fn largest_share(image: &Image, lines: &[u32], costs: &[Counted]) -> Option<Shar
     largest
 }
 
-/// The fault of a text whose image has these bytes and too large a budget: at the replicated SEQ with the largest share.
+/// The fault of a text whose image has these bytes and too large a budget: at the loop with the largest share.
 /// Where there is none, the text has no fault.
 pub fn over_budget(
     alloc: Global,
@@ -77,7 +77,7 @@ pub fn over_budget(
     });
     let all = costs.first().map_or(0, |first| first.whole);
     let said = format!(in alloc;
-        "a budget of {all} instruction bytes, of at most 16,777,216: this SEQ has the largest share, {share}{calls}"
+        "a budget of {all} instruction bytes, of at most 16,777,216: this loop has the largest share, {share}{calls}"
     )?;
     Ok(Some(fault_at(text, share.line as usize, said)))
 }

@@ -2,9 +2,9 @@
 use Rattle.std.proofs.Common.{◌≡◌, List, ℕ, Some}
 use Rattle.tpw_asm.specs.Assembly.{AreItsAddresses, IsAssembly}
 use Rattle.tpw_occam_core.specs.declared.worker.Worker.{Worker}
-use Rattle.tpw_occam_lexing.specs.Lines.{lines_of}
 use Rattle.tpw_occam_meaning.specs.declared.tree.Source.{Source}
 use Rattle.tpw_occam_meaning.specs.Texts.{MeansText}
+use Rattle.tpw_occam_reading.specs.Predefined.{whole_lines}
 use Rattle.tpw_occam_reading.specs.Unparse.{unparse}
 use Rattle.tpw_occam_scoped.specs.Meaning.{meaning}
 use Rattle.tpw_occam_symbolic.specs.Program.{Means, GivesRuled}
@@ -13,7 +13,7 @@ use Rattle.tpw_occam.specs.declared.fault.OccamFault.{OccamFault}
 use Rattle.tpw_occam.specs.declared.fault.OccamFault.TheVariants.{Refused, Compiler, Memory}
 use Rattle.tpw_occam.specs.Compilation.{ArePlaced, IsCompiled, IsDoneBy, IsOfCompiler, IsRefusal}
 
-pub is_compiled : (text : List ℕ) (made : CompiledText) (tree : Source) (worker : Worker) → lines_of text ≡ Some (unparse tree)
+pub is_compiled : (text : List ℕ) (made : CompiledText) (tree : Source) (worker : Worker) → whole_lines text ≡ Some (unparse tree)
     → MeansText tree (meaning made.core) → IsDoneBy made.core worker → Means worker made.program
     → IsAssembly made.program made.assembled.image → AreItsAddresses made.program made.assembled.addresses.items
     → GivesRuled made.program → ArePlaced text made.warnings.items → IsCompiled text made

@@ -7,10 +7,10 @@ use Rattle.tpw_occam_core.specs.declared.worker.Worker.{Worker}
 use Rattle.tpw_occam_core.specs.Meaning as core
 use Rattle.tpw_occam_core.specs.Meaning.{Meant}
 use Rattle.tpw_occam_core.specs.Sound.{is_sound}
-use Rattle.tpw_occam_lexing.specs.Lines.{lines_of}
 use Rattle.tpw_occam_meaning.specs.declared.tree.Source.{Source}
 use Rattle.tpw_occam_meaning.specs.Texts.{MeansText}
 use Rattle.tpw_occam_placing.specs.Working.{Takes}
+use Rattle.tpw_occam_reading.specs.Predefined.{whole_lines}
 use Rattle.tpw_occam_reading.specs.Unparse.{unparse}
 use Rattle.tpw_occam_scoped.specs.declared.process.Process.{Process}
 use Rattle.tpw_occam_scoped.specs.Meaning.{meaning}
@@ -22,10 +22,10 @@ use Rattle.tpw_occam.specs.declared.compiling.CompiledText.{CompiledText}
 use Rattle.tpw_occam.specs.declared.fault.OccamFault.{OccamFault}
 use Rattle.tpw_occam.specs.declared.fault.OccamFault.TheVariants.{Refused, Compiler, Memory}
 
--- A text means a function of packets: it is a tree, written out, that means this function.
+-- A text means a function of packets: behind what is predefined it is a tree, written out, that means this function.
 pub record IsMeaningOf (text : List ℕ) (of_packet : List ℕ → Option Meant) : Type 0 where
   pub tree : Source
-  pub written : lines_of text ≡ Some (unparse tree)
+  pub written : whole_lines text ≡ Some (unparse tree)
   pub means : MeansText tree of_packet
 
 -- A worker does what a core does: it is sound, and means the same by each packet that it takes.

@@ -2,9 +2,9 @@
 
 ghost use Rattle.std.specs.Prelude.{◌≡◌, IfErr, IfOk, Some};
 ghost use Rattle.tpw_occam.specs.Compilation.{IsCompilation, IsDoneBy, IsOfCompiler, IsRefusal};
-ghost use Rattle.tpw_occam_lexing.specs.Lines.{lines_of};
 ghost use Rattle.tpw_occam_meaning.specs.Texts.{MeansText};
 ghost use Rattle.tpw_occam_reading.specs.declared.reading.Standing.TheVariants.{Read};
+ghost use Rattle.tpw_occam_reading.specs.Predefined.{whole_lines};
 ghost use Rattle.tpw_occam_reading.specs.Unparse.{unparse};
 ghost use Rattle.tpw_occam_scoped.specs.Meaning.{meaning};
 
@@ -28,7 +28,7 @@ use tpw_occam_symbolic::{CodeFault, Compiled};
 use tpw_occam_workers::resolve;
 
 /// The most that lies within one another in a text that the check lets pass, in calls of a pass over its tree.
-const ROOM: u32 = 10_000;
+const ROOM: u32 = 10_100;
 
 /// A text, compiled.
 #[derive(Drop)]
@@ -142,7 +142,7 @@ fn compiled<'t>(
     made: Made<'_, 't>,
     notes: &[Note<'_>],
 ) -> Result<CompiledText<'t>, OccamFault>
-    requires written { lines_of text.now ≡ Some (unparse made.source.now) }
+    requires written { whole_lines text.now ≡ Some (unparse made.source.now) }
     requires means { MeansText made.source.now (meaning made.core) }
     requires done { IsDoneBy made.core made.worker }
     ensures { IsCompilation text.now result }

@@ -38,9 +38,9 @@ struct Stretch {
     to: u32,
 }
 
-/// The text at a span, by its lines.
+/// The text at a span, by its lines; nothing where that is none of the text.
 pub(crate) fn said_at<'t>(lines: &[&'t str], span: Span) -> Option<&'t str> {
-    let line = lines.get(span.line.saturating_sub(1))?;
+    let line = lines.get(span.line.checked_sub(1)?)?;
     let first = span.column.saturating_sub(1);
     line.get(first..first.saturating_add(span.width))
 }

@@ -67,8 +67,11 @@ static OPERATORS: [&str; 5] = ["+", "-", "*", "/", "\\"];
 static TYPES: [&str; 4] = ["INT ", "BOOL ", "BYTE ", "["];
 
 /// The remedy for an IF with a replicator.
-const NO_REPLICATED_IF: &str =
-    "there is no IF i = s FOR n: use SEQ i = s FOR n, and an IF within it";
+const NO_REPLICATED_IF: &str = "IF i = s FOR n is a choice: it stands below an IF";
+
+/// The remedy for a table with a replicator.
+const NO_REPLICATED_TABLE: &str =
+    "there is no [i = s FOR n | e]: write the table out, or fill an array in a loop";
 
 /// The remedy for what stands as deep as the IF that it is a guard of.
 const GUARD_BELOW: &str = "a guard stands below its IF, indented by two spaces more";
@@ -159,9 +162,12 @@ fn for_word(word: &str) -> Option<&'static str> {
 }
 
 /// The remedy for a character that begins nothing.
-fn for_character(behind: &str) -> Option<&'static str> {
+fn for_character(at: Around<'_>) -> Option<&'static str> {
+    if at.behind.starts_with("|") && is_replicated(at.before) {
+        return Some(NO_REPLICATED_TABLE);
+    }
     for (character, remedy) in &CHARACTERS {
-        if behind.starts_with(*character) {
+        if at.behind.starts_with(*character) {
             return Some(*remedy);
         }
     }
@@ -211,8 +217,6 @@ fn for_operator(at: Around<'_>) -> Option<&'static str> {
         Some("a colon ends a declaration, and no process")
     } else if at.behind.starts_with("IS ") {
         Some("another name has a type, as in INT x IS a[3]:")
-    } else if at.behind.starts_with("[") && at.before.trim_ascii_end().ends_with("]") {
-        Some("an array has one size and one subscript, as (n * i) + j")
     } else if at.behind.starts_with("x") && ends_with_zero(at.before) {
         Some("occam writes #1F for 0x1F")
     } else {
@@ -266,7 +270,7 @@ fn for_nothing(at: Around<'_>) -> Option<&'static str> {
 /// The remedy for a fault of how a text is written.
 fn for_syntax(kind: SyntaxFault, at: Around<'_>) -> Option<&'static str> {
     match kind {
-        SyntaxFault::NoToken => for_character(at.behind),
+        SyntaxFault::NoToken => for_character(at),
         SyntaxFault::BadHexadecimal => for_directive(at.behind),
         SyntaxFault::BigNumber if at.behind.starts_with("2147483648") && at.before.ends_with("-") =>
             { Some("the least INT is MOSTNEG INT") }
@@ -279,21 +283,15 @@ fn for_syntax(kind: SyntaxFault, at: Around<'_>) -> Option<&'static str> {
     }
 }
 
-/// The remedy for a part of a replicator that is no constant.
-fn for_replicator(at: Around<'_>) -> &'static str {
-    if at.before.contains(" FOR ") {
-        "a loop has a constant number of turns, the most that are needed, with an IF within it"
-    } else {
-        "a loop begins at a constant: add to its index within it"
-    }
-}
+/// The remedy for a loop that begins at what is no constant.
+const CONSTANT_START: &str = "a loop begins at a constant: add to its index within it";
 
 /// The remedy of a fault at a place of a text, where one is known.
 pub(crate) fn remedy_of(text: &str, kind: FaultKind<'_>, span: Span) -> Option<&'static str> {
     let at = text_around(text, span);
     match kind {
         FaultKind::Syntax(kind) => for_syntax(kind, at),
-        FaultKind::NotConstant if at.line.starts_with("SEQ ") => Some(for_replicator(at)),
+        FaultKind::NotConstant if at.line.starts_with("SEQ ") => Some(CONSTANT_START),
         _ => None,
     }
 }

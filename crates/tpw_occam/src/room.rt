@@ -10,7 +10,7 @@ use tpw_occam_placing::Declared;
 use tpw_occam_scoped::Process;
 use tpw_occam_symbolic::CodeFault;
 
-/// The most names that are told.
+/// The most names, or lines of loops, that a fault lists.
 const MAX_NAMES: usize = 3;
 
 /// How many loops a loop may lie within.
@@ -91,6 +91,65 @@ fn needed_in_all(alloc: Global, words: Option<u32>) -> Result<String, AllocError
     }
 }
 
+/// How many loops begin on a line.
+#[derive(Clone, Copy)]
+struct OnLine {
+    line: u32,
+    count: usize,
+}
+
+/// Counts one more loop on a line.
+fn count_on(all: &mut Vec<OnLine>, line: u32) -> Result<(), AllocError> {
+    for one in all.iter_mut() {
+        if one.line == line {
+            one.count = one.count.saturating_add(1);
+            return Ok(());
+        }
+    }
+    all.push(OnLine { line, count: 1 })?;
+    Ok(())
+}
+
+/// The lines on which loops begin, from the one with the most on.
+fn lines_of_loops(alloc: Global, loops: &[CalledLoop]) -> Result<Vec<OnLine>, AllocError> {
+    let mut all = Vec::new(alloc);
+    for one in loops {
+        count_on(&mut all, one.line)?;
+    }
+    all.sort_by_key(|one| usize::MAX - one.count)?;
+    Ok(all)
+}
+
+/// How many loops there are in all, and on which lines several begin: those of a PROC begin once for each call.
+fn loops_in_all(alloc: Global, loops: &[CalledLoop]) -> Result<String, AllocError> {
+    let count = loops.len();
+    let mut said = format!(in alloc; ": {count} in all")?;
+    let lines = lines_of_loops(alloc, loops)?;
+    for (index, one) in lines.iter().take(MAX_NAMES).enumerate() {
+        let OnLine { line, count } = *one;
+        if count > 1 {
+            let of_them = if index == 0 { " of them" } else { "" };
+            let more = format!(in alloc; ", {count}{of_them} on line {line}")?;
+            said.push_str(&more)?;
+        }
+    }
+    Ok(said)
+}
+
+/// What is said of the loops of a text that has too many.
+fn said_of_loops(
+    alloc: Global,
+    loops: &[CalledLoop],
+    fault: CodeFault,
+) -> Result<String, AllocError> {
+    let calls = CallLines(calls_beyond(loops, fault));
+    let in_all = match fault {
+        CodeFault::Loops { .. } => loops_in_all(alloc, loops)?,
+        _ => String::new(alloc),
+    };
+    format!(in alloc; "{calls}{in_all}")
+}
+
 /// The calls in which the loop stands that goes beyond a limit of loops.
 fn calls_beyond(loops: &[CalledLoop], fault: CodeFault) -> &[u32] {
     let found = match fault {
@@ -126,8 +185,7 @@ pub(crate) fn said_behind(
         }
         CodeFault::Loops { .. } | CodeFault::Depth { .. } => {
             let loops = loops_of(alloc, core)?;
-            let calls = CallLines(calls_beyond(&loops, fault));
-            format!(in alloc; "{calls}")
+            said_of_loops(alloc, &loops, fault)
         }
         CodeFault::Code { line } => calls_of(alloc, core, worker.receive_line, line),
         _ => Ok(String::new(alloc)),

@@ -35,16 +35,17 @@ fn named_target<'t, 'a>(
 fn element_target<'t, 'a>(
     checker: &mut Checker<'t, 'a>,
     frame: Frame,
-    array: Name<'a>,
+    array: &'t Tree<'a>,
     subscript: &'t Tree<'a>,
     depth: u32,
 ) -> Result<Primitive, Interrupt> {
     let place = checker.subscript_at(frame, subscript);
-    let view = checker.written_view(frame.scope, array);
+    let array = checker.indexed(frame, array, Access::ReadAndWrite, depth);
     let subscript = checker.expression(frame, subscript, Some(Primitive::Int), depth);
-    let (view, subscript) = (view?, subscript?);
-    checker.check_subscript(array, view, subscript.constness, place)?;
-    checker.check_own_array(frame, view.storage, array.span)?;
+    let (array, subscript) = (array?, subscript?);
+    let (name, view) = (array.name, array.view);
+    checker.check_subscript(array, subscript.constness, place)?;
+    checker.check_own_array(frame, view.storage, name.span)?;
     checker.cells.write_array(view.storage);
     Ok(element_type(view.kind))
 }
@@ -62,10 +63,7 @@ pub(crate) fn target<'t, 'a>(
             array,
             subscript,
             ..
-        } => {
-            let array = checker.array_name(array)?;
-            element_target(checker, frame, array, subscript, depth)
-        }
+        } => element_target(checker, frame, array, subscript, depth),
         Tree::Wrong { .. } => Err(Interrupt::Reported),
         other => Err(checker.fault(span_of(other), FaultKind::VariableWanted)),
     }
@@ -103,12 +101,15 @@ fn copy<'t, 'a>(
     depth: u32,
 ) -> Result<(), Interrupt> {
     let to = checker.written_view(frame.scope, target)?;
+    let to = checker.all_of(to, target.span)?;
     checker.check_own_array(frame, to.storage, target.span)?;
     let shape = Shape {
         kind: to.kind,
         elements: Some(to.elements),
+        row: to.row.map(|row| Some(row)),
     };
     let from = checker.array(frame, value, shape, depth)?;
+    let from = checker.all_of(from, span_of(value))?;
     checker.cells.write_array(to.storage);
     checker.cells.read_array(from.storage);
     Ok(())

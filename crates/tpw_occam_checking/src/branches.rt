@@ -14,6 +14,20 @@ pub(crate) struct Guard {
     pub(crate) is_odd: bool,
 }
 
+impl Guard {
+    /// The guard, tried in turns of which there may be none: that it always holds says nothing then.
+    pub(crate) fn within_turns(self) -> Guard {
+        let truth = match self.truth {
+            Some(false) => Some(false),
+            _ => None,
+        };
+        Guard {
+            truth,
+            is_odd: self.is_odd,
+        }
+    }
+}
+
 /// A guard that always holds, and whether that may not be meant.
 #[derive(Clone, Copy)]
 struct Closing {

@@ -8,10 +8,10 @@ use tpw_occam_meaning::{
     Declaration, Expression as Tree, Expressions, Names, Parameters, Primitives, Process, Type,
     ValueProcess,
 };
-use tpw_occam_terms::{Name, Primitive};
+use tpw_occam_terms::{Name, Primitive, Span};
 use tpw_occam_typing::{
-    Access, Callee, Checker, Constness, Frame, MAX_DEPTH, Meaning, Point, Root, Shape, Size,
-    Storage, Value, View, bare, bytes_of, is_table, levels_within, or_else, size_of, span_of,
+    Access, Callee, Checker, Constness, Frame, MAX_DEPTH, Meaning, Passed, Point, Root, Shape,
+    Size, Storage, Value, View, bare, bytes_of, is_table, levels_within, or_else, size_of, span_of,
 };
 
 /// Where declarations stand.
@@ -75,7 +75,7 @@ fn put<'t, 'a>(
     name: Name<'a>,
     made: Made<'t, 'a>,
 ) -> Result<Declared, Interrupt> {
-    checker.count(declared.frame, name.span)?;
+    checker.count_name(declared.frame, name)?;
     let scope = checker.declare(declared.frame.scope, name, made.meaning)?;
     Ok(Declared {
         frame: declared.frame.with_scope(scope),
@@ -102,6 +102,7 @@ fn named_value<'t, 'a>(
     name: Name<'a>,
     e: &Tree<'a>,
     value: Value,
+    most: Option<u32>,
     level: Level,
 ) -> Result<Made<'t, 'a>, Interrupt> {
     let of = value.of;
@@ -118,31 +119,58 @@ fn named_value<'t, 'a>(
             Ok(unbound(Meaning::Value {
                 of,
                 root: Root::Made,
+                most,
             }))
         }
         (Constness::Computed, Level::Process) => Ok(Made {
             meaning: Meaning::Value {
                 of,
                 root: Root::Named,
+                most,
             },
             is_bound: true,
         }),
     }
 }
 
-/// An array or a table of a shape, which is not written to under its name.
+/// The binding of another name. In front of the worker's SEQ the subscript of an element, or of a row, is worked out at
+/// once; outside of PROCs it is a constant.
+fn other_name<'t, 'a>(
+    checker: &mut Checker<'t, 'a>,
+    name: Name<'a>,
+    e: &Tree<'a>,
+    passed: Passed<'t, 'a>,
+    level: Level,
+) -> Result<Made<'t, 'a>, Interrupt> {
+    if passed.is_bound && level == Level::Text {
+        return Err(checker.fault(span_of(e), FaultKind::NotConstant));
+    }
+    if passed.is_bound && level == Level::Worker {
+        let kind = NoteKind::BeforePacket { name: name.text };
+        checker.findings.note(name.span, kind)?;
+    }
+    Ok(Made {
+        meaning: passed.meaning,
+        is_bound: passed.is_bound,
+    })
+}
+
+/// An array or a table of a shape, or a row of one, which is not written to under its name.
 fn named_array<'t, 'a>(
     checker: &mut Checker<'t, 'a>,
-    frame: Frame,
+    declared: Declared,
+    name: Name<'a>,
     e: &'t Tree<'a>,
     shape: Shape,
+    level: Level,
 ) -> Result<Made<'t, 'a>, Interrupt> {
-    let view = checker.array(frame, e, shape, MAX_DEPTH)?;
-    checker.cells.read_array(view.storage);
-    Ok(unbound(Meaning::Array(View {
-        access: Access::Read,
-        ..view
-    })))
+    let depth = match bare(e) {
+        Tree::Element { .. } => declared.levels(level),
+        _ => MAX_DEPTH,
+    };
+    let view = checker.array(declared.frame, e, shape, depth)?;
+    let passed = checker.passed_array(e, view, Access::Read);
+    other_name(checker, name, e, passed, level)
 }
 
 /// The kind of the elements of a list: that of its first constant.
@@ -171,6 +199,7 @@ fn shape_of_table<'t, 'a>(
     Ok(Shape {
         kind,
         elements: None,
+        row: None,
     })
 }
 
@@ -184,7 +213,8 @@ fn single<'t, 'a>(
     level: Level,
 ) -> Result<Made<'t, 'a>, Interrupt> {
     let value = checker.expression(declared.frame, e, of, declared.levels(level))?;
-    named_value(checker, name, e, value, level)
+    let most = checker.most_of(declared.frame.scope, e);
+    named_value(checker, name, e, value, most, level)
 }
 
 /// The binding of a name by `VAL n IS e`.
@@ -200,7 +230,7 @@ fn value<'t, 'a>(
     match of {
         None if is_table(e) => {
             let shape = shape_of_table(checker, frame, e)?;
-            named_array(checker, frame, e, shape)
+            named_array(checker, declared, name, e, shape, level)
         }
         None => single(checker, declared, None, name, e, level),
         Some(of) if matches!(size_of(of), Size::One) => {
@@ -208,7 +238,7 @@ fn value<'t, 'a>(
         }
         Some(of) => {
             let shape = checker.shape(frame, of, name.span)?;
-            named_array(checker, frame, e, shape)
+            named_array(checker, declared, name, e, shape, level)
         }
     }
 }
@@ -222,12 +252,19 @@ fn variable_array<'t, 'a>(
     let Some(elements) = shape.elements else {
         return Err(checker.fault(name.span, FaultKind::NoSize));
     };
+    let row = match shape.row {
+        None => None,
+        Some(Some(row)) => Some(row),
+        Some(None) => return Err(checker.fault(name.span, FaultKind::NoSize)),
+    };
     let array = checker.cells.add(name)?;
     Ok(Made {
         meaning: Meaning::Array(View {
             storage: Storage::Array(array),
             kind: shape.kind,
             elements,
+            row,
+            front: None,
             access: Access::ReadAndWrite,
         }),
         is_bound: true,
@@ -313,8 +350,9 @@ fn retyped<'t, 'a>(
     array: Name<'a>,
 ) -> Result<Made<'t, 'a>, Interrupt> {
     let view = checker.view_of(frame.scope, array)?;
+    let view = checker.all_of(view, array.span)?;
     let shape = checker.shape(frame, of, name.span)?;
-    let bytes = bytes_of(view.kind, view.elements);
+    let bytes = bytes_of(view.kind, view.all_elements());
     let elements = match shape.kind {
         Kind::Word if bytes % 4 == 0 => bytes / 4,
         Kind::Word => return Err(checker.fault(array.span, FaultKind::NoWords { bytes })),
@@ -323,14 +361,35 @@ fn retyped<'t, 'a>(
     let view = View {
         kind: shape.kind,
         elements: u32::try_from(elements).unwrap_or(u32::MAX),
+        row: None,
         ..view
     };
+    let view = in_rows(checker, view, shape, name.span)?;
     let view = checker.of_shape(view, shape, name.span)?;
     Ok(unbound(Meaning::Array(view)))
 }
 
-/// Another name for a variable, an element or an array. In front of the worker's SEQ an element's subscript is worked
-/// out at once.
+/// An array in rows, where rows are wanted.
+fn in_rows<'t, 'a>(
+    checker: &mut Checker<'t, 'a>,
+    view: View,
+    shape: Shape,
+    span: Span,
+) -> Result<View, Interrupt> {
+    let row = match shape.row {
+        None => return Ok(view),
+        Some(Some(row)) => row,
+        Some(None) => return Err(checker.fault(span, FaultKind::NoSize)),
+    };
+    let rows = view.in_rows(row);
+    if rows.all_elements() == view.elements {
+        return Ok(rows);
+    }
+    let elements = view.elements;
+    Err(checker.fault(span, FaultKind::NoRows { elements, row }))
+}
+
+/// Another name for a variable, an element or an array.
 fn abbreviation<'t, 'a>(
     checker: &mut Checker<'t, 'a>,
     declared: Declared,
@@ -341,14 +400,7 @@ fn abbreviation<'t, 'a>(
 ) -> Result<Made<'t, 'a>, Interrupt> {
     let depth = declared.levels(level);
     let passed = checker.other_name(declared.frame, of, name, e, depth)?;
-    if passed.is_bound && level == Level::Worker {
-        let kind = NoteKind::BeforePacket { name: name.text };
-        checker.findings.note(name.span, kind)?;
-    }
-    Ok(Made {
-        meaning: passed.meaning,
-        is_bound: passed.is_bound,
-    })
+    other_name(checker, name, e, passed, level)
 }
 
 /// A PROC: its parameters, its body and its scope.

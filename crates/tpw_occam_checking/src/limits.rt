@@ -20,5 +20,11 @@ pub(crate) const MAX_GUARDS: usize = 2_000;
 /// The most bytes of all traces of a packet.
 pub(crate) const MAX_TRACED: u64 = 256;
 
+/// How deep a turn lies within a loop whose count is no constant: within its name, and within a guard.
+pub(crate) const LEVELS_OF_COUNT: usize = 2;
+
+/// How deep guards and choices lie behind a search: within its two words, and its two processes.
+pub(crate) const LEVELS_OF_SEARCH: usize = 4;
+
 /// The most turns of a replicated SEQ.
 pub(crate) const MAX_TURNS: u32 = 10_000;

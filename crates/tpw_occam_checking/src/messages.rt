@@ -4,7 +4,9 @@ use tpw_occam_core::Kind;
 use tpw_occam_faults::{FaultKind, Interrupt};
 use tpw_occam_meaning::Expression as Tree;
 use tpw_occam_terms::{Name, Primitive};
-use tpw_occam_typing::{Channel, Checker, Frame, Protocol, Root, Shape, Storage, bytes_of};
+use tpw_occam_typing::{
+    Channel, Checker, Frame, Protocol, Root, Shape, Storage, bytes_of, span_of,
+};
 
 /// The value or array of a message.
 #[derive(Clone, Copy)]
@@ -30,8 +32,10 @@ pub(crate) fn sent_by<'t, 'a>(
             let shape = Shape {
                 kind,
                 elements: Some(elements),
+                row: None,
             };
             let view = checker.array(frame, e, shape, depth)?;
+            let view = checker.all_of(view, span_of(e))?;
             checker.cells.read_array(view.storage);
             Ok(Message::Array(view.storage))
         }

@@ -2,21 +2,23 @@
 //!
 //! `depth` counts down with each process that lies within another, inlined calls among them.
 
-use crate::branches::Branches;
+use crate::branches::{Branches, Guard};
 use crate::choices::{Seen, Selector, case_guard, chosen_by, guard};
 use crate::declarations::{Declared, Level, declare};
 use crate::functions::assigned;
-use crate::limits::{MAX_GUARDS, MAX_TURNS, halves};
+use crate::limits::{LEVELS_OF_COUNT, LEVELS_OF_SEARCH, MAX_GUARDS, MAX_TURNS, halves};
 use crate::messages::trace;
-use crate::trees::{cases_of, guards_of, has_else, place_of, steps_of};
+use crate::trees::{cases_of, guards_of, has_else, only, place_of, steps_of};
 use std::alloc::AllocError;
 use tpw_occam_faults::{FaultKind, Interrupt, Limit, NoteKind, Use};
 use tpw_occam_meaning::{
     Cases, Choices, Expression as Tree, Expressions, Process as Written, Processes,
 };
+use tpw_occam_names::is_assert;
 use tpw_occam_terms::{Name, Primitive, Span};
 use tpw_occam_typing::{
-    Checker, Frame, MOST_POSITIVE, Meaning, Root, levels_within, recovered, span_of,
+    Checker, Count, Frame, MOST_POSITIVE, Meaning, Root, count_of, levels_within, recovered,
+    span_of,
 };
 
 /// Whether the last of this many indices from one on is no INT.
@@ -24,11 +26,22 @@ fn is_beyond(first: u32, turns: u32) -> bool {
     turns > 0 && turns - 1 > MOST_POSITIVE.wrapping_sub(first)
 }
 
-/// The turns of a replicated SEQ.
+/// The turns of a replicated SEQ: the first index, and how many there are, or may be at the most.
 #[derive(Clone, Copy)]
 struct Turns {
     first: u32,
-    count: u32,
+    count: Count,
+}
+
+impl Turns {
+    /// How many turns are made in any case.
+    fn least(self) -> u32 {
+        if self.count.is_bound {
+            0
+        } else {
+            self.count.most
+        }
+    }
 }
 
 /// The turns of a replicated SEQ, whose last index is an INT.
@@ -37,23 +50,48 @@ fn check_turns<'t, 'a>(
     frame: Frame,
     start: &'t Tree<'a>,
     count: &'t Tree<'a>,
+    depth: u32,
 ) -> Result<Turns, Interrupt> {
     let first = checker.constant(frame, start, Primitive::Int);
-    let turns = checker.constant(frame, count, Primitive::Int);
+    let turns = checker.turns(frame, count, depth);
     let (first, turns) = (first?, turns?);
-    if turns > MAX_TURNS {
+    limited(checker, first, turns, span_of(count))
+}
+
+/// The turns of a search, which are constant.
+fn check_constant_turns<'t, 'a>(
+    checker: &mut Checker<'t, 'a>,
+    frame: Frame,
+    start: &'t Tree<'a>,
+    count: &'t Tree<'a>,
+) -> Result<Turns, Interrupt> {
+    let first = checker.constant(frame, start, Primitive::Int);
+    let most = checker.constant(frame, count, Primitive::Int);
+    let (first, most) = (first?, most?);
+    let turns = Count {
+        most,
+        is_bound: false,
+    };
+    limited(checker, first, turns, span_of(count))
+}
+
+/// Turns, of which there are not too many, and whose last index is an INT.
+fn limited(
+    checker: &mut Checker<'_, '_>,
+    first: u32,
+    count: Count,
+    span: Span,
+) -> Result<Turns, Interrupt> {
+    if count.most > MAX_TURNS {
         let kind = FaultKind::Turns {
-            count: i64::from(turns.cast_signed()),
+            count: i64::from(count.most.cast_signed()),
         };
-        return Err(checker.fault(span_of(count), kind));
+        return Err(checker.fault(span, kind));
     }
-    if is_beyond(first, turns) {
-        return Err(checker.fault(span_of(count), FaultKind::LastIndex));
+    if is_beyond(first, count.most) {
+        return Err(checker.fault(span, FaultKind::LastIndex));
     }
-    Ok(Turns {
-        first,
-        count: turns,
-    })
+    Ok(Turns { first, count })
 }
 
 /// The frame of the body of a replicated SEQ, with its index; where there may be no turn, it may not be done.
@@ -64,15 +102,17 @@ fn turn<'t, 'a>(
     turns: Result<Turns, Interrupt>,
 ) -> Result<Frame, AllocError> {
     let (around, meaning) = match turns {
-        Ok(turns) if turns.count > 0 => {
-            let last = turns.first.wrapping_add(turns.count - 1);
+        Ok(turns) if turns.count.most > 0 => {
+            let last = turns.first.wrapping_add(turns.count.most - 1);
             let meaning = frame.index(turns.first.cast_signed(), last.cast_signed());
-            (frame, meaning)
+            let is_done = turns.least() > 0;
+            (if is_done { frame } else { frame.in_choice() }, meaning)
         }
         _ => {
             let meaning = Meaning::Value {
                 of: Primitive::Int,
                 root: Root::Named,
+                most: None,
             };
             (frame.in_choice(), meaning)
         }
@@ -141,11 +181,13 @@ fn replicated<'t, 'a>(
     list: &'t Processes<'a>,
     depth: u32,
 ) -> Result<(), Interrupt> {
-    let turns = check_turns(checker, frame, start, count);
+    let turns = check_turns(checker, frame, start, count, depth);
     let within = turn(checker, frame, index, turns)?;
     let before = checker.traced;
+    let is_bound = matches!(turns, Ok(turns) if turns.count.is_bound);
+    let depth = levels_within(depth, if is_bound { LEVELS_OF_COUNT } else { 0 });
     let body = steps(checker, within, list, steps_of(list), depth);
-    checker.traced = traced_by(before, checker.traced, turns?.count);
+    checker.traced = traced_by(before, checker.traced, turns?.least());
     body
 }
 
@@ -158,40 +200,130 @@ fn behind_guards(frame: Frame, others: usize) -> Frame {
     }
 }
 
+/// A guard and what is behind it, in frames of their own; the guard, where both are right.
+#[cycle(process)]
+fn guarded<'t, 'a>(
+    checker: &mut Checker<'t, 'a>,
+    frames: (Frame, Frame),
+    e: &'t Tree<'a>,
+    p: &'t Written<'a>,
+    depth: u32,
+) -> Result<(Option<Guard>, bool), Interrupt> {
+    let made = guard(checker, frames.0, e, depth);
+    let body = process(checker, frames.1, p, depth);
+    let (made, body) = (recovered(made)?, recovered(body)?);
+    Ok((made, made.is_some() && body.is_some()))
+}
+
+/// The guards below an IF with a replicator. None is always reached.
+#[cycle(process)]
+fn searched<'t, 'a>(
+    checker: &mut Checker<'t, 'a>,
+    frame: Frame,
+    guards: &'t Choices<'a>,
+    branches: &mut Branches,
+    depth: u32,
+) -> Result<bool, Interrupt> {
+    let mut is_whole = true;
+    let mut index: usize = 0;
+    let mut rest = guards;
+    while let Choices::More(e, p, more) = rest {
+        let depth = levels_within(depth, index);
+        let noted = checker.findings.notes.len();
+        let (made, is_right) = guarded(checker, (frame, frame), e, p, depth)?;
+        if let Some(guard) = made {
+            branches.end_guarded(checker, guard.within_turns(), span_of(e), noted)?;
+        }
+        is_whole = is_whole && is_right;
+        index = index.saturating_add(1);
+        rest = more;
+    }
+    Ok(is_whole)
+}
+
+/// `IF i = s FOR n` as a choice: its turns, and the guards below it.
+#[cycle(process)]
+fn search<'t, 'a>(
+    checker: &mut Checker<'t, 'a>,
+    frame: Frame,
+    replicator: (Name<'a>, &'t Tree<'a>, &'t Tree<'a>),
+    guards: &'t Choices<'a>,
+    branches: &mut Branches,
+    depth: u32,
+) -> Result<bool, Interrupt> {
+    let (index, start, count) = replicator;
+    let turns = check_constant_turns(checker, frame, start, count);
+    let within = turn(checker, frame.in_choice(), index, turns)?;
+    let turns = recovered(turns)?;
+    let depth = levels_within(depth, LEVELS_OF_SEARCH);
+    let is_whole = searched(checker, within.in_choice(), guards, branches, depth)?;
+    Ok(is_whole && turns.is_some())
+}
+
+/// The choices of an IF; whether all are right.
+#[cycle(process)]
+fn choices<'t, 'a>(
+    checker: &mut Checker<'t, 'a>,
+    frame: Frame,
+    list: &'t Choices<'a>,
+    branches: &mut Branches,
+    depth: u32,
+) -> Result<bool, Interrupt> {
+    let mut is_whole = true;
+    let mut index: usize = 0;
+    let mut rest = list;
+    loop {
+        let depth = levels_within(depth, index);
+        match rest {
+            Choices::End => return Ok(is_whole),
+            Choices::More(e, p, more) => {
+                rest = more;
+                let noted = checker.findings.notes.len();
+                let frames = (behind_guards(frame, index), frame.in_choice());
+                let (made, is_right) = guarded(checker, frames, e, p, depth)?;
+                if let Some(guard) = made {
+                    branches.end_guarded(checker, guard, span_of(e), noted)?;
+                }
+                is_whole = is_whole && is_right;
+                index = index.saturating_add(1);
+            }
+            Choices::Search {
+                index: name,
+                start,
+                count,
+                guards,
+                more,
+            } => {
+                rest = more;
+                let replicator = (*name, start, count);
+                let is_right = search(checker, frame, replicator, guards, branches, depth)?;
+                is_whole = is_whole && is_right;
+                index = index
+                    .saturating_add(guards_of(guards))
+                    .saturating_add(LEVELS_OF_SEARCH);
+            }
+        }
+    }
+}
+
 /// IF.
 #[cycle(process)]
 fn choice<'t, 'a>(
     checker: &mut Checker<'t, 'a>,
     frame: Frame,
-    choices: &'t Choices<'a>,
+    list: &'t Choices<'a>,
     span: Span,
     depth: u32,
 ) -> Result<(), Interrupt> {
-    if guards_of(choices) > MAX_GUARDS {
+    if guards_of(list) > MAX_GUARDS {
         return Err(checker.limit(frame, span, Limit::Guards));
     }
     let mut branches = Branches::new(checker.traced);
-    let mut is_whole = true;
-    let mut index: usize = 0;
-    let mut rest = choices;
-    while let Choices::More(e, p, more) = rest {
-        let depth = levels_within(depth, index);
-        let noted = checker.findings.notes.len();
-        let made = guard(checker, behind_guards(frame, index), e, depth);
-        let body = process(checker, frame.in_choice(), p, depth);
-        let (made, body) = (recovered(made)?, recovered(body)?);
-        if let Some(guard) = made {
-            branches.end_guarded(checker, guard, span_of(e), noted)?;
-        }
-        is_whole = is_whole && made.is_some() && body.is_some();
-        index = index.saturating_add(1);
-        rest = more;
-    }
-    if !is_whole {
+    if !choices(checker, frame, list, &mut branches, depth)? {
         return Err(Interrupt::Reported);
     }
     branches.end(checker, branches.is_closed());
-    if index > 0 && !branches.is_closed() {
+    if !matches!(*list, Choices::End) && !branches.is_closed() {
         checker.findings.note(span, NoteKind::NoGuard)?;
     }
     Ok(())
@@ -290,6 +422,22 @@ fn case<'t, 'a>(
     all_cases(checker, frame, selected, cases, span, depth)
 }
 
+/// `ASSERT (b)`.
+fn assertion<'t, 'a>(
+    checker: &mut Checker<'t, 'a>,
+    frame: Frame,
+    name: Name<'a>,
+    arguments: &'t Expressions<'a>,
+    depth: u32,
+) -> Result<(), Interrupt> {
+    let Some(e) = only(arguments) else {
+        let found = count_of(arguments);
+        return Err(checker.fault(name.span, FaultKind::AssertArguments { found }));
+    };
+    checker.expression(frame, e, Some(Primitive::Bool), depth)?;
+    Ok(())
+}
+
 /// `p (e, ..)`: the PROC's body, with its parameters bound.
 #[cycle(process)]
 fn procedure_call<'t, 'a>(
@@ -299,6 +447,9 @@ fn procedure_call<'t, 'a>(
     arguments: &'t Expressions<'a>,
     depth: u32,
 ) -> Result<(), Interrupt> {
+    if is_assert(name.text) && !checker.is_declared(frame.scope, name) {
+        return assertion(checker, frame, name, arguments, depth);
+    }
     let entry = checker.find(frame.scope, name)?;
     let Meaning::Procedure {
         signature,

@@ -103,15 +103,23 @@ pub(crate) fn last_step<'t, 'a>(steps: &'t Processes<'a>) -> Option<&'t Process<
     last
 }
 
-/// How many guards an IF has.
+/// How many guards an IF has, with those below an IF with a replicator.
 pub(crate) fn guards_of(choices: &Choices<'_>) -> usize {
     let mut count: usize = 0;
     let mut rest = choices;
-    while let Choices::More(_, _, more) = rest {
-        count = count.saturating_add(1);
-        rest = more;
+    loop {
+        match rest {
+            Choices::End => return count,
+            Choices::More(_, _, more) => {
+                count = count.saturating_add(1);
+                rest = more;
+            }
+            Choices::Search { guards, more, .. } => {
+                count = count.saturating_add(guards_of(guards));
+                rest = more;
+            }
+        }
     }
-    count
 }
 
 /// How many choices a CASE has, with ELSE.

@@ -12,7 +12,7 @@ use tpw_occam_meaning::{
     Processes, Sizes, Source, ValueProcess,
 };
 use tpw_occam_terms::{Name, Span};
-use tpw_occam_typing::{bare, span_of};
+use tpw_occam_typing::{array_of, bare, span_of};
 
 /// How deep processes and expressions lie within one another, at the most.
 const MAX_LEVELS: u32 = 2_000;
@@ -21,10 +21,7 @@ const MAX_LEVELS: u32 = 2_000;
 fn written_name<'a>(e: &Expression<'a>) -> Option<(Name<'a>, bool)> {
     match bare(e) {
         Expression::Name(name) => Some((*name, true)),
-        Expression::Element { array, .. } => match bare(array) {
-            Expression::Name(name) => Some((*name, false)),
-            _ => None,
-        },
+        Expression::Element { array, .. } => Some((array_of(array)?, false)),
         _ => None,
     }
 }
@@ -296,13 +293,34 @@ fn choices<'t, 'a>(
 ) -> Result<(), AllocError> {
     let is_empty = matches!(*all, Choices::End);
     note_empty(usage, is_empty, Construct::Choice, span)?;
-    let mut rest = all;
-    while let Choices::More(guard, behind, more) = rest {
-        expression(usage, scope, guard, MAX_LEVELS);
-        process(alloc, usage, scope, behind, depth)?;
-        rest = more;
+    if depth == 0 {
+        usage.end();
+        return Ok(());
     }
-    Ok(())
+    let mut rest = all;
+    loop {
+        match rest {
+            Choices::End => return Ok(()),
+            Choices::More(guard, behind, more) => {
+                expression(usage, scope, guard, MAX_LEVELS);
+                process(alloc, usage, scope, behind, depth)?;
+                rest = more;
+            }
+            Choices::Search {
+                index,
+                start,
+                count,
+                guards,
+                more,
+            } => {
+                expression(usage, scope, start, MAX_LEVELS);
+                expression(usage, scope, count, MAX_LEVELS);
+                let within = usage.declare(scope, *index, None, Places::NONE)?;
+                choices(alloc, usage, within, guards, index.span, depth - 1)?;
+                rest = more;
+            }
+        }
+    }
 }
 
 /// The choices of a CASE.

@@ -11,7 +11,7 @@ use crate::worker::worker;
 use std::alloc::{AllocError, Global};
 use tpw_occam_faults::{FIRST, Fault, FaultKind, Interrupt, Note, reported_faults, reported_notes};
 use tpw_occam_meaning::{Declaration, Declarations, Source};
-use tpw_occam_terms::Fault as Misread;
+use tpw_occam_terms::{Fault as Misread, Span};
 use tpw_occam_typing::{Checker, Frame, MAX_DEPTH, recovered};
 
 /// Why a text has no worker.
@@ -63,6 +63,14 @@ fn others<'t, 'a>(
     Ok(declared.frame)
 }
 
+/// Where a worker is wanted in place of a declaration: at its name, where that is one of the text.
+fn worker_place(declaration: &Declaration<'_>) -> Span {
+    match declared_place(declaration) {
+        Some(place) if !place.is_predefined() => place,
+        _ => FIRST,
+    }
+}
+
 /// The last declaration, which is the worker's.
 fn check_last<'t, 'a>(
     checker: &mut Checker<'t, 'a>,
@@ -75,10 +83,7 @@ fn check_last<'t, 'a>(
             parameters,
             body,
         } => worker(checker, frame, *name, parameters, body),
-        other => {
-            let place = declared_place(other).unwrap_or(FIRST);
-            Err(checker.fault(place, FaultKind::NoWorker))
-        }
+        other => Err(checker.fault(worker_place(other), FaultKind::NoWorker)),
     }
 }
 

@@ -105,6 +105,7 @@ fn received_array<'t, 'a>(
         return Err(checker.fault(span_of(e), FaultKind::ArrayWanted));
     };
     let view = checker.written_view(frame.scope, name)?;
+    let view = checker.all_of(view, name.span)?;
     let view = checker.of_shape(view, shape, name.span)?;
     checker.cells.write_array(view.storage);
     Ok(())
@@ -138,6 +139,7 @@ fn received<'t, 'a>(
             let shape = Shape {
                 kind,
                 elements: Some(elements),
+                row: None,
             };
             received_array(checker, frame, target, shape)
         }

@@ -10,10 +10,18 @@ pub enum EntityKind {
     Value(Primitive),
     /// A variable, or another name for one or for an element.
     Variable(Primitive),
-    /// An array that may be assigned to.
-    Array { of: Primitive, elements: u32 },
+    /// An array that may be assigned to, of rows of this many elements where it has two dimensions.
+    Array {
+        of: Primitive,
+        elements: u32,
+        row: Option<u32>,
+    },
     /// A table, or an array under a name by which it is not written to.
-    Table { of: Primitive, elements: u32 },
+    Table {
+        of: Primitive,
+        elements: u32,
+        row: Option<u32>,
+    },
     Procedure,
     Function,
     Channel,
@@ -38,6 +46,14 @@ pub enum Use {
     Channel,
 }
 
+/// An array that takes a subscript: its name, or that of the array of which it is a row; and how many elements it has.
+#[derive(Clone, Copy, Debug, PartialEq, Eq)]
+pub struct Extent<'a> {
+    pub name: &'a str,
+    pub is_row: bool,
+    pub elements: u32,
+}
+
 /// A type with its article.
 pub(crate) fn with_article(of: Primitive) -> &'static str {
     match of {
@@ -56,6 +72,20 @@ pub(crate) fn keyword(of: Primitive) -> &'static str {
     }
 }
 
+/// The type of an array.
+fn write_type<W: fmt::Write>(
+    f: &mut fmt::Formatter<W>,
+    of: Primitive,
+    elements: u32,
+    row: Option<u32>,
+) -> fmt::Result {
+    let of = keyword(of);
+    match row {
+        None => write!(f, "[{elements}]{of}"),
+        Some(row) => write!(f, "[{elements}][{row}]{of}"),
+    }
+}
+
 impl fmt::Display for EntityKind {
     fn fmt<W: fmt::Write>(&self, f: &mut fmt::Formatter<W>) -> fmt::Result {
         match self {
@@ -64,17 +94,29 @@ impl fmt::Display for EntityKind {
                 write!(f, "{of} that is not assigned to")
             }
             EntityKind::Variable(of) => f.write_str(with_article(*of)),
-            EntityKind::Array { of, elements } => {
-                let of = keyword(*of);
-                write!(f, "an array [{elements}]{of}")
+            EntityKind::Array { of, elements, row } => {
+                f.write_str("an array ")?;
+                write_type(f, *of, *elements, *row)
             }
-            EntityKind::Table { of, elements } => {
-                let of = keyword(*of);
-                write!(f, "a table [{elements}]{of}, which is not assigned to")
+            EntityKind::Table { of, elements, row } => {
+                f.write_str("a table ")?;
+                write_type(f, *of, *elements, *row)?;
+                f.write_str(", which is not assigned to")
             }
             EntityKind::Procedure => f.write_str("a PROC"),
             EntityKind::Function => f.write_str("a FUNCTION"),
             EntityKind::Channel => f.write_str("a channel"),
+        }
+    }
+}
+
+impl fmt::Display for Extent<'_> {
+    fn fmt<W: fmt::Write>(&self, f: &mut fmt::Formatter<W>) -> fmt::Result {
+        let name = self.name;
+        if self.is_row {
+            write!(f, "a row of `{name}`")
+        } else {
+            write!(f, "`{name}`")
         }
     }
 }

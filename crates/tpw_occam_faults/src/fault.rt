@@ -1,6 +1,6 @@
 //! The faults of a text.
 
-use crate::entity::{EntityKind, Use, keyword, with_article};
+use crate::entity::{EntityKind, Extent, Use, keyword, with_article};
 use std::fmt;
 use tpw_occam_terms::{Primitive, Span};
 
@@ -15,6 +15,13 @@ pub enum Limit {
     Depth,
     /// Guards of an IF, or constants of a CASE.
     Guards,
+}
+
+/// The dimensions of an array.
+#[derive(Clone, Copy, Debug, PartialEq, Eq)]
+pub enum Dimensions {
+    One,
+    Two,
 }
 
 /// The kind of a fault.
@@ -59,6 +66,8 @@ pub enum FaultKind<'a> {
     },
     /// A constant is wanted.
     NotConstant,
+    /// A count of turns is wanted that is a constant, or whose form shows the most that it may be.
+    NoMost,
     /// A constant sets the error flag.
     SetsFlag,
     /// A table stands where a value is wanted.
@@ -77,11 +86,31 @@ pub enum FaultKind<'a> {
         wanted: u32,
         found: u32,
     },
+    /// An array has rows of another size.
+    RowSize {
+        wanted: u32,
+        found: u32,
+    },
+    /// An array has another number of dimensions.
+    Dimensions {
+        wanted: Dimensions,
+    },
+    /// An array with another number of subscripts than it has dimensions.
+    Subscripts {
+        name: &'a str,
+        has: Dimensions,
+    },
+    /// So many elements are no whole number of rows.
+    NoRows {
+        elements: u32,
+        row: u32,
+    },
+    /// A row, or another part of an array, where one is wanted that is declared, and all of it.
+    PartHere,
     /// A constant subscript that is not below the size of its array.
     Subscript {
-        name: &'a str,
+        of: Extent<'a>,
         at: i32,
-        elements: u32,
     },
     /// An array that is declared has this many elements, of so many bytes.
     ArraySize {
@@ -101,6 +130,10 @@ pub enum FaultKind<'a> {
         name: &'a str,
         declared: Span,
         wanted: usize,
+        found: usize,
+    },
+    /// ASSERT with another number of arguments than one.
+    AssertArguments {
         found: usize,
     },
     /// A parameter of a FUNCTION that is not VAL.
@@ -201,8 +234,12 @@ impl FaultKind<'_> {
                 | FaultKind::ArrayWanted
                 | FaultKind::VariableWanted
                 | FaultKind::Elements { .. }
+                | FaultKind::Dimensions { .. }
+                | FaultKind::Subscripts { .. }
+                | FaultKind::PartHere
                 | FaultKind::BoolElements
                 | FaultKind::Arguments { .. }
+                | FaultKind::AssertArguments { .. }
                 | FaultKind::NotVal { .. }
                 | FaultKind::NotAlone { .. }
                 | FaultKind::Results { .. }
@@ -247,6 +284,24 @@ fn write_limit<W: fmt::Write>(
     }
 }
 
+/// A name with the line of its declaration, where it stands in the text: `x`, of line 3,
+#[derive(Clone, Copy)]
+struct OfLine<'a> {
+    name: &'a str,
+    declared: Span,
+}
+
+impl fmt::Display for OfLine<'_> {
+    fn fmt<W: fmt::Write>(&self, f: &mut fmt::Formatter<W>) -> fmt::Result {
+        let OfLine { name, declared } = *self;
+        if declared.is_predefined() {
+            return write!(f, "`{name}`, which is predefined,");
+        }
+        let line = declared.line;
+        write!(f, "`{name}`, of line {line},")
+    }
+}
+
 /// That a name is used as what it is not.
 fn write_not_a<W: fmt::Write>(
     f: &mut fmt::Formatter<W>,
@@ -255,11 +310,8 @@ fn write_not_a<W: fmt::Write>(
     found: EntityKind,
     wanted: Use,
 ) -> fmt::Result {
-    let line = declared.line;
-    write!(
-        f,
-        "`{name}`, of line {line}, is {found}; {wanted} is wanted here"
-    )
+    let it = OfLine { name, declared };
+    write!(f, "{it} is {found}; {wanted} is wanted here")
 }
 
 /// That a name is declared, and not seen here.
@@ -269,8 +321,8 @@ fn write_out_of_scope<W: fmt::Write>(
     declared: Span,
     is_called: bool,
 ) -> fmt::Result {
-    let line = declared.line;
-    write!(f, "`{name}`, of line {line}, is not in scope here: ")?;
+    let it = OfLine { name, declared };
+    write!(f, "{it} is not in scope here: ")?;
     f.write_str(if is_called {
         "a PROC or a FUNCTION has the names of where it is declared, and may not call itself"
     } else {
@@ -314,12 +366,9 @@ fn write_arguments<W: fmt::Write>(
     wanted: usize,
     found: usize,
 ) -> fmt::Result {
-    let line = declared.line;
+    let it = OfLine { name, declared };
     let plural = if wanted == 1 { "" } else { "s" };
-    write!(
-        f,
-        "`{name}`, of line {line}, takes {wanted} argument{plural}, not {found}"
-    )
+    write!(f, "{it} takes {wanted} argument{plural}, not {found}")
 }
 
 /// How many results there are.
@@ -332,10 +381,10 @@ fn write_count<W: fmt::Write>(f: &mut fmt::Formatter<W>, count: usize) -> fmt::R
 fn write_function<W: fmt::Write>(f: &mut fmt::Formatter<W>, kind: FaultKind<'_>) -> fmt::Result {
     match kind {
         FaultKind::NotAlone { name, declared } => {
-            let line = declared.line;
+            let it = OfLine { name, declared };
             write!(
                 f,
-                "`{name}`, of line {line}, has a body: call it alone behind :=, as in x := {name} (..), and use x here"
+                "{it} has a body: call it alone behind :=, as in x := {name} (..), and use x here"
             )
         }
         FaultKind::Results {
@@ -344,8 +393,8 @@ fn write_function<W: fmt::Write>(f: &mut fmt::Formatter<W>, kind: FaultKind<'_>)
             wanted,
             found,
         } => {
-            let line = declared.line;
-            write!(f, "`{name}`, of line {line}, gives ")?;
+            let it = OfLine { name, declared };
+            write!(f, "{it} gives ")?;
             write_count(f, found)?;
             write!(
                 f,
@@ -390,10 +439,36 @@ fn write_array<W: fmt::Write>(f: &mut fmt::Formatter<W>, kind: FaultKind<'_>) ->
         FaultKind::Size { wanted, found } => {
             write!(f, "its size is {found}, and {wanted} is wanted")
         }
-        FaultKind::Subscript { name, at, elements } => {
+        FaultKind::RowSize { wanted, found } => {
+            write!(f, "its rows have {found} elements, and {wanted} are wanted")
+        }
+        FaultKind::NoRows { elements, row } => {
             write!(
                 f,
-                "{at} is no subscript of `{name}`, which has {elements} elements"
+                "{elements} elements are no whole number of rows, of {row} each"
+            )
+        }
+        FaultKind::Dimensions { wanted } => f.write_str(match wanted {
+            Dimensions::One => "it has two dimensions, and one is wanted: that of a row, as a[i]",
+            Dimensions::Two => "it has one dimension, and two are wanted",
+        }),
+        FaultKind::Subscripts { name, has } => match has {
+            Dimensions::One => {
+                write!(
+                    f,
+                    "`{name}` has one dimension: an element of it is {name}[i]"
+                )
+            }
+            Dimensions::Two => write!(
+                f,
+                "`{name}` has two dimensions: an element of it is {name}[i][j], and {name}[i] is a row, to be passed or named"
+            ),
+        },
+        FaultKind::Subscript { of, at } => {
+            let elements = of.elements;
+            write!(
+                f,
+                "{at} is no subscript of {of}, which has {elements} elements"
             )
         }
         FaultKind::ArraySize { elements, bytes } => write_size(f, elements, bytes),
@@ -411,6 +486,9 @@ fn write_array<W: fmt::Write>(f: &mut fmt::Formatter<W>, kind: FaultKind<'_>) ->
 fn write_value<W: fmt::Write>(f: &mut fmt::Formatter<W>, kind: FaultKind<'_>) -> fmt::Result {
     match kind {
         FaultKind::NoByte { value } => write!(f, "{value} is no BYTE: they are 0 to 255"),
+        FaultKind::AssertArguments { found } => {
+            write!(f, "`ASSERT` takes 1 argument, a BOOL, not {found}")
+        }
         FaultKind::NotVal { name } => {
             write!(f, "`{name}` is a parameter of a FUNCTION: those are VAL")
         }
@@ -432,8 +510,8 @@ fn write_value<W: fmt::Write>(f: &mut fmt::Formatter<W>, kind: FaultKind<'_>) ->
             )
         }
         FaultKind::OtherProtocol { name, declared } => {
-            let line = declared.line;
-            write!(f, "`{name}`, of line {line}, carries something else")
+            let it = OfLine { name, declared };
+            write!(f, "{it} carries something else")
         }
         _ => write_function(f, kind),
     }
@@ -444,12 +522,19 @@ fn text_of(kind: FaultKind<'_>) -> &'static str {
     match kind {
         FaultKind::NoOrder => "BOOLs have no order: compare them by = and <>",
         FaultKind::NotConstant => "a constant is wanted here",
+        FaultKind::NoMost => {
+            "a loop has a constant number of turns, or one whose form shows the most, as n /\\ 15: \
+             else write the most that are needed, and an IF within it"
+        }
         FaultKind::SetsFlag => "this constant sets the error flag: it is no INT, or divides by 0",
         FaultKind::TableHere =>
             "a table stands where a value is wanted: declare it by VAL, and take an element",
         FaultKind::ArrayWanted => "an array or a table is wanted here",
         FaultKind::VariableWanted => "a variable or an element is wanted here",
         FaultKind::NoSize => "an array that is declared has a size, as in [16]INT",
+        FaultKind::PartHere => {
+            "a part of an array is no array by itself: assign its elements in a replicated SEQ, or take all of the array"
+        }
         FaultKind::BoolElements => "elements are INTs or BYTEs",
         FaultKind::LastIndex => "the last index is beyond 2147483647",
         FaultKind::Protocol =>

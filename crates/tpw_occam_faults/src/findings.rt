@@ -2,6 +2,7 @@
 
 use crate::fault::{Fault, FaultKind};
 use crate::note::{Note, NoteKind};
+use crate::reports::FIRST;
 use std::alloc::{AllocError, AllocFailed, Global};
 use tpw_occam_terms::{MAX_FAULTS, Span};
 
@@ -38,6 +39,8 @@ pub struct Findings<'a> {
     pub notes: Vec<Note<'a>>,
     /// Whether it is looked for faults of types alone.
     is_of_types: bool,
+    /// The place of the last call in the text.
+    call: Span,
 }
 
 impl<'a> Findings<'a> {
@@ -47,6 +50,7 @@ impl<'a> Findings<'a> {
             faults: Vec::new(alloc),
             notes: Vec::new(alloc),
             is_of_types: false,
+            call: FIRST,
         }
     }
 
@@ -55,8 +59,25 @@ impl<'a> Findings<'a> {
         self.is_of_types = true;
     }
 
+    /// Begins a call, whose place is in the text or in what is predefined.
+    pub fn begin_call(&mut self, call: Span) {
+        if !call.is_predefined() {
+            self.call = call;
+        }
+    }
+
+    /// The place of the text at which something is found: in what is predefined it is found at its call.
+    fn place_of(&self, span: Span) -> Span {
+        if span.is_predefined() {
+            self.call
+        } else {
+            span
+        }
+    }
+
     /// Reports what is wrong, once for each place. No more is looked for behind the last fault that is reported.
     pub fn report(&mut self, span: Span, kind: FaultKind<'a>) -> Result<(), Interrupt> {
+        let span = self.place_of(span);
         let is_left_out = self.is_of_types && !kind.is_of_types();
         if is_left_out || self.faults.iter().any(|fault| fault.span == span) {
             return Ok(());
@@ -68,8 +89,13 @@ impl<'a> Findings<'a> {
         Ok(())
     }
 
-    /// Notes what may not be meant, once for each place, and the same once for each line.
+    /// Notes what may not be meant, once for each place, and the same once for each line. Of what is predefined nothing is
+    /// noted, but that it sets the error flag.
     pub fn note(&mut self, span: Span, kind: NoteKind<'a>) -> Result<(), AllocError> {
+        if span.is_predefined() && !matches!(kind, NoteKind::Flag(_)) {
+            return Ok(());
+        }
+        let span = self.place_of(span);
         let line = span.line;
         if self.is_of_types
             || self.notes.len() >= MAX_NOTES

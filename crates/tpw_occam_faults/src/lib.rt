@@ -7,8 +7,8 @@ mod findings;
 mod note;
 mod reports;
 
-pub use entity::{EntityKind, Use};
-pub use fault::{Fault, FaultKind, Limit};
+pub use entity::{EntityKind, Extent, Use};
+pub use fault::{Dimensions, Fault, FaultKind, Limit};
 pub use findings::{Findings, Interrupt};
 pub use note::{Construct, Flagging, Note, NoteKind, Unused};
 pub use reports::{FIRST, reported_faults, reported_notes};

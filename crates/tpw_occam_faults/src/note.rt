@@ -1,5 +1,6 @@
 //! The warnings of a text.
 
+use crate::entity::Extent;
 use std::fmt;
 use tpw_occam_terms::Span;
 
@@ -82,16 +83,14 @@ pub enum NoteKind<'a> {
     },
     /// A subscript that a call makes this constant, which is not below the size of the array.
     Subscript {
-        name: &'a str,
+        of: Extent<'a>,
         at: i32,
-        elements: u32,
     },
     /// A subscript that is this in the first turn of its loop, or in the last, and not below the size of the array.
     Turn {
-        name: &'a str,
+        of: Extent<'a>,
         at: i64,
         is_last: bool,
-        elements: u32,
     },
     /// Traces of so many bytes at the least, with which each packet is lost.
     LongTraces {
@@ -153,15 +152,15 @@ fn write_unused<W: fmt::Write>(f: &mut fmt::Formatter<W>, name: &str, what: Unus
 /// That the subscript of a turn is none.
 fn write_turn<W: fmt::Write>(
     f: &mut fmt::Formatter<W>,
-    name: &str,
+    of: Extent<'_>,
     at: i64,
     is_last: bool,
-    elements: u32,
 ) -> fmt::Result {
     let turn = if is_last { "last" } else { "first" };
+    let elements = of.elements;
     write!(
         f,
-        "in the {turn} turn this is {at}, which is no subscript of `{name}`, of {elements} elements: it sets the error flag"
+        "in the {turn} turn this is {at}, which is no subscript of {of}, of {elements} elements: it sets the error flag"
     )
 }
 
@@ -220,16 +219,14 @@ impl fmt::Display for NoteKind<'_> {
                     "this guard is never reached: that of line {line} is always TRUE"
                 )
             }
-            NoteKind::Subscript { name, at, elements } => write!(
-                f,
-                "in a call this is {at}, which is no subscript of `{name}`, of {elements} elements: it sets the error flag"
-            ),
-            NoteKind::Turn {
-                name,
-                at,
-                is_last,
-                elements,
-            } => write_turn(f, name, at, is_last, elements),
+            NoteKind::Subscript { of, at } => {
+                let elements = of.elements;
+                write!(
+                    f,
+                    "in a call this is {at}, which is no subscript of {of}, of {elements} elements: it sets the error flag"
+                )
+            }
+            NoteKind::Turn { of, at, is_last } => write_turn(f, of, at, is_last),
             NoteKind::LongTraces { bytes } => write!(
                 f,
                 "each packet is lost: its traces have {bytes} bytes or more, of at most 256"

@@ -11,7 +11,7 @@ use crate::arrays::kept;
 use crate::expressions::value;
 use crate::memory::{Cells, Memory, bytes};
 use crate::messages::{bytes_in, send, trace};
-use crate::watch::{Watch, WatchFault, bind_name};
+use crate::watch::{Watch, WatchFault, bind_name, declare_variable};
 use std::alloc::{AllocError, Global};
 use tpw_occam_core::{Answer, Kind, Place, bind, checked_subscript, element, pure, size};
 use tpw_occam_scoped::{Assignment, Bytes, Expression, Process, Target};
@@ -250,7 +250,7 @@ pub(crate) fn run<W: Watch>(
             ..
         } => {
             memory.write(*cell, 0)?;
-            watch.declare(Place::Variable(*cell), *name)?;
+            declare_variable(watch, *cell, *name)?;
             run(alloc, memory, watch, body)?;
         }
         Process::Value {

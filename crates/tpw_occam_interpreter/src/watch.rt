@@ -32,6 +32,9 @@ pub trait Watch {
     /// A variable or an array has a name from here on.
     fn declare(&mut self, place: Place, name: Span) -> Result<(), WatchFault>;
 
+    /// A variable has no name from here on.
+    fn hide(&mut self, variable: usize);
+
     /// A name has a word: the index of a loop, or a value.
     fn bind(&mut self, name: Span, word: u32);
 
@@ -58,6 +61,21 @@ pub(crate) fn bind_name<W: Watch>(watch: &mut W, name: Option<Span>, word: u32) 
     }
 }
 
+/// A variable has a name, or none.
+pub(crate) fn declare_variable<W: Watch>(
+    watch: &mut W,
+    variable: usize,
+    name: Option<Span>,
+) -> Result<(), WatchFault> {
+    match name {
+        Some(name) => watch.declare(Place::Variable(variable), name),
+        None => {
+            watch.hide(variable);
+            Ok(())
+        }
+    }
+}
+
 /// Nobody follows.
 #[derive(Drop)]
 pub(crate) struct Unwatched;
@@ -66,6 +84,8 @@ impl Watch for Unwatched {
     fn declare(&mut self, _: Place, _: Span) -> Result<(), WatchFault> {
         Ok(())
     }
+
+    fn hide(&mut self, _: usize) {}
 
     fn bind(&mut self, _: Span, _: u32) {}
 

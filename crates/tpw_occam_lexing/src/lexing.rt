@@ -8,6 +8,7 @@ use crate::bytes::{Class, run};
 use crate::joint::{Joint, Lexed};
 use crate::line::read_line;
 use std::alloc::{AllocError, Global};
+use tpw_occam_terms::NO_LINE;
 
 /// The first line of a text, and what stands behind it.
 fn first_line(rest: &str) -> (&str, Option<&str>)
@@ -39,9 +40,13 @@ fn without_return(line: &str) -> &str
     }
 }
 
-/// The lines of tokens of a text: exactly those that it has, where it has them. Else what is wrong with its lines, each
-/// with the tokens that it has.
-pub fn lex<'a>(alloc: Global, text: &'a str) -> Result<Lexed<'a>, AllocError>
+/// The lines of tokens of a text, of which the first has a number, and each next one a number that is higher by a step.
+fn numbered<'a>(
+    alloc: Global,
+    text: &'a str,
+    first: usize,
+    step: usize,
+) -> Result<Lexed<'a>, AllocError>
     ensures { IfOk result (λ l. lines_of text.now ≡ where_clean l.is_clean (map written l.lines.items)) }
 {
     let mut joint = Joint {
@@ -50,7 +55,7 @@ pub fn lex<'a>(alloc: Global, text: &'a str) -> Result<Lexed<'a>, AllocError>
         is_clean: true,
     };
     let mut rest = text;
-    let mut number = 1usize;
+    let mut number = first;
     'lines: loop {
         let (bytes, more) = first_line(rest);
         let (line, is_clean) = read_line(alloc, without_return(bytes), number)?;
@@ -59,6 +64,21 @@ pub fn lex<'a>(alloc: Global, text: &'a str) -> Result<Lexed<'a>, AllocError>
             Some(more) => rest = more,
             None => return joint.finish(),
         }
-        number = number.saturating_add(1);
+        number = number.saturating_add(step);
     }
+}
+
+/// The lines of tokens of a text: exactly those that it has, where it has them. Else what is wrong with its lines, each
+/// with the tokens that it has.
+pub fn lex<'a>(alloc: Global, text: &'a str) -> Result<Lexed<'a>, AllocError>
+    ensures { IfOk result (λ l. lines_of text.now ≡ where_clean l.is_clean (map written l.lines.items)) }
+{
+    numbered(alloc, text, 1, 1)
+}
+
+/// The lines of tokens of a text that stands in front of another: each of its places has the line [`NO_LINE`].
+pub fn lex_in_front<'a>(alloc: Global, text: &'a str) -> Result<Lexed<'a>, AllocError>
+    ensures { IfOk result (λ l. lines_of text.now ≡ where_clean l.is_clean (map written l.lines.items)) }
+{
+    numbered(alloc, text, NO_LINE, 0)
 }

@@ -15,7 +15,7 @@ mod token;
 
 pub use joint::Lexed;
 pub use keywords::Keyword;
-pub use lexing::lex;
+pub use lexing::{lex, lex_in_front};
 pub use line::Line;
 pub use symbol::Symbol;
 pub use token::{Item, Token};

@@ -1,4 +1,4 @@
--- What five texts mean, computed on the definitions. The first:
+-- What seven texts mean, computed on the definitions. The first:
 --
 --     VAL INT n IS 3:
 --     PROC p (VAL INT v, INT y)
@@ -82,7 +82,7 @@
 --         r ! a[0] + a[1]
 --     :
 --
--- .. and the fifth:
+-- .. the fifth:
 --
 --     INT, INT FUNCTION g (VAL INT x)
 --       INT y:
@@ -97,6 +97,37 @@
 --         c ? a
 --         x, a[x] := g (a[1])
 --         r ! x + a[0]
+--     :
+--
+-- .. the sixth:
+--
+--     PROC w (CHAN OF INT c, CHAN OF INT r)
+--       INT x:
+--       SEQ
+--         c ? x
+--         SEQ i = 1 FOR x /\ 3
+--           x := x + i
+--         ASSERT (x = 6)
+--         IF
+--           IF i = 0 FOR 4
+--             (i + 5) = x
+--               x := i
+--           TRUE
+--             x := 7
+--         r ! x
+--     :
+--
+-- .. and the seventh:
+--
+--     PROC w (CHAN OF [2]INT c, CHAN OF INT r)
+--       [2]INT a:
+--       [3][2]INT b:
+--       SEQ
+--         c ? a
+--         []INT x IS b[a[0]]:
+--         x[1] := 7
+--         b[2][1] := 9
+--         r ! b[a[0]][a[1]] + b[2][1]
 --     :
 use Rattle.std.proofs.Common.{◌≡◌, ℕ, true, false, List, [], ◌∷◌, Option, Some, None, refl}
 use Rattle.std.specs.Borrow.{Bor}
@@ -447,3 +478,85 @@ module _ (place : Span) (text : Bor (List ℕ)) (expression : Box Expression Glo
       ≡ Some (Some (record { result = 11 ∷ 0 ∷ 0 ∷ 0 ∷ []; flag = false; traced = [] }))
   unfolding meaning_of_text
   gives = refl
+
+  abbrev all_of : Processes → Box Processes Global
+  all_of ps = record processes' { value = ps }
+
+  abbrev done : Process → Box Process Global
+  done p = record process' { value = p }
+
+  -- ASSERT is 65, 83, 83, 69, 82, 84
+  abbrev asserting : Process
+  asserting = process.Call (record { text = record text { now = 65 ∷ 83 ∷ 83 ∷ 69 ∷ 82 ∷ 84 ∷ [] }; span = place }) (one (dyadic two.Equal (variable 120) (number 54))) place
+
+  abbrev searching : Process
+  searching = process.If
+      (record choices' {
+        value = choices.Search (name 105) (number 48) (number 52)
+            (record choices' {
+              value = choices.More (dyadic two.Equal (dyadic two.Add (variable 105) (number 53)) (variable 120))
+                  (done (assign (variable 120) (variable 105))) (record choices' { value = choices.End });
+            })
+            (record choices' {
+              value = choices.More (tree.Truth true place) (done (assign (variable 120) (number 55))) (record choices' { value = choices.End });
+            });
+      }) place
+
+  abbrev sixth_steps : Processes
+  sixth_steps =
+      then (process.Receive (name 99) (variable 120) place)
+      (then (process.Replicated (name 105) (number 49) (dyadic two.Conjunction (variable 120) (number 51))
+      (all_of (then (assign (variable 120) (dyadic two.Add (variable 120) (variable 105))) processes.End)) place)
+      (then asserting (then searching (then (process.Send (name 114) (variable 120) place) processes.End))))
+
+  abbrev sixth : Source
+  sixth = record {
+    declarations =
+        behind (procedure 119 (takes passing.Channel 99 (takes passing.Channel 114 parameters.End))
+        (declared (declaration.Variables (int sizes.End) (one_name 120)) (sequence sixth_steps))) declarations.End;
+  }
+
+  -- one turn, and i is 1
+  pub finds : given sixth (5 ∷ 0 ∷ 0 ∷ 0 ∷ []) ≡ Some (Some (record { result = 1 ∷ 0 ∷ 0 ∷ 0 ∷ []; flag = false; traced = [] }))
+  unfolding meaning_of_text
+  finds = refl
+
+  -- three turns, and nothing is found
+  pub finds_nothing : given sixth (3 ∷ 0 ∷ 0 ∷ 0 ∷ []) ≡ Some (Some (record { result = 7 ∷ 0 ∷ 0 ∷ 0 ∷ []; flag = true; traced = [] }))
+  unfolding meaning_of_text
+  finds_nothing = refl
+
+  abbrev row : Expression → Expression
+  row i = element 98 i
+
+  abbrev of_row : Expression → Expression → Expression
+  of_row i j = tree.Element (boxed (row i)) (boxed j) place
+
+  abbrev seventh_steps : Processes
+  seventh_steps =
+      then (process.Receive (name 99) (variable 97) place)
+      (then (other (int of_any_size) 120 (row (element 97 (number 48))) (assign (element 120 (number 49)) (number 55)))
+      (then (assign (of_row (number 50) (number 49)) (number 57))
+      (then (process.Send (name 114) (dyadic two.Add (of_row (element 97 (number 48)) (element 97 (number 49))) (of_row (number 50) (number 49))) place)
+      processes.End)))
+
+  abbrev seventh_body : Process
+  seventh_body = declared (declaration.Variables (int (of_size 50)) (one_name 97))
+      (declared (declaration.Variables (int (sizes.Of (number 51) (record sizes' { value = of_size 50 }))) (one_name 98)) (sequence seventh_steps))
+
+  abbrev seventh : Source
+  seventh = record {
+    declarations =
+        behind (procedure 119 (with_type passing.Channel (int (of_size 50)) 99 (takes passing.Channel 114 parameters.End)) seventh_body) declarations.End;
+  }
+
+  pub has_rows : given seventh (1 ∷ 0 ∷ 0 ∷ 0 ∷ 1 ∷ 0 ∷ 0 ∷ 0 ∷ [])
+      ≡ Some (Some (record { result = 16 ∷ 0 ∷ 0 ∷ 0 ∷ []; flag = false; traced = [] }))
+  unfolding meaning_of_text
+  has_rows = refl
+
+  -- a row of 4 is that of 1, and sets the flag
+  pub is_beyond_the_rows : given seventh (4 ∷ 0 ∷ 0 ∷ 0 ∷ 1 ∷ 0 ∷ 0 ∷ 0 ∷ [])
+      ≡ Some (Some (record { result = 16 ∷ 0 ∷ 0 ∷ 0 ∷ []; flag = true; traced = [] }))
+  unfolding meaning_of_text
+  is_beyond_the_rows = refl

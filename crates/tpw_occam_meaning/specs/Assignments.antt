@@ -14,9 +14,9 @@ use Rattle.tpw_occam_meaning.specs.declared.expression.Expressions.{Expressions}
 use Rattle.tpw_occam_meaning.specs.declared.expression.Expressions.TheVariants.{End, More'}
 use Rattle.tpw_occam_terms.specs.declared.name.Primitive.TheVariants.{Int}
 use Rattle.tpw_occam_meaning.specs.Effects.{Effect, skipped}
-use Rattle.tpw_occam_meaning.specs.Expressions.{value_of, array_of, named}
+use Rattle.tpw_occam_meaning.specs.Expressions.{value_of, array_of, first_of, of_elements, view_in}
 use Rattle.tpw_occam_meaning.specs.Maybe.{and_then, where_true}
-use Rattle.tpw_occam_meaning.specs.Names.{Storage, Array, Table, View, Place, Variable, Element, Entry, Is, Names, found}
+use Rattle.tpw_occam_meaning.specs.Names.{Storage, Array, Table, View, Shape, in_storage, Place, Variable, Element, Entry, Is, Names, found}
 use Rattle.tpw_occam_meaning.specs.Names.{bytes_in, word_value}
 use Rattle.tpw_occam_meaning.specs.States.{State, with_cell, with_array, flagged}
 use Rattle.tpw_occam_meaning.specs.Values.{Value, at, element_type}
@@ -58,7 +58,8 @@ target_in other = None
 abbrev pub target_of : Expression → Names → ℕ → Option Target
 target_of (tree.Name name) names d = target_in (found name names)
 target_of (tree.Element' p a q i span) names d =
-    and_then (named a names) (λ view. and_then (value_of i Int names d) (λ i. element_target view i))
+    and_then (of_elements a names) (λ view. and_then (first_of a names d) (λ first. and_then (value_of i Int names d) (λ i.
+    element_target view (in_storage view.size first i))))
 target_of (tree.Bracketed' p e span) names d = target_of e names d
 target_of other names d = None
 
@@ -86,20 +87,34 @@ results_given (place ∷ places) (More' p e q results) names d =
     assigning target v (results_given places results names d)))
 results_given places results names d = None
 
--- the array that is the one target, and may be written to
+-- the array that a name stands for, all of its storage
+abbrev pub whole : Expression → Names → Option View
+whole (tree.Name name) names = view_in (found name names)
+whole (tree.Bracketed' p e span) names = whole e names
+whole other names = None
+
+-- .. that is the one target, and may be written to
 abbrev pub whole_target : Expressions → Names → Option View
-whole_target (More' p t q End) names = and_then (named t names) (λ view. where_true view.is_variable (Some view))
+whole_target (More' p t q End) names = and_then (whole t names) (λ view. where_true view.is_variable (Some view))
 whole_target targets names = None
 
 -- an array takes bytes
 abbrev pub copying : ℕ → Storage → Effect
 copying a from = Some (λ s. with_array a (bytes_in from s) s)
 
+-- the shape that an array has, and another one that is copied to it
+abbrev pub exact_row : Option ℕ → Option (Option ℕ)
+exact_row None = None
+exact_row (Some row) = Some (Some row)
+
+abbrev pub exact : View → Shape
+exact view = record { kind = view.kind; size = Some view.size; row = exact_row view.row; is_variable = false }
+
 -- .. those of an array or a table of its kind and size
 abbrev pub copied : View → Expression → Names → Effect
 copied view e names =
     and_then (written_array view) (λ a.
-    and_then (array_of e (record { kind = view.kind; size = Some view.size; is_variable = false }) names) (λ from.
+    and_then (array_of e (exact view) names) (λ from.
     copying a from.storage))
 
 abbrev pub assignment : Option View → Expressions → Expressions → Names → ℕ → Effect

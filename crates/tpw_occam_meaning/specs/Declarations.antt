@@ -14,12 +14,13 @@ use Rattle.tpw_occam_meaning.specs.declared.types.Names as list
 use Rattle.tpw_occam_meaning.specs.declared.types.Names.TheVariants as listed
 use Rattle.tpw_occam_meaning.specs.declared.types.Type as written
 use Rattle.tpw_occam_meaning.specs.declared.types.Parameters.{Parameters}
-use Rattle.tpw_occam_meaning.specs.Calls.{referred}
+use Rattle.tpw_occam_meaning.specs.Calls.{referred, lent_to}
+use Rattle.tpw_occam_meaning.specs.Counts.{most_of, limited}
 use Rattle.tpw_occam_meaning.specs.Effects.{Effect, given, within_variable, within_array}
-use Rattle.tpw_occam_meaning.specs.Expressions.{value_of, array_of, type_of, view_in, fitting}
+use Rattle.tpw_occam_meaning.specs.Expressions.{value_of, lent_of, type_of, view_in, fitting}
 use Rattle.tpw_occam_meaning.specs.Maybe.{and_then, where_true}
 use Rattle.tpw_occam_meaning.specs.Names.{Array, View, Place, Fixed, Variable, Whole, Shape, Entry, Is, Procedure, Function, Routine}
-use Rattle.tpw_occam_meaning.specs.Names.{Names, found, with_name, taking}
+use Rattle.tpw_occam_meaning.specs.Names.{Names, Lent, found, with_name, taking, elements_in_all}
 use Rattle.tpw_occam_meaning.specs.Types.{bytes_of, shape_of, by_sizes, forms_of, is_value}
 use Rattle.tpw_occam_meaning.specs.Values.{Value, Known, Varying, kind_of}
 
@@ -38,7 +39,7 @@ type_in_table other names = Some Byte
 abbrev pub shape_of_table : Option written.Type → Expression → Names → Option Shape
 shape_of_table None e names =
     and_then (type_in_table e names) (λ of. and_then (kind_of of) (λ kind.
-    Some (record { kind = kind; size = None; is_variable = false })))
+    Some (record { kind = kind; size = None; row = None; is_variable = false })))
 shape_of_table (Some of) e names = shape_of of false names
 
 -- whether what is declared is an array, by its type, or else by what it is
@@ -60,26 +61,28 @@ may_be_declared (Varying f) = true
 abbrev pub naming : Name → Option Entry → (Names → ℕ → Effect) → Names → ℕ → Effect
 naming name entry after names d = and_then entry (λ entry. after (with_name name entry names) d)
 
--- another name for an array or a table, of a shape
-abbrev pub array_entry : Option Shape → Expression → Names → Option Entry
-array_entry wanted e names =
-    and_then wanted (λ shape. and_then (array_of e shape names) (λ view. Some (Is (Whole view))))
+-- an array or a table, of a shape, that has another name
+abbrev pub array_lent : Option Shape → Expression → Names → ℕ → Option Lent
+array_lent wanted e names d = and_then wanted (λ shape. lent_of e shape names d)
 
-abbrev pub table_entry : Option written.Type → Expression → Names → Option Entry
-table_entry of e names = array_entry (shape_of_table of e names) e names
+abbrev pub array_declared : Option Shape → Name → Expression → (Names → ℕ → Effect) → Names → ℕ → Effect
+array_declared wanted name e after names d =
+    and_then (array_lent wanted e names d) (λ lent.
+    lent_to d lent (λ place n. after (with_name name (Is place) names) n))
 
 -- a value; or an array or a table, which is not written to under this name
 abbrev pub value_declared : Option written.Type → Name → Expression → (Names → ℕ → Effect) → Names → ℕ → Effect
 value_declared of name e after names d =
-    if is_array of e then naming name (table_entry of e names) after names d
+    if is_array of e then array_declared (shape_of_table of e names) name e after names d
     else and_then (type_of_value of e names) (λ of. and_then (value_of e of names d) (λ v.
-    where_true (may_be_declared v) (given d v (λ word n. after (with_name name (Is (Fixed of word)) names) n))))
+    where_true (may_be_declared v) (given d v (λ word n.
+    after (with_name name (Is (Fixed of (limited (most_of e names) word))) names) n))))
 
 -- another name for a variable, an element or an array, as a parameter is for its argument
 abbrev pub abbreviated : written.Type → Name → Expression → (Names → ℕ → Effect) → Names → ℕ → Effect
 abbreviated of name e after names d =
     by_sizes of.sizes (referred e of.of names d (λ place n. after (with_name name (Is place) names) n))
-    (naming name (array_entry (shape_of of true names) e names) after names d)
+    (array_declared (shape_of of true names) name e after names d)
 
 -- variables are 0 or FALSE at first, and so are elements
 abbrev pub variables : Primitive → list.Names → (Names → ℕ → Effect) → Names → ℕ → Effect
@@ -87,28 +90,46 @@ variables of listed.End after names d = after names d
 variables of (listed.More' name p more) after names d =
     within_variable d (variables of more after (with_name name (Is (Variable of d)) names) (d + 1))
 
-abbrev pub array_view : Kind → ℕ → ℕ → View
-array_view kind n d = record { storage = Array d; kind = kind; size = n; is_variable = true }
+abbrev pub array_view : Kind → ℕ → Option ℕ → ℕ → View
+array_view kind n row d = record { storage = Array d; kind = kind; size = n; row = row; is_variable = true }
 
-abbrev pub arrays : Kind → Option ℕ → list.Names → (Names → ℕ → Effect) → Names → ℕ → Effect
-arrays kind None list after names d = None
-arrays kind (Some n) listed.End after names d = after names d
-arrays kind (Some n) (listed.More' name p more) after names d =
-    within_array d (bytes_of kind n)
-    (arrays kind (Some n) more after (with_name name (Is (Whole (array_view kind n d))) names) (d + 1))
+abbrev pub arrays : Kind → Option ℕ → Option ℕ → list.Names → (Names → ℕ → Effect) → Names → ℕ → Effect
+arrays kind None row list after names d = None
+arrays kind (Some n) row listed.End after names d = after names d
+arrays kind (Some n) row (listed.More' name p more) after names d =
+    within_array d (bytes_of kind (elements_in_all n row))
+    (arrays kind (Some n) row more after (with_name name (Is (Whole (array_view kind n row d))) names) (d + 1))
+
+-- the rows of what is declared have a size
+abbrev pub declared_row : Option (Option ℕ) → Option (Option ℕ)
+declared_row None = Some None
+declared_row (Some None) = None
+declared_row (Some (Some row)) = Some (Some row)
+
+-- how many bytes an array has
+abbrev pub all_bytes : View → ℕ
+all_bytes view = bytes_of view.kind (elements_in_all view.size view.row)
 
 -- an array, seen as words or as bytes: as words only where it has whole ones
 abbrev pub seen_as : Kind → View → Option View
 seen_as elements.Byte view =
-    Some (record view { kind = elements.Byte; size = bytes_of view.kind view.size })
+    Some (record view { kind = elements.Byte; size = all_bytes view; row = None })
 seen_as elements.Word view =
-    where_true (bytes_of view.kind view.size % 4 == 0)
-    (Some (record view { kind = elements.Word; size = bytes_of view.kind view.size / 4 }))
+    where_true (all_bytes view % 4 == 0)
+    (Some (record view { kind = elements.Word; size = all_bytes view / 4; row = None }))
+
+-- .. in rows, where rows of a size are wanted, and it has whole ones
+abbrev pub seen_in_rows : Option (Option ℕ) → View → Option View
+seen_in_rows None view = Some view
+seen_in_rows (Some None) view = None
+seen_in_rows (Some (Some row)) view =
+    where_true (view.size % row == 0) (Some (record view { size = view.size / row; row = Some row }))
 
 abbrev pub retyped : written.Type → Name → Names → Option Entry
 retyped of array names =
     and_then (view_in (found array names)) (λ view. and_then (shape_of of view.is_variable names) (λ shape.
-    and_then (seen_as shape.kind view) (λ seen. and_then (fitting shape seen) (λ view. Some (Is (Whole view))))))
+    and_then (seen_as shape.kind view) (λ seen. and_then (seen_in_rows shape.row seen) (λ rows.
+    and_then (fitting shape rows) (λ view. Some (Is (Whole view)))))))
 
 abbrev pub procedure : Parameters → (Names → ℕ → Effect) → Names → Option Entry
 procedure takes body names =

@@ -1,5 +1,5 @@
 -- What expressions mean by their names, where `d` things are declared.
-use Rattle.std.specs.Prelude.{ℕ, ◌+◌, ◌-◌, ◌^◌, Bool, true, false, not, ◌&&◌, ◌||◌, ◌==◌, nat_lt, if◌then◌else◌}
+use Rattle.std.specs.Prelude.{ℕ, ◌+◌, ◌-◌, ◌/◌, ◌^◌, Bool, true, false, not, ◌&&◌, ◌||◌, ◌==◌, nat_lt, if◌then◌else◌}
 use Rattle.std.specs.Prelude.{Option, Some, None}
 use Rattle.std.specs.Prelude.{List, [], ◌∷◌, ◌++◌, length}
 use Rattle.std.specs.Int.{w32, to_le_bytes}
@@ -17,10 +17,11 @@ use Rattle.tpw_occam_meaning.specs.declared.expression.Expressions.{Expressions}
 use Rattle.tpw_occam_meaning.specs.declared.expression.Expressions.TheVariants.{End, More'}
 use Rattle.tpw_occam_meaning.specs.declared.operator.Monadic.TheVariants as one
 use Rattle.tpw_occam_meaning.specs.Literals.{number, character, text}
-use Rattle.tpw_occam_meaning.specs.Maybe.{and_then, where_true}
-use Rattle.tpw_occam_meaning.specs.Names.{Word, Constant, Kept, Table, View, Fixed, Variable, Element, Whole}
+use Rattle.tpw_occam_meaning.specs.Maybe.{and_then, where_true, where_none}
+use Rattle.tpw_occam_meaning.specs.Names.{Word, Constant, Kept, Storage, Array, Table, View}
+use Rattle.tpw_occam_meaning.specs.Names.{Place, Fixed, Variable, Element, Whole, Part, Lent, There, Begins}
 use Rattle.tpw_occam_meaning.specs.Names.{Shape, Form, OfValue, OfArray, Body, behind, Entry, Is, Function, Names, found}
-use Rattle.tpw_occam_meaning.specs.Names.{word_value, element_of}
+use Rattle.tpw_occam_meaning.specs.Names.{word_value, element_of, in_storage, row_first, row_of}
 use Rattle.tpw_occam_meaning.specs.States.{with_cell}
 use Rattle.tpw_occam_meaning.specs.Values.{Value, Known, Varying, at, of_one, of_two, constant_in, as_type}
 use Rattle.tpw_occam_meaning.specs.Values.{element_type, number_of, type_of_one, operand_of, converted, monadic}
@@ -35,9 +36,22 @@ value_in of (Is (Variable other x)) = as_type of other (Some (Varying (λ s. pur
 value_in of (Is (Element view i)) = as_type of (element_type view.kind) (Some (element_of view (word_value i)))
 value_in of other = None
 
+-- the array that is all of its storage
 abbrev pub view_in : Entry → Option View
 view_in (Is (Whole view)) = Some view
 view_in other = None
+
+-- an array, or a part of one
+abbrev pub shown_in : Entry → Option View
+shown_in (Is (Whole view)) = Some view
+shown_in (Is (Part view first)) = Some view
+shown_in other = None
+
+-- where an array begins in its storage, where it is not all of it
+abbrev pub first_in : Entry → Option (Option Value)
+first_in (Is (Whole view)) = Some None
+first_in (Is (Part view first)) = Some (Some (word_value first))
+first_in other = None
 
 -- ---- types
 
@@ -49,11 +63,17 @@ type_in (Is (Element view i)) = Some (element_type view.kind)
 type_in (Function of takes gives) = Some of
 type_in other = None
 
--- the array that an expression names
+-- the array that an expression names: that of a name, or a row of it
 abbrev pub named : Expression → Names → Option View
-named (tree.Name name) names = view_in (found name names)
+named (tree.Name name) names = shown_in (found name names)
+named (tree.Element' p a q i span) names =
+    and_then (named a names) (λ view. and_then view.row (λ row. Some (row_of view row)))
 named (tree.Bracketed' p e span) names = named e names
 named other names = None
+
+-- .. where it has elements, and no rows
+abbrev pub of_elements : Expression → Names → Option View
+of_elements e names = and_then (named e names) (λ view. where_none view.row (Some view))
 
 abbrev pub is_number : Expression → Bool
 is_number (tree.Number spelled span) = true
@@ -67,7 +87,7 @@ type_of (tree.Character spelled span) names = Some Byte
 type_of (tree.Truth value span) names = Some Truth
 type_of (tree.Most is_negative span) names = Some Int
 type_of (tree.Name name) names = type_in (found name names)
-type_of (tree.Element' p a q i span) names = and_then (named a names) (λ view. Some (element_type view.kind))
+type_of (tree.Element' p a q i span) names = and_then (of_elements a names) (λ view. Some (element_type view.kind))
 type_of (tree.Call' name p arguments) names = type_in (found name names)
 type_of (tree.Bracketed' p e span) names = type_of e names
 type_of (tree.Monadic' operator span p e) names = Some (type_of_one operator)
@@ -89,17 +109,45 @@ abbrev pub has_size : Option ℕ → ℕ → Bool
 has_size None n = true
 has_size (Some size) n = n == size
 
+abbrev pub has_row : Option (Option ℕ) → Option ℕ → Bool
+has_row None None = true
+has_row (Some size) (Some row) = has_size size row
+has_row wanted row = false
+
 -- an array, where it has the shape that is wanted; it may be written to only where that is wanted
 abbrev pub fitting : Shape → View → Option View
 fitting shape view =
-    where_true (has_kind shape.kind view.kind && has_size shape.size view.size && (view.is_variable || not shape.is_variable))
+    where_true (has_kind shape.kind view.kind && has_size shape.size view.size && has_row shape.row view.row
+    && (view.is_variable || not shape.is_variable))
     (Some (record view { is_variable = shape.is_variable }))
 
 -- a table has elements, and is not written to
 abbrev pub table : Kind → List ℕ → Option View
 table of bytes =
     where_true (nat_lt 0 (length bytes))
-    (Some (record { storage = Table bytes; kind = of; size = size of bytes; is_variable = false }))
+    (Some (record { storage = Table bytes; kind = of; size = size of bytes; row = None; is_variable = false }))
+
+-- .. in rows of so many elements
+abbrev pub table_of_rows : Kind → ℕ → List ℕ → Option View
+table_of_rows of row bytes =
+    where_true (nat_lt 0 (length bytes))
+    (Some (record { storage = Table bytes; kind = of; size = size of bytes / row; row = Some row; is_variable = false }))
+
+-- the shape of a table's rows
+abbrev pub shape_of_row : Kind → Option ℕ → Shape
+shape_of_row kind size = record { kind = kind; size = size; row = None; is_variable = false }
+
+-- a table of these elements, or of rows, by their size
+abbrev pub table_of : Option (Option ℕ) → Shape → Option (List ℕ) → (Option ℕ → Option ℕ) → (ℕ → Option (List ℕ)) → Option View
+table_of None shape items sizes rows =
+    and_then items (λ bytes. and_then (table shape.kind bytes) (fitting shape))
+table_of (Some wanted) shape items sizes rows =
+    and_then (sizes wanted) (λ row. and_then (rows row) (λ bytes.
+    and_then (table_of_rows shape.kind row bytes) (fitting shape)))
+
+abbrev pub bytes_of_table : Storage → Option (List ℕ)
+bytes_of_table (Array a) = None
+bytes_of_table (Table bytes) = Some bytes
 
 -- the bytes of an element
 abbrev pub element_bytes : Kind → ℕ → List ℕ
@@ -113,6 +161,20 @@ abbrev pub within : ℕ → Value → (Word → ℕ → Option Value) → Option
 within d (Known word false) next = next (Constant word) d
 within d v next =
     and_then (next (Kept d) (d + 1)) (λ rest. Some (Varying (λ s. bind (at v s) (λ a. at rest (with_cell d a s)))))
+
+-- an array that has a name, as another one is lent it
+abbrev pub lent_in : Shape → Entry → Option Lent
+lent_in shape (Is (Whole view)) = and_then (fitting shape view) (λ view. Some (There (Whole view)))
+lent_in shape (Is (Part view first)) = and_then (fitting shape view) (λ view. Some (There (Part view first)))
+lent_in shape other = None
+
+abbrev pub lent_whole : Option View → Option Lent
+lent_whole whole = and_then whole (λ view. Some (There (Whole view)))
+
+-- an array that is an argument of a FUNCTION: where it begins lies in the cell `d`, unless that is a constant
+abbrev pub lent_into : ℕ → Lent → (Place → ℕ → Option Value) → Option Value
+lent_into d (There place) next = next place d
+lent_into d (Begins view first) next = within d first (λ word n. next (Part view word) n)
 
 -- what passes its arguments to a FUNCTION
 abbrev pub Passing : Type 0
@@ -135,12 +197,14 @@ abbrev mutual
   value_of (tree.Most true span) of names d = as_type of Int (Some (Known (2 ^ 31) false))
   value_of (tree.Name name) of names d = value_in of (found name names)
   value_of (tree.Element' p a q i span) of names d =
-      and_then (named a names) (λ view. as_type of (element_type view.kind)
-      (and_then (value_of i Int names d) (λ i. Some (element_of view i))))
+      and_then (of_elements a names) (λ view. as_type of (element_type view.kind)
+      (and_then (first_of a names d) (λ first. and_then (value_of i Int names d) (λ i.
+      Some (element_of view (in_storage view.size first i))))))
   value_of (tree.Call' name p arguments) of names d = called of (found name names) (passed arguments) names d
   value_of (tree.Bracketed' p e span) of names d = value_of e of names d
   value_of (tree.Monadic' one.Size span p e) of names d =
-      as_type of Int (and_then (named e names) (λ view. Some (Known view.size false)))
+      as_type of Int (and_then (named e names) (λ view. and_then (first_of e names d) (λ first.
+      Some (Known view.size false))))
   value_of (tree.Monadic' (one.Convert to) span p e) of names d =
       as_type of to (and_then (type_of e names) (λ from. and_then (converted from to) (λ make.
       and_then (value_of e from names d) (λ v. Some (of_one (λ a. bind a make) v)))))
@@ -153,7 +217,16 @@ abbrev mutual
       Some (of_two (combined operator) b a)))))
   value_of other of names d = None
 
-  -- the array that an expression is: a name, a text of BYTEs, or a table of constants
+  -- where an array that an expression names begins in its storage, where it is not all of it
+  pub first_of : Expression → Names → ℕ → Option (Option Value)
+  first_of (tree.Name name) names d = first_in (found name names)
+  first_of (tree.Element' p a q i span) names d =
+      and_then (named a names) (λ view. and_then view.row (λ row. and_then (first_of a names d) (λ first.
+      and_then (value_of i Int names d) (λ i. Some (Some (row_first view.size row first i))))))
+  first_of (tree.Bracketed' p e span) names d = first_of e names d
+  first_of other names d = None
+
+  -- the array that an expression is, all of its storage: a name, a text of BYTEs, or a table of constants
   pub array_of : Expression → Shape → Names → Option View
   array_of (tree.Name name) shape names =
       and_then (view_in (found name names)) (fitting shape)
@@ -161,8 +234,37 @@ abbrev mutual
   array_of (tree.Text spelled span) shape names =
       and_then (text spelled.now) (λ bytes. and_then (table elements.Byte bytes) (fitting shape))
   array_of (tree.Table' p items span) shape names =
-      and_then (elements_of items shape.kind names) (λ bytes. and_then (table shape.kind bytes) (fitting shape))
+      table_of shape.row shape (elements_of items shape.kind names) (λ wanted. size_of_rows items wanted shape.kind names)
+      (λ row. rows_of items row shape.kind names)
   array_of other shape names = None
+
+  -- the size of rows, which is that of the first
+  pub size_of_rows : Expressions → Option ℕ → Kind → Names → Option ℕ
+  size_of_rows End wanted kind names = None
+  size_of_rows (More' p e q more) wanted kind names =
+      and_then (array_of e (shape_of_row kind wanted) names) (λ view. Some view.size)
+
+  -- the bytes of rows, each a table of one size
+  pub rows_of : Expressions → ℕ → Kind → Names → Option (List ℕ)
+  rows_of End row kind names = Some []
+  rows_of (More' p e q more) row kind names =
+      and_then (array_of e (shape_of_row kind (Some row)) names) (λ view. and_then (bytes_of_table view.storage) (λ bytes.
+      and_then (rows_of more row kind names) (λ others. Some (bytes ++ others))))
+
+  -- an array that is passed, or has another name: one that is there, or a row, whose first element is worked out
+  pub lent_of : Expression → Shape → Names → ℕ → Option Lent
+  lent_of (tree.Name name) shape names d = lent_in shape (found name names)
+  lent_of (tree.Element' p a q i span) shape names d =
+      and_then (named a names) (λ view. and_then view.row (λ row. and_then (fitting shape (row_of view row)) (λ part.
+      and_then (first_of a names d) (λ first. and_then (value_of i Int names d) (λ i.
+      Some (Begins part (row_first view.size row first i)))))))
+  lent_of (tree.Bracketed' p e span) shape names d = lent_of e shape names d
+  lent_of (tree.Text spelled span) shape names d =
+      lent_whole (and_then (text spelled.now) (λ bytes. and_then (table elements.Byte bytes) (fitting shape)))
+  lent_of (tree.Table' p items span) shape names d =
+      lent_whole (table_of shape.row shape (elements_of items shape.kind names)
+      (λ wanted. size_of_rows items wanted shape.kind names) (λ row. rows_of items row shape.kind names))
+  lent_of other shape names d = None
 
   -- the bytes of constants
   pub elements_of : Expressions → Kind → Names → Option (List ℕ)
@@ -178,8 +280,8 @@ abbrev mutual
       and_then (value_of e of names d) (λ v. within d v (λ word n.
       passed more forms (behind (Fixed of word) gives) names n))
   passed (More' p e q more) (OfArray shape ∷ forms) gives names d =
-      and_then (array_of e shape names) (λ view.
-      passed more forms (behind (Whole view) gives) names d)
+      and_then (lent_of e shape names d) (λ lent. lent_into d lent (λ place n.
+      passed more forms (behind place gives) names n))
   passed arguments forms gives names d = None
 
 -- the constant of a type that an expression is

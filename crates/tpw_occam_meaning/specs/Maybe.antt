@@ -11,3 +11,8 @@ and_then (Some a) next = next a
 abbrev pub where_true : {A : Type 0} → Bool → Option A → Option A
 where_true true a = a
 where_true false a = None
+
+-- .. where there is nothing of another kind
+abbrev pub where_none : {A B : Type 0} → Option A → Option B → Option B
+where_none None b = b
+where_none (Some a) b = None

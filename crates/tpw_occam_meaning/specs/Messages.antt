@@ -25,7 +25,7 @@ message_of OneWord e names d =
     and_then (value_of e Int names d) (λ v.
     Some (record { bytes = λ s. to_le_bytes w32 (at v s).word; flag = λ s. (at v s).flag }))
 message_of (Several kind n) e names d =
-    and_then (array_of e (record { kind = kind; size = Some n; is_variable = false }) names) (λ view.
+    and_then (array_of e (record { kind = kind; size = Some n; row = None; is_variable = false }) names) (λ view.
     Some (record { bytes = bytes_in view.storage; flag = λ s. false }))
 
 -- what a channel carries, where it is this one
@@ -44,7 +44,7 @@ received OneWord e names d =
     and_then (target_of e names d) (λ target. as_type Int target.of
     (Some (λ s. assigned target (target.subscript s) (pure (element elements.Word s.packet 0)) s)))
 received (Several kind n) e names d =
-    and_then (array_of e (record { kind = kind; size = Some n; is_variable = true }) names) (λ view.
+    and_then (array_of e (record { kind = kind; size = Some n; row = None; is_variable = true }) names) (λ view.
     and_then (written_array view) (λ a. Some (λ s. with_array a s.packet s)))
 
 abbrev pub sending : Message → Effect

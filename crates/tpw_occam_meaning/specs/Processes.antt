@@ -2,9 +2,8 @@
 use Rattle.std.specs.Prelude.{ℕ, ◌+◌, Bool, true, false, not, ◌&&◌, ◌==◌}
 use Rattle.std.specs.Prelude.{Option, Some, None, List, [], ◌∷◌, ◌++◌}
 use Rattle.std.specs.List.{list_any}
-use Rattle.tpw_occam_core.specs.Sound.{are_turns}
 use Rattle.tpw_occam_terms.specs.declared.name.Primitive.{Primitive}
-use Rattle.tpw_occam_terms.specs.declared.name.Primitive.TheVariants.{Int, Bool as Truth}
+use Rattle.tpw_occam_terms.specs.declared.name.Primitive.TheVariants.{Bool as Truth}
 use Rattle.tpw_occam_meaning.specs.declared.expression.Expressions.{Expressions}
 use Rattle.tpw_occam_meaning.specs.declared.expression.Expressions.TheVariants.{End, More'}
 use Rattle.tpw_occam_meaning.specs.declared.tree.Declaration.{Declaration}
@@ -21,12 +20,14 @@ use Rattle.tpw_occam_meaning.specs.declared.tree.Cases.{Cases}
 use Rattle.tpw_occam_meaning.specs.declared.tree.Cases.TheVariants as cases
 use Rattle.tpw_occam_meaning.specs.Assignments.{assignment, whole_target, results_given}
 use Rattle.tpw_occam_meaning.specs.Calls.{called, call_alone, taken_from}
-use Rattle.tpw_occam_meaning.specs.Declarations.{value_declared, abbreviated, variables, arrays, naming, retyped, procedure, function, routine}
-use Rattle.tpw_occam_meaning.specs.Effects.{Effect, skipped, stopped, followed_by, guarded_by, selected_by, repeated, given}
+use Rattle.tpw_occam_meaning.specs.Counts.{replicated}
+use Rattle.tpw_occam_meaning.specs.Declarations.{value_declared, abbreviated, variables, arrays, declared_row, naming, retyped, procedure, function, routine}
+use Rattle.tpw_occam_meaning.specs.Effects.{Effect, skipped, stopped, followed_by, guarded_by, selected_by, given}
 use Rattle.tpw_occam_meaning.specs.Messages.{carried, message_of, tracing}
 use Rattle.tpw_occam_meaning.specs.Expressions.{value_of, constant, type_of}
 use Rattle.tpw_occam_meaning.specs.Maybe.{and_then, where_true}
-use Rattle.tpw_occam_meaning.specs.Names.{Word, Kept, Traces, Place, Fixed, Is, Names, found, with_name}
+use Rattle.tpw_occam_meaning.specs.Names.{Word, Traces, Place, Names, found}
+use Rattle.tpw_occam_meaning.specs.Searches.{has_number, searched}
 use Rattle.tpw_occam_meaning.specs.Types.{shape_of, by_sizes, all_types}
 
 -- ---- CASE
@@ -63,16 +64,13 @@ abbrev mutual
   run (process.Assign targets values span) names d =
       taken_from (call_alone values) targets (assignment (whole_target targets names) targets values names d) names d
   run (process.Sequence' p steps span) names d = all_run steps names d
-  run (process.Replicated' index start count p steps span) names d =
-      and_then (constant start Int names) (λ from. and_then (constant count Int names) (λ n.
-      where_true (are_turns from n)
-      (repeated d from n (all_run steps (with_name index (Is (Fixed Int (Kept d))) names) (d + 1)))))
+  run (process.Replicated' index start count p steps span) names d = replicated index start count (all_run steps) names d
   run (process.If' p list span) names d = first_true list names d
   run (process.Case' e p list span) names d =
       and_then (type_of e names) (λ of. and_then (all_constants list of names) (λ words.
       where_true (are_distinct words) (and_then (value_of e of names d) (λ v. given d v (λ word n.
       selected list of word (otherwise list names n) names n)))))
-  run (process.Call name arguments span) names d = called (found name names) arguments names d
+  run (process.Call name arguments span) names d = called name.text.now (found name names) arguments names d
   run (process.Receive channel target span) names d = None
   run (process.Send channel e span) names d =
       and_then (carried Traces (found channel names)) (λ protocol. and_then (message_of protocol e names d) tracing)
@@ -89,6 +87,15 @@ abbrev mutual
   first_true choices.End names d = stopped
   first_true (choices.More' guard p body q more) names d =
       and_then (value_of guard Truth names d) (λ v. guarded_by v (run body names d) (first_true more names d))
+  first_true (choices.Search' index start count p list q more) names d =
+      searched index start count list (behind_found list 1 d (first_true more names (d + 2))) names d
+
+  -- what is behind the guard whose number is in a cell, or the other
+  pub behind_found : Choices → ℕ → ℕ → Effect → Names → ℕ → Effect
+  behind_found choices.End k x other names d = other
+  behind_found (choices.More' guard p body q more) k x other names d =
+      guarded_by (has_number x k) (run body names d) (behind_found more (k + 1) x other names d)
+  behind_found list k x other names d = None
 
   -- what is behind ELSE, or as STOP
   pub otherwise : Cases → Names → ℕ → Effect
@@ -109,7 +116,8 @@ abbrev mutual
   declared (declaration.Value of name e) after names d = value_declared of name e after names d
   declared (declaration.Variables of list) after names d =
       by_sizes of.sizes (variables of.of list after names d)
-      (and_then (shape_of of true names) (λ shape. arrays shape.kind shape.size list after names d))
+      (and_then (shape_of of true names) (λ shape. and_then (declared_row shape.row) (λ row.
+      arrays shape.kind shape.size row list after names d)))
   declared (declaration.Retypes of name array) after names d = naming name (retyped of array names) after names d
   declared (declaration.Abbreviation of name e) after names d = abbreviated of name e after names d
   declared (declaration.Procedure' name takes p body) after names d =

@@ -15,7 +15,7 @@ use Rattle.tpw_occam_meaning.specs.declared.types.Parameters.TheVariants as para
 use Rattle.tpw_occam_meaning.specs.declared.types.Primitives.{Primitives}
 use Rattle.tpw_occam_meaning.specs.declared.types.Primitives.TheVariants as primitives
 use Rattle.tpw_occam_meaning.specs.Expressions.{constant}
-use Rattle.tpw_occam_meaning.specs.Maybe.{and_then, where_true}
+use Rattle.tpw_occam_meaning.specs.Maybe.{and_then, where_true, where_none}
 use Rattle.tpw_occam_meaning.specs.Names.{Names, Shape, Form, OfValue, OfVariable, OfArray, OfChannel}
 use Rattle.tpw_occam_meaning.specs.Names.{Protocol, OneWord, Several}
 use Rattle.tpw_occam_meaning.specs.Values.{as_type, kind_of}
@@ -29,15 +29,30 @@ bytes_of elements.Byte n = n
 
 -- the size of an array, where one is said: it is a constant above 0
 abbrev pub size_in : Sizes → Names → Option (Option ℕ)
-size_in (sizes.Open' p sizes.End) names = Some None
-size_in (sizes.Of' e p sizes.End) names =
+size_in (sizes.Open' p rows) names = Some None
+size_in (sizes.Of' e p rows) names =
     and_then (constant e Int names) (λ n. where_true (nat_lt 0 n && nat_lt n (2 ^ 31)) (Some (Some n)))
-size_in other names = None
+size_in sizes.End names = None
+
+-- .. of its rows, where it has any: they have none
+abbrev pub size_of_row : Sizes → Names → Option (Option (Option ℕ))
+size_of_row sizes.End names = Some None
+size_of_row (sizes.Open' p sizes.End) names = Some (Some None)
+size_of_row (sizes.Of' e p sizes.End) names =
+    and_then (size_in (sizes.Of' e p sizes.End) names) (λ size. Some (Some size))
+size_of_row other names = None
+
+-- the sizes behind the first
+abbrev pub of_rows : Sizes → Sizes
+of_rows sizes.End = sizes.End
+of_rows (sizes.Open' p rows) = rows
+of_rows (sizes.Of' e p rows) = rows
 
 abbrev pub shape_of : written.Type → Bool → Names → Option Shape
 shape_of of is_variable names =
     and_then (kind_of of.of) (λ kind. and_then (size_in of.sizes names) (λ size.
-    Some (record { kind = kind; size = size; is_variable = is_variable })))
+    and_then (size_of_row (of_rows of.sizes) names) (λ row.
+    Some (record { kind = kind; size = size; row = row; is_variable = is_variable }))))
 
 -- of a type that is no array the one, and of an array the other
 abbrev pub by_sizes : {A : Type 0} → Sizes → A → A → A
@@ -55,7 +70,7 @@ several kind (Some n) = where_true (is_message (bytes_of kind n)) (Some (Several
 abbrev pub protocol_of : written.Type → Names → Option Protocol
 protocol_of of names =
     by_sizes of.sizes (as_type of.of Int (Some OneWord))
-    (and_then (shape_of of false names) (λ shape. several shape.kind shape.size))
+    (and_then (shape_of of false names) (λ shape. where_none shape.row (several shape.kind shape.size)))
 
 -- ---- parameters
 

@@ -144,11 +144,20 @@ pub enum Processes<'a> {
     More(Box<Process<'a>>, Box<Processes<'a>>),
 }
 
-/// The guards of an IF, each with the process behind it, from the first on.
+/// The choices of an IF, from the first on.
 #[cycle(process)]
 pub enum Choices<'a> {
     End,
+    /// A guard, and the process behind it.
     More(Expression<'a>, Box<Process<'a>>, Box<Choices<'a>>),
+    /// `IF i = s FOR n`, and the guards below it.
+    Search {
+        index: Name<'a>,
+        start: Expression<'a>,
+        count: Expression<'a>,
+        guards: Box<Choices<'a>>,
+        more: Box<Choices<'a>>,
+    },
 }
 
 /// The choices of a CASE, from the first on.
@@ -306,6 +315,13 @@ impl Drop for Choices<'_> {
         match self {
             Choices::End => {}
             Choices::More(_guard, _process, _more) => {}
+            Choices::Search {
+                index: _,
+                start: _start,
+                count: _count,
+                guards: _guards,
+                more: _more,
+            } => {}
         }
     }
 }

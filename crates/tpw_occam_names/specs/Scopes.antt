@@ -25,13 +25,14 @@ use Rattle.tpw_occam_names.specs.declared.scope.Scope.TheVariants.{Empty, Within
 abbrev pub word_of : Word → text.Word
 word_of (word.Constant n) = text.Constant n
 word_of (word.Kept x) = text.Kept x
+word_of (word.Limited x most) = text.Limited x most
 
 abbrev pub storage_of : Storage → text.Storage
 storage_of (storage.Array a) = text.Array a
 storage_of (storage.Table bytes) = text.Table bytes.now
 
 abbrev pub view_of : View → text.View
-view_of v = record { storage = storage_of v.storage; kind = v.kind; size = v.size; is_variable = v.is_variable }
+view_of v = record { storage = storage_of v.storage; kind = v.kind; size = v.size; row = v.row; is_variable = v.is_variable }
 
 abbrev pub protocol_of : Protocol → text.Protocol
 protocol_of protocol.OneWord = text.OneWord
@@ -43,7 +44,7 @@ channel_of channel.Output = text.Output
 channel_of channel.Traces = text.Traces
 
 abbrev pub shape_of : Shape → text.Shape
-shape_of s = record { kind = s.kind; size = s.size; is_variable = s.is_variable }
+shape_of s = record { kind = s.kind; size = s.size; row = s.row; is_variable = s.is_variable }
 
 abbrev pub form_of : Form → text.Form
 form_of (form.OfValue of) = text.OfValue of
@@ -57,6 +58,7 @@ entry_of (meaning.Fixed of word) names = Is (text.Fixed of (word_of word))
 entry_of (meaning.Variable of x) names = Is (text.Variable of x)
 entry_of (meaning.Element view i) names = Is (text.Element (view_of view) (word_of i))
 entry_of (meaning.Whole view) names = Is (text.Whole (view_of view))
+entry_of (meaning.Part view first) names = Is (text.Part (view_of view) (word_of first))
 entry_of (meaning.Carrier channel protocol) names = Is (text.Carrier (channel_of channel) (protocol_of protocol))
 entry_of (meaning.Procedure forms takes body) names =
     Procedure (map form_of forms.now) (taking takes.now (run body.now) names)

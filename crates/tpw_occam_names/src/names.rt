@@ -1,7 +1,9 @@
 //! Names and expressions by themselves.
 
 ghost use Rattle.std.specs.Prelude.{◌≡◌, None, Some, MatchOption};
+ghost use Rattle.tpw_occam_meaning.specs.Calls as calls;
 ghost use Rattle.tpw_occam_meaning.specs.Names.{found};
+ghost use Rattle.tpw_occam_meaning.specs.Names as texts;
 ghost use Rattle.tpw_occam_meaning.specs.Expressions as text;
 ghost use Rattle.tpw_occam_meaning.specs.Values as types;
 ghost use Rattle.tpw_occam_names.specs.Scopes.{names_of, view_of};
@@ -11,7 +13,27 @@ use tpw_occam_core::Kind;
 use tpw_occam_meaning::{Dyadic, Expression, Monadic};
 use tpw_occam_terms::{Name, Primitive};
 
-/// The array that an expression names.
+/// Whether a name that no declaration hides is that of `ASSERT`.
+pub fn is_assert(name: &str) -> bool
+    ensures { result ≡ calls.is_assert name.now }
+{
+    name == "ASSERT"
+}
+
+/// A row of an array.
+pub fn row_of(view: View<'_>, row: usize) -> View<'_>
+    ensures { view_of result ≡ texts.row_of (view_of view.entry) row }
+{
+    View {
+        storage: view.storage,
+        kind: view.kind,
+        size: row,
+        row: None,
+        is_variable: view.is_variable,
+    }
+}
+
+/// The array that an expression names: that of a name, or a row of it.
 pub fn named<'s>(scope: &Scope<'s, '_, '_>, e: &Expression<'_>) -> Option<View<'s>>
     ensures { MatchOption result (text.named e.now (names_of scope.now) ≡ None)
         (λ v. text.named e.now (names_of scope.now) ≡ Some (view_of v)) }
@@ -19,10 +41,32 @@ pub fn named<'s>(scope: &Scope<'s, '_, '_>, e: &Expression<'_>) -> Option<View<'
     match e {
         Expression::Name(name) => match look_up(scope, *name) {
             Some((Meaning::Whole(view), _)) => Some(view),
+            Some((Meaning::Part(view, _), _)) => Some(view),
             _ => None,
+        },
+        Expression::Element { array, .. } => match named(scope, array) {
+            Some(view) => match view.row {
+                Some(row) => Some(row_of(view, row)),
+                None => None,
+            },
+            None => None,
         },
         Expression::Bracketed { within, .. } => named(scope, within),
         _ => None,
+    }
+}
+
+/// .. where it has elements, and no rows.
+pub fn of_elements<'s>(scope: &Scope<'s, '_, '_>, e: &Expression<'_>) -> Option<View<'s>>
+    ensures { MatchOption result (text.of_elements e.now (names_of scope.now) ≡ None)
+        (λ v. text.of_elements e.now (names_of scope.now) ≡ Some (view_of v)) }
+{
+    match named(scope, e) {
+        Some(view) => match view.row {
+            Some(_) => None,
+            None => Some(view),
+        },
+        None => None,
     }
 }
 
@@ -88,7 +132,7 @@ pub fn type_of(scope: &Scope<'_, '_, '_>, e: &Expression<'_>) -> Option<Primitiv
         Expression::Truth { .. } => Some(Primitive::Bool),
         Expression::Most { .. } => Some(Primitive::Int),
         Expression::Name(name) => type_in(scope, *name),
-        Expression::Element { array, .. } => match named(scope, array) {
+        Expression::Element { array, .. } => match of_elements(scope, array) {
             Some(view) => Some(element_type(view.kind)),
             None => None,
         },

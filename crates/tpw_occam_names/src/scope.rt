@@ -13,6 +13,8 @@ use tpw_occam_terms::{Name, Primitive};
 pub enum Word {
     Constant(u32),
     Kept(usize),
+    /// That of a cell, which is at most so much, and not negative.
+    Limited(usize, u32),
 }
 
 /// The bytes of an array, by its number, or those of a table.
@@ -22,12 +24,13 @@ pub enum Storage<'s> {
     Table(&'s [u8]),
 }
 
-/// An array as a name shows it.
+/// An array as a name shows it. One of two dimensions has so many rows, each of `row` elements.
 #[derive(Clone, Copy)]
 pub struct View<'s> {
     pub storage: Storage<'s>,
     pub kind: Kind,
     pub size: usize,
+    pub row: Option<usize>,
     pub is_variable: bool,
 }
 
@@ -45,11 +48,13 @@ pub enum Channel {
     Traces,
 }
 
-/// The shape that an array has to have.
+/// The shape that an array has to have: its size where one is said, and its rows, if any, with their size where one is
+/// said.
 #[derive(Clone, Copy)]
 pub struct Shape {
     pub kind: Kind,
     pub size: Option<usize>,
+    pub row: Option<Option<usize>>,
     pub is_variable: bool,
 }
 
@@ -70,7 +75,10 @@ pub enum Meaning<'s, 't, 'a> {
     Variable(Primitive, usize),
     /// The element of an array at a subscript.
     Element(View<'s>, Word),
+    /// An array that is all of its storage.
     Whole(View<'s>),
+    /// An array that begins in its storage behind so many elements.
+    Part(View<'s>, Word),
     Carrier(Channel, Protocol),
     Procedure(&'s [Form], &'t Parameters<'a>, &'t Process<'a>),
     Function(Primitive, &'s [Form], &'t Parameters<'a>, &'t Expression<'a>),

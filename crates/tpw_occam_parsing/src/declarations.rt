@@ -3,8 +3,8 @@
 use crate::draft::{DeclarationNode, Draft, ExpressionId, SizeNode, Stretch, TypeNode};
 use crate::expressions::{MAX_DEPTH, expression, primitive, wanted};
 use crate::parts::{
-    Part, around, behind, behind_first, front, keyword_of, name_of, place, position_of,
-    position_of_keyword, symbol_of, up_to_comma, within,
+    Part, around, behind, behind_first, behind_squares, front, keyword_of, name_of, place,
+    position_of, position_of_keyword, symbol_of, up_to_comma, within,
 };
 use crate::phrases::{front_type, name, names, parameters};
 use crate::stop::Stop;
@@ -246,9 +246,10 @@ pub(crate) fn seems_declaration(parts: &[Part<'_>]) -> bool {
     match keyword_of(parts) {
         Some(Keyword::Val) => true,
         Some(keyword) => primitive(keyword).is_some(),
-        None => keyword_of(behind_first(parts))
-            .and_then(primitive)
-            .is_some(),
+        None => {
+            let (rest, _) = behind_squares(parts);
+            keyword_of(rest).and_then(primitive).is_some()
+        }
     }
 }
 

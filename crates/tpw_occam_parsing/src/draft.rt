@@ -56,7 +56,7 @@ pub enum ExpressionNode<'a> {
         direction: Direction,
     },
     Element {
-        array: Name<'a>,
+        array: ExpressionId,
         subscript: ExpressionId,
         span: Span,
     },
@@ -84,7 +84,7 @@ pub enum ExpressionNode<'a> {
     },
 }
 
-/// How many elements there are.
+/// How many elements there are, or rows.
 #[derive(Clone, Copy)]
 pub enum SizeNode {
     /// One value, no array.
@@ -95,9 +95,11 @@ pub enum SizeNode {
     Of(ExpressionId),
 }
 
+/// A type, with the size of an array and that of its rows.
 #[derive(Clone, Copy)]
 pub struct TypeNode {
     pub size: SizeNode,
+    pub row: SizeNode,
     pub of: Primitive,
 }
 
@@ -155,11 +157,21 @@ pub enum DeclarationNode<'a> {
     },
 }
 
-/// A guard, and the process behind it.
+/// A choice of an IF.
 #[derive(Clone, Copy)]
-pub struct ChoiceNode {
-    pub guard: ExpressionId,
-    pub process: ProcessId,
+pub enum ChoiceNode<'a> {
+    /// A guard, and the process behind it.
+    Guarded {
+        guard: ExpressionId,
+        process: ProcessId,
+    },
+    /// `IF i = s FOR n`, and the guards below it.
+    Search {
+        index: Name<'a>,
+        start: ExpressionId,
+        count: ExpressionId,
+        guards: Stretch,
+    },
 }
 
 /// Constants, or none for `ELSE`, and the process behind them.
@@ -246,7 +258,7 @@ pub struct Draft<'a> {
     pub processes: Vec<ProcessNode<'a>>,
     /// The processes of each SEQ.
     pub steps: Vec<ProcessId>,
-    pub choices: Vec<ChoiceNode>,
+    pub choices: Vec<ChoiceNode<'a>>,
     pub cases: Vec<CaseNode>,
     /// The declarations outside of PROCs.
     pub outermost: Vec<DeclarationId>,
@@ -327,8 +339,18 @@ impl<'a> Draft<'a> {
         append(&mut self.steps, list)
     }
 
-    pub(crate) fn choice_list(&mut self, list: &[ChoiceNode]) -> Result<Stretch, AllocError> {
+    pub(crate) fn choice_list(&mut self, list: &[ChoiceNode<'a>]) -> Result<Stretch, AllocError> {
         append(&mut self.choices, list)
+    }
+
+    /// The first of some choices that is an IF with a replicator: its index.
+    pub(crate) fn search_among(&self, list: Stretch) -> Option<Name<'a>> {
+        for at in list.from..list.to {
+            if let Some(ChoiceNode::Search { index, .. }) = self.choices.get(at).copied() {
+                return Some(index);
+            }
+        }
+        None
     }
 
     pub(crate) fn case_list(&mut self, list: &[CaseNode]) -> Result<Stretch, AllocError> {

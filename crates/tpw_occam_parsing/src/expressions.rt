@@ -2,16 +2,27 @@
 
 use crate::draft::{Draft, ExpressionId, ExpressionNode, Stretch};
 use crate::parts::{
-    Part, behind, behind_first, front, keyword_of, name_of, place, symbol_of, up_to_comma,
-    width_of, within,
+    Part, behind, behind_first, behind_squares, front, keyword_of, name_of, place, symbol_of,
+    up_to_comma, width_of, within,
 };
 use crate::stop::Stop;
 use tpw_occam_lexing::{Keyword, Symbol, Token};
 use tpw_occam_meaning::{Direction, Dyadic, Monadic};
-use tpw_occam_terms::{Fault, FaultKind, Name, Primitive, Span, Wanted};
+use tpw_occam_terms::{Fault, FaultKind, Name, Primitive, Span, Unsupported, Wanted};
 
 /// The most operators and brackets within one another, where an operator of a chain lies within the next.
 pub(crate) const MAX_DEPTH: usize = 501;
+
+/// The most dimensions of an array.
+pub(crate) const MAX_DIMENSIONS: usize = 2;
+
+/// Fails with more dimensions than arrays have.
+pub(crate) fn more_dimensions<T>(span: Span) -> Result<T, Stop> {
+    Err(Stop::Fault(Fault {
+        span,
+        kind: FaultKind::Unsupported(Unsupported::Dimensions),
+    }))
+}
 
 /// Fails with what is wanted at a place.
 pub(crate) fn wanted<T>(what: Wanted, span: Span) -> Result<T, Stop> {
@@ -167,24 +178,44 @@ fn named<'a>(
     if depth == 0 {
         return wanted(Wanted::SmallerExpression, name.span);
     }
-    let (inner, close) = within(rest, end);
     match symbol_of(rest) {
-        Some(Symbol::OpenSquare) => {
-            let subscript = expression(draft, inner, close, depth - 1)?;
-            let element = draft.put_expression(ExpressionNode::Element {
-                array: name,
-                subscript,
-                span: name.span,
-            })?;
-            Ok((element, width_of(rest)))
-        }
+        Some(Symbol::OpenSquare) => element(draft, name, rest, end, depth - 1),
         Some(Symbol::OpenRound) => {
+            let (inner, close) = within(rest, end);
             let arguments = listed(draft, ListKind::Arguments, inner, close, depth - 1)?;
             let call = draft.put_expression(ExpressionNode::Call { name, arguments })?;
             Ok((call, width_of(rest)))
         }
         _ => Ok((draft.put_expression(ExpressionNode::Name(name))?, 0)),
     }
+}
+
+/// An element of an array, or of a row: a name with subscripts behind it; and how many parts these are.
+#[cycle(expressions)]
+fn element<'a>(
+    draft: &mut Draft<'a>,
+    name: Name<'a>,
+    parts: &[Part<'a>],
+    end: Span,
+    depth: usize,
+) -> Result<(ExpressionId, usize), Stop> {
+    let (after, dimensions) = behind_squares(parts);
+    if dimensions > MAX_DIMENSIONS {
+        return more_dimensions(name.span);
+    }
+    let mut array = draft.put_expression(ExpressionNode::Name(name))?;
+    let mut rest = parts;
+    for _ in 0..dimensions {
+        let (inner, close) = within(rest, end);
+        let subscript = expression(draft, inner, close, depth)?;
+        array = draft.put_expression(ExpressionNode::Element {
+            array,
+            subscript,
+            span: name.span,
+        })?;
+        rest = behind_first(rest);
+    }
+    Ok((array, parts.len().saturating_sub(after.len())))
 }
 
 /// The parts within brackets, as one operand.

@@ -65,24 +65,53 @@ pub(crate) enum Head<'a> {
     },
 }
 
-/// `i = s FOR n`, behind `SEQ`.
-fn replicator<'a>(draft: &mut Draft<'a>, parts: &[Part<'a>], end: Span) -> Result<Head<'a>, Stop> {
+/// `i = s FOR n`: an index that counts.
+#[derive(Clone, Copy)]
+pub(crate) struct Counting<'a> {
+    pub index: Name<'a>,
+    pub start: ExpressionId,
+    pub count: ExpressionId,
+}
+
+/// `i = s FOR n`, behind `SEQ` or `IF`, which else is wanted so.
+fn replicator<'a>(
+    draft: &mut Draft<'a>,
+    parts: &[Part<'a>],
+    what: Wanted,
+    end: Span,
+) -> Result<Counting<'a>, Stop> {
     let Some(at) = position_of(parts, Symbol::Equal) else {
-        return wanted(Wanted::Replicator, place(parts, end));
+        return wanted(what, place(parts, end));
     };
     let (front, rest) = around(parts, at);
     let index = name(front, place(behind(parts, at), end))?;
     let Some(at) = position_of_keyword(rest, Keyword::For) else {
-        return wanted(Wanted::Replicator, end);
+        return wanted(what, end);
     };
     let (start, count) = around(rest, at);
     let start = value(draft, start, place(behind(rest, at), end))?;
     let count = value(draft, count, end)?;
-    Ok(Head::Replicated {
+    Ok(Counting {
         index,
         start,
         count,
     })
+}
+
+/// Whether a line is `IF` with a replicator, as far as `=` and `FOR` say so.
+pub(crate) fn is_search(parts: &[Part<'_>]) -> bool {
+    keyword_of(parts) == Some(Keyword::If)
+        && position_of(parts, Symbol::Equal).is_some()
+        && position_of_keyword(parts, Keyword::For).is_some()
+}
+
+/// The replicator of an IF that is a choice.
+pub(crate) fn search<'a>(
+    draft: &mut Draft<'a>,
+    parts: &[Part<'a>],
+    row: Row,
+) -> Result<Counting<'a>, Stop> {
+    replicator(draft, behind(parts, 1), Wanted::Search, row.end)
 }
 
 /// Where an expression stands.
@@ -299,7 +328,14 @@ fn construct<'a>(
             Ok(Head::Whole(Entry::Process(ProcessNode::Stop { span })))
         }
         Keyword::Seq if parts.len() == 1 => Ok(Head::Sequence),
-        Keyword::Seq => replicator(draft, behind(parts, 1), row.end),
+        Keyword::Seq => {
+            let found = replicator(draft, behind(parts, 1), Wanted::Replicator, row.end)?;
+            Ok(Head::Replicated {
+                index: found.index,
+                start: found.start,
+                count: found.count,
+            })
+        }
         Keyword::If => {
             alone(parts)?;
             Ok(Head::If)

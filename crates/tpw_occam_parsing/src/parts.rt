@@ -207,6 +207,20 @@ pub(crate) fn behind_first<'t, 'a>(parts: &'t [Part<'a>]) -> &'t [Part<'a>] {
     behind(parts, width_of(parts))
 }
 
+/// The parts behind those in square brackets that stand in front, and how many these are.
+pub(crate) fn behind_squares<'t, 'a>(parts: &'t [Part<'a>]) -> (&'t [Part<'a>], usize) {
+    let mut rest = parts;
+    let mut count = 0usize;
+    for _ in 0..parts.len() {
+        if symbol_of(rest) != Some(Symbol::OpenSquare) {
+            break;
+        }
+        rest = behind_first(rest);
+        count = count.saturating_add(1);
+    }
+    (rest, count)
+}
+
 /// Where the first of parts is a symbol, outside of brackets.
 pub(crate) fn position_of(parts: &[Part<'_>], symbol: Symbol) -> Option<usize> {
     let mut rest = parts;

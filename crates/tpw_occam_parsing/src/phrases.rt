@@ -1,10 +1,12 @@
 //! Names, types and parameters.
 
 use crate::draft::{Draft, ParameterNode, SizeNode, Stretch, TypeNode};
-use crate::expressions::{MAX_DEPTH, expression, primitive, wanted};
+use crate::expressions::{
+    MAX_DEPTH, MAX_DIMENSIONS, expression, more_dimensions, primitive, wanted,
+};
 use crate::parts::{
-    Part, behind, behind_first, front, keyword_of, name_of, place, symbol_of, up_to_comma,
-    width_of, within,
+    Part, behind, behind_first, behind_squares, front, keyword_of, name_of, place, symbol_of,
+    up_to_comma, within,
 };
 use crate::stop::Stop;
 use tpw_occam_lexing::{Keyword, Symbol};
@@ -45,39 +47,43 @@ pub(crate) fn names<'a>(
     Ok(draft.name_list(&all)?)
 }
 
-/// The size of an array, in square brackets.
-fn size<'a>(draft: &mut Draft<'a>, inner: &[Part<'a>], close: Span) -> Result<SizeNode, Stop> {
+/// The size of an array, or of its rows, in the square brackets that are the first part; there may be none.
+fn size<'a>(draft: &mut Draft<'a>, parts: &[Part<'a>], end: Span) -> Result<SizeNode, Stop> {
+    if symbol_of(parts) != Some(Symbol::OpenSquare) {
+        return Ok(SizeNode::One);
+    }
+    let (inner, close) = within(parts, end);
     if inner.is_empty() {
         return Ok(SizeNode::Open);
     }
     Ok(SizeNode::Of(expression(draft, inner, close, MAX_DEPTH)?))
 }
 
-/// A type at the front of parts, and how many it has: `INT`, `[]INT`, `[k]BYTE`. None where there is none.
+/// A type at the front of parts, and how many it has: `INT`, `[]INT`, `[k][l]BYTE`. None where there is none.
 pub(crate) fn front_type<'a>(
     draft: &mut Draft<'a>,
     parts: &[Part<'a>],
     end: Span,
 ) -> Result<Option<(TypeNode, usize)>, Stop> {
-    if let Some(of) = keyword_of(parts).and_then(primitive) {
-        return Ok(Some((
-            TypeNode {
-                size: SizeNode::One,
-                of,
-            },
-            1,
-        )));
-    }
-    let width = width_of(parts);
-    let Some(of) = keyword_of(behind(parts, width)).and_then(primitive) else {
+    let (rest, dimensions) = behind_squares(parts);
+    let Some(of) = keyword_of(rest).and_then(primitive) else {
         return Ok(None);
     };
-    if symbol_of(parts) != Some(Symbol::OpenSquare) {
-        return Ok(None);
+    if dimensions > MAX_DIMENSIONS {
+        return more_dimensions(place(parts, end));
     }
-    let (inner, close) = within(parts, end);
-    let size = size(draft, inner, close)?;
-    Ok(Some((TypeNode { size, of }, width.saturating_add(1))))
+    let size = size(draft, parts, end)?;
+    let row = size_of_row(draft, parts, end)?;
+    let width = parts.len().saturating_sub(rest.len());
+    Ok(Some((TypeNode { size, row, of }, width.saturating_add(1))))
+}
+
+/// The size of an array's rows, in the square brackets behind those of its own; there may be none.
+fn size_of_row<'a>(draft: &mut Draft<'a>, parts: &[Part<'a>], end: Span) -> Result<SizeNode, Stop> {
+    match symbol_of(parts) {
+        Some(Symbol::OpenSquare) => size(draft, behind_first(parts), end),
+        _ => Ok(SizeNode::One),
+    }
 }
 
 /// How a parameter's argument is passed, and how many parts say it.

@@ -5,7 +5,10 @@ use crate::draft::{
     ProcessId, ProcessNode, Stretch,
 };
 use crate::faults::Faults;
-use crate::heads::{Below, Entry, Head, alone, constants, guard, head_of, results, wrong_head};
+use crate::heads::{
+    Below, Counting, Entry, Head, alone, constants, guard, head_of, is_search, results, search,
+    wrong_head,
+};
 use crate::parts::{Part, keyword_of};
 use crate::rows::{Row, first_of, is_end, last_of, parts_of_row, split_last};
 use crate::stop::Stop;
@@ -424,9 +427,68 @@ impl<'a> Parser<'_, 'a> {
         is_nested && keyword_of(parts_of_row(self.parts, row)) == Some(Keyword::If)
     }
 
-    /// A guard with its process. Below an IF in its place, which occam has, stand guards.
+    /// Whether a line that was not told of is an IF with a replicator.
+    fn is_search(&self, row: Row) -> bool {
+        !row.is_wrong && row.unsupported.is_none() && is_search(parts_of_row(self.parts, row))
+    }
+
+    /// A choice that was not read.
+    fn wrong_choice(&mut self, span: Span) -> Result<ChoiceNode<'a>, AllocError> {
+        Ok(ChoiceNode::Guarded {
+            guard: self.wrong(span)?,
+            process: self.draft.put_process(ProcessNode::Wrong)?,
+        })
+    }
+
+    /// An IF with a replicator, as a choice, with the guards below it.
     #[cycle(processes)]
-    fn choice(&mut self, row: Row, below: &[Row], depth: usize) -> Result<ChoiceNode, AllocError> {
+    fn search(
+        &mut self,
+        row: Row,
+        below: &[Row],
+        depth: usize,
+    ) -> Result<ChoiceNode<'a>, AllocError> {
+        if depth == 0 {
+            self.fault(Fault {
+                span: row.span,
+                kind: FaultKind::TooDeep,
+            })?;
+            return self.wrong_choice(row.span);
+        }
+        let read = search(&mut self.draft, parts_of_row(self.parts, row), row);
+        let read = self.recover(read)?;
+        let guards = self.choices(below, depth - 1)?;
+        if let Some(inner) = self.draft.search_among(guards) {
+            self.want(Wanted::Guards, inner.span)?;
+        }
+        match read {
+            Some(
+                Counting {
+                    index,
+                    start,
+                    count,
+                },
+            ) => Ok(ChoiceNode::Search {
+                index,
+                start,
+                count,
+                guards,
+            }),
+            None => self.wrong_choice(row.span),
+        }
+    }
+
+    /// A guard with its process, or an IF with a replicator. Below another IF in its place stand guards.
+    #[cycle(processes)]
+    fn choice(
+        &mut self,
+        row: Row,
+        below: &[Row],
+        depth: usize,
+    ) -> Result<ChoiceNode<'a>, AllocError> {
+        if self.is_search(row) {
+            return self.search(row, below, depth);
+        }
         let guard = self.guard(row)?;
         let process = if guard.is_none() && depth > 0 && self.is_of_guards(row, below) {
             self.choices(below, depth - 1)?;
@@ -438,7 +500,7 @@ impl<'a> Parser<'_, 'a> {
             Some(guard) => guard,
             None => self.wrong(row.span)?,
         };
-        Ok(ChoiceNode { guard, process })
+        Ok(ChoiceNode::Guarded { guard, process })
     }
 
     /// The choices of an IF. Of lines with nothing below, as where guards and processes stand as deep as one another,

@@ -10,7 +10,8 @@ use tpw_occam_terms::{Fault, FaultKind, Span};
 /// The most lines that stand below one another, below the first.
 const MAX_LEVELS: usize = 60;
 
-/// The most lines of a text, and the most tokens of a line. The passes over a tree go as deep as its lists are long.
+/// The most lines of a text, without those that are predefined, and the most tokens of a line. The passes over a tree go
+/// as deep as its lists are long.
 const MAX_LINES: usize = 5_000;
 
 const MAX_ITEMS: usize = 5_000;
@@ -252,8 +253,18 @@ impl<'a> Layout<'a> {
     }
 }
 
+/// How many lines of what is predefined stand in front of a text.
+fn predefined_of(lines: &[Line<'_>]) -> usize {
+    for (index, line) in lines.iter().enumerate() {
+        if !line.end.is_predefined() {
+            return index;
+        }
+    }
+    lines.len()
+}
+
 /// The lines of a text, nested by their indentation: two spaces a level. What stands below a line with a fault is read
-/// all the same.
+/// all the same. No line of the text stands below one that is predefined.
 pub(crate) fn rows_of<'a>(alloc: Global, lines: &[Line<'a>]) -> Result<Rows<'a>, AllocError> {
     let mut layout = Layout {
         rows: Vec::new(alloc),
@@ -263,8 +274,12 @@ pub(crate) fn rows_of<'a>(alloc: Global, lines: &[Line<'a>]) -> Result<Rows<'a>,
         is_laid_out: true,
         is_deep: false,
     };
-    for line in lines {
-        if layout.rows.len() == MAX_LINES {
+    let predefined = predefined_of(lines);
+    for (index, line) in lines.iter().enumerate() {
+        if index == predefined {
+            layout.finish();
+        }
+        if layout.rows.len() == predefined.saturating_add(MAX_LINES) {
             layout.is_laid_out = false;
             layout.fault(FaultKind::TooManyLines, span_of(line))?;
             break;

@@ -198,7 +198,12 @@ impl Found {
                 Ok(())
             }
             Process::Variable {
-                name,
+                name: None,
+                body,
+                ..
+            } => { self.add_process(alloc, tables, body) }
+            Process::Variable {
+                name: Some(name),
                 cell,
                 kind,
                 body,

@@ -1,3 +1,4 @@
+pub mod Predefined
 pub mod Seen
 pub mod Spelled
 pub mod Unparse

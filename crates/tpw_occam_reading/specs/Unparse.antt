@@ -3,6 +3,7 @@ use Rattle.std.specs.Prelude.{ℕ, ◌+◌, List, [], ◌∷◌}
 use Rattle.tpw_occam_terms.specs.declared.name.Name.{Name}
 use Rattle.tpw_occam_meaning.specs.declared.types.Parameters.{Parameters}
 use Rattle.tpw_occam_meaning.specs.declared.types.Primitives.{Primitives}
+use Rattle.tpw_occam_meaning.specs.declared.expression.Expression.{Expression}
 use Rattle.tpw_occam_meaning.specs.declared.expression.Expressions.{Expressions}
 use Rattle.tpw_occam_lexing.specs.declared.keywords.Keyword.TheVariants as keyword
 use Rattle.tpw_occam_lexing.specs.declared.symbol.Symbol.TheVariants as symbol
@@ -42,6 +43,11 @@ function_head types name takes =
 -- the line of RESULT
 abbrev pub results_spelled : Expressions → List Lexeme
 results_spelled results = Word keyword.Result ∷ listed results []
+
+-- the line of an IF with a replicator, as a choice
+abbrev pub search_spelled : Name → Expression → Expression → List Lexeme
+search_spelled index start count =
+    Word keyword.If ∷ named index ∷ Sign symbol.Equal ∷ spelled start (Word keyword.For ∷ spelled count [])
 
 -- the line of any other declaration
 abbrev pub declaration_spelled : Declaration → List Lexeme
@@ -106,11 +112,13 @@ abbrev mutual
   steps_lines processes.End d more = more
   steps_lines (processes.More' p first q others) d more = process_lines first d (steps_lines others d more)
 
-  -- guards, each with its process below it
+  -- guards, each with its process below it, or an IF with guards below it
   pub choices_lines : Choices → ℕ → List WrittenLine → List WrittenLine
   choices_lines choices.End d more = more
   choices_lines (choices.More' guard p process q others) d more =
       line d (spelled guard []) ∷ process_lines process (d + 2) (choices_lines others d more)
+  choices_lines (choices.Search' index start count p guards q others) d more =
+      line d (search_spelled index start count) ∷ choices_lines guards (d + 2) (choices_lines others d more)
 
   pub cases_lines : Cases → ℕ → List WrittenLine → List WrittenLine
   cases_lines cases.End d more = more

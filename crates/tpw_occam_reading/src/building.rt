@@ -45,11 +45,11 @@ fn call<'a>(alloc: Global, name: Name<'a>, arguments: Listed<'a>) -> Made<'a> {
     })
 }
 
-fn element<'a>(alloc: Global, array: Name<'a>, span: Span, subscript: Made<'a>) -> Made<'a> {
-    let subscript = Box::new(alloc, subscript?)?;
+fn element<'a>(alloc: Global, array: Made<'a>, span: Span, subscript: Made<'a>) -> Made<'a> {
+    let array = Box::new(alloc, array?)?;
     Ok(Expression::Element {
-        array: Box::new(alloc, Expression::Name(array))?,
-        subscript,
+        array,
+        subscript: Box::new(alloc, subscript?)?,
         span,
     })
 }
@@ -121,12 +121,15 @@ pub(crate) fn expression<'a>(
                 subscript,
                 span,
             },
-        ) => element(
-            alloc,
-            array,
-            span,
-            expression(alloc, draft, subscript, room - 1),
-        ),
+        ) => {
+            let array = expression(alloc, draft, array, room - 1);
+            element(
+                alloc,
+                array,
+                span,
+                expression(alloc, draft, subscript, room - 1),
+            )
+        }
         Some(ExpressionNode::Call { name, arguments }) => {
             call(alloc, name, listed(alloc, draft, arguments, room - 1))
         }
@@ -180,17 +183,23 @@ pub(crate) fn listed<'a>(alloc: Global, draft: &Draft<'a>, list: Stretch, room: 
     Ok(all)
 }
 
-/// The size of an array.
-fn sized<'a>(alloc: Global, size: Made<'a>) -> Result<Sizes<'a>, AllocError> {
-    let end = Box::new(alloc, Sizes::End)?;
-    Ok(Sizes::Of(size?, end))
+/// The size of an array, in front of those of its rows.
+fn sized<'a>(alloc: Global, size: Made<'a>, rows: Sizes<'a>) -> Result<Sizes<'a>, AllocError> {
+    let rows = Box::new(alloc, rows)?;
+    Ok(Sizes::Of(size?, rows))
 }
 
-fn sizes<'a>(alloc: Global, draft: &Draft<'a>, size: SizeNode) -> Result<Sizes<'a>, AllocError> {
+/// A size in front of those of rows. One that has none has no rows either.
+fn sizes<'a>(
+    alloc: Global,
+    draft: &Draft<'a>,
+    size: SizeNode,
+    rows: Sizes<'a>,
+) -> Result<Sizes<'a>, AllocError> {
     match size {
-        SizeNode::One => Ok(Sizes::End),
-        SizeNode::Open => Ok(Sizes::Open(Box::new(alloc, Sizes::End)?)),
-        SizeNode::Of(id) => sized(alloc, expression(alloc, draft, id, MAX_ROOM)),
+        SizeNode::One => Ok(rows),
+        SizeNode::Open => Ok(Sizes::Open(Box::new(alloc, rows)?)),
+        SizeNode::Of(id) => sized(alloc, expression(alloc, draft, id, MAX_ROOM), rows),
     }
 }
 
@@ -200,8 +209,9 @@ pub(crate) fn of_type<'a>(
     draft: &Draft<'a>,
     node: TypeNode,
 ) -> Result<Type<'a>, AllocError> {
+    let rows = sizes(alloc, draft, node.row, Sizes::End)?;
     Ok(Type {
-        sizes: sizes(alloc, draft, node.size)?,
+        sizes: sizes(alloc, draft, node.size, rows)?,
         of: node.of,
     })
 }

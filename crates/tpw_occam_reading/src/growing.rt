@@ -521,6 +521,58 @@ fn choice<'a>(
     Ok(Choices::More(guard?, process, others))
 }
 
+/// An IF with a replicator, whose start and count are at hand, in front of others.
+fn search<'a>(
+    alloc: Global,
+    index: Name<'a>,
+    bounds: (Made<'a>, Made<'a>),
+    guards: Result<Choices<'a>, AllocError>,
+    others: Choices<'a>,
+) -> Result<Choices<'a>, AllocError> {
+    let more = Box::new(alloc, others)?;
+    let guards = Box::new(alloc, guards?)?;
+    let (start, count) = bounds;
+    let start = start?;
+    Ok(Choices::Search {
+        index,
+        start,
+        count: count?,
+        guards,
+        more,
+    })
+}
+
+/// A choice in front of others.
+#[cycle(process)]
+fn choice_of<'a>(
+    alloc: Global,
+    draft: &Draft<'a>,
+    node: ChoiceNode<'a>,
+    others: Choices<'a>,
+    room: u32,
+) -> Result<Choices<'a>, AllocError> {
+    if room == 0 {
+        return Ok(others);
+    }
+    match node {
+        ChoiceNode::Guarded { guard, process: id } => {
+            let guard = expression(alloc, draft, guard, MAX_ROOM);
+            choice(alloc, guard, process(alloc, draft, id, room - 1), others)
+        }
+        ChoiceNode::Search {
+            index,
+            start,
+            count,
+            guards: list,
+        } => {
+            let start = expression(alloc, draft, start, MAX_ROOM);
+            let count = expression(alloc, draft, count, MAX_ROOM);
+            let guards = choices(alloc, draft, list, room - 1);
+            search(alloc, index, (start, count), guards, others)
+        }
+    }
+}
+
 #[cycle(process)]
 fn choices<'a>(
     alloc: Global,
@@ -530,10 +582,9 @@ fn choices<'a>(
 ) -> Result<Choices<'a>, AllocError> {
     let mut all = Choices::End;
     for at in (list.from..list.to).rev() {
-        if let Some(ChoiceNode { guard, process: id }) = draft.choices.get(at).copied() {
+        if let Some(node) = draft.choices.get(at).copied() {
             let others = mem::replace(&mut all, Choices::End);
-            let guard = expression(alloc, draft, guard, MAX_ROOM);
-            all = choice(alloc, guard, process(alloc, draft, id, room), others)?;
+            all = choice_of(alloc, draft, node, others, room)?;
         }
     }
     Ok(all)

@@ -3,14 +3,14 @@
 ghost use Rattle.std.specs.Prelude.{◌≡◌, ◌∷◌, ◌+◌, [], IfSome, OnSome, IsTrue};
 ghost use Rattle.tpw_occam_lexing.specs.Lexemes.{lexeme_of};
 ghost use Rattle.tpw_occam_reading.specs.Seen.{seen, seen_lines};
-ghost use Rattle.tpw_occam_reading.specs.Unparse.{line, head_of, function_head, results_spelled, declaration_spelled, process_spelled, declaration_lines, body_lines, process_lines, steps_lines, choices_lines, cases_lines, all_lines, unparse};
+ghost use Rattle.tpw_occam_reading.specs.Unparse.{line, head_of, function_head, results_spelled, search_spelled, declaration_spelled, process_spelled, declaration_lines, body_lines, process_lines, steps_lines, choices_lines, cases_lines, all_lines, unparse};
 
 use crate::marks::{primitive_token, taken};
 use crate::spelled::{expression, listed, name, names, of_type, of_type_if, parameters, types};
 use tpw_occam_lexing::{Item, Keyword, Line, Symbol, Token};
 use tpw_occam_meaning::{
-    Cases, Choices, Declaration, Declarations, Expressions, Parameters, Primitives, Process,
-    Processes, Source, ValueProcess,
+    Cases, Choices, Declaration, Declarations, Expression, Expressions, Parameters, Primitives,
+    Process, Processes, Source, ValueProcess,
 };
 use tpw_occam_terms::Name;
 
@@ -136,6 +136,23 @@ fn routine_head(
     let items = taken(Token::Symbol(Symbol::OpenRound), items)?;
     let items = parameters(takes, items)?;
     last(Token::Symbol(Symbol::CloseRound), items)
+}
+
+/// The line of an IF with a replicator, as a choice.
+fn search_head(
+    index: Name<'_>,
+    start: &Expression<'_>,
+    count: &Expression<'_>,
+    items: &[Item<'_>],
+) -> Option<()>
+    ensures { OnSome result (seen items.now ≡ search_spelled index.entry start.now count.now) }
+{
+    let items = taken(Token::Keyword(Keyword::If), items)?;
+    let items = name(index, items)?;
+    let items = taken(Token::Symbol(Symbol::Equal), items)?;
+    let items = expression(start, items)?;
+    let items = taken(Token::Keyword(Keyword::For), items)?;
+    end(expression(count, items)?)
 }
 
 /// The line of RESULT.
@@ -360,6 +377,18 @@ fn choices_in<'l, 'a>(
             end(expression(guard, items)?)?;
             let lines = process_in(process, lines, d.checked_add(2)?)?;
             choices_in(others, lines, d)
+        }
+        Choices::Search {
+            index,
+            start,
+            count,
+            guards,
+            more,
+        } => {
+            let (items, lines) = first_line(lines, d)?;
+            search_head(*index, start, count, items)?;
+            let lines = choices_in(guards, lines, d.checked_add(2)?)?;
+            choices_in(more, lines, d)
         }
     }
 }

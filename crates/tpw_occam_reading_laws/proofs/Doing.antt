@@ -31,25 +31,28 @@ use Rattle.tpw_occam_meaning.specs.declared.tree.Choices.TheVariants as choices
 use Rattle.tpw_occam_meaning.specs.declared.tree.Cases.{Cases}
 use Rattle.tpw_occam_meaning.specs.declared.tree.Cases.TheVariants as cases
 use Rattle.tpw_occam_meaning.specs.Assignments.{assignment, whole_target, results_given, written_array}
-use Rattle.tpw_occam_meaning.specs.Calls.{lent, referred, called, call_alone, taken_from}
-use Rattle.tpw_occam_meaning.specs.Declarations.{value_declared, abbreviated, variables, arrays, array_view, naming, retyped, procedure, function, is_array, array_entry, table_entry, type_of_value, may_be_declared, routine}
+use Rattle.tpw_occam_meaning.specs.Calls.{lent, lent_to, referred, called, call_alone, taken_from}
+use Rattle.tpw_occam_meaning.specs.Counts.{most_of, most_turns, limited, index_word, counted, replicated}
+use Rattle.tpw_occam_meaning.specs.Declarations.{value_declared, abbreviated, variables, arrays, array_view, naming, retyped, procedure, function, is_array, array_lent, shape_of_table, type_of_value, may_be_declared, routine, is_table, array_entry, table_entry}
 use Rattle.tpw_occam_meaning.specs.Effects.{Effect, within_variable, within_array}
-use Rattle.tpw_occam_meaning.specs.Expressions.{value_of, type_of, constant, named}
+use Rattle.tpw_occam_meaning.specs.Expressions.{value_of, type_of, constant, of_elements, first_of}
 use Rattle.tpw_occam_meaning.specs.Maybe.{and_then, where_true}
 use Rattle.tpw_occam_meaning.specs.Messages.{carried, message_of}
-use Rattle.tpw_occam_meaning.specs.Names.{Word, Kept, Channel, Protocol, Traces, Place, Fixed, Variable, Element, Whole, Form, Entry, Is, Procedure, Function, Names, found, with_name, taking, Routine}
-use Rattle.tpw_occam_meaning.specs.Processes.{run, all_run, first_true, selected, otherwise, declared, all_constants, are_distinct, constants_of, elses, valued}
+use Rattle.tpw_occam_meaning.specs.Names.{checked, behind_first, Word, Constant, Kept, Limited, Channel, Protocol, Traces, Place, Fixed, Variable, Element, Whole, Part, Lent, There, Begins, elements_in_all, Form, Entry, Is, Procedure, Function, Names, found, with_name, taking, Routine}
+use Rattle.tpw_occam_meaning.specs.Processes.{run, all_run, first_true, behind_found, selected, otherwise, declared, all_constants, are_distinct, constants_of, elses, valued}
+use Rattle.tpw_occam_meaning.specs.Searches.{noting, found_at, searched}
 use Rattle.tpw_occam_meaning.specs.Types.{shape_of, forms_of, is_value, bytes_of, all_types}
-use Rattle.tpw_occam_meaning.specs.Values.{element_type, of_one}
+use Rattle.tpw_occam_meaning.specs.Values.{element_type, constant_in, of_one}
 use Rattle.tpw_occam_reading.specs.Spelled.{spelled}
 use Rattle.tpw_occam_reading_laws.proofs.Plain.{plain, all_plain, name_of}
 use Rattle.tpw_occam_reading_laws.proofs.PlainTypes.{plain_type, plain_type_if, plain_names, plain_parameters}
 use Rattle.tpw_occam_reading_laws.proofs.Readings.{one_expression}
 use Rattle.tpw_occam_reading_laws.proofs.Wellformed.{value_needs}
 use Rattle.tpw_occam_reading_laws.proofs.Order.{Below, below_refl, below_eq, below_then, found_below, NamesBelow}
+use Rattle.tpw_occam_reading_laws.proofs.CountMeanings.{most_same}
 use Rattle.tpw_occam_reading_laws.proofs.Meanings.{value_below, type_same, constant_below}
 use Rattle.tpw_occam_reading_laws.proofs.TypeMeanings.{shape_below, forms_below}
-use Rattle.tpw_occam_reading_laws.proofs.Statements.{assignment_below, called_below, carried_same, message_below, is_array_same, referred_below, table_below, array_entry_below, type_of_value_below, retyped_below, taken_below, results_given_below}
+use Rattle.tpw_occam_reading_laws.proofs.Statements.{assignment_below, called_below, carried_same, message_below, is_array_same, referred_below, table_below, array_lent_below, type_of_value_below, retyped_below, taken_below, results_given_below, is_table_same, array_entry_below}
 use Rattle.tpw_occam_reading_laws.proofs.Sameness.{SameDeclaration, Same, SameSteps, SameChoices, SameCases, SameBody}
 use Rattle.tpw_occam_reading_laws.proofs.Faultless.{run_needs, valued_needs}
 use Rattle.tpw_occam_reading_laws.proofs.ProcessReadings.{one_process, one_body}
@@ -93,6 +96,10 @@ agree_message protocol e f h m n d j =
     agree_between (message_below protocol e m j.upper d j.left) (message_below protocol f n j.upper d j.right)
     (ap (λ z. message_of protocol z j.upper d) h)
 
+-- what is known of a count
+agree_most : (e f : Expression) → plain e ≡ plain f → (m n : Names) → Joined m n → most_of e m ≡ most_of f n
+agree_most e f h m n j = sym (most_same e m j.upper j.left) ∙ ap (λ z. most_of z j.upper) h ∙ most_same f n j.upper j.right
+
 -- ---- what is behind declarations
 
 agree_naming : (o p : Option Entry) → Agree o p → (a b : Name) → a.text.now ≡ b.text.now → (after other : Names → ℕ → Effect)
@@ -100,27 +107,44 @@ agree_naming : (o p : Option Entry) → Agree o p → (a b : Name) → a.text.no
 agree_naming o p h a b e after other w m n j d =
     agree_then h (λ entry. w.at (with_name a entry m) (with_name b entry n) (joined_same j a.text.now b.text.now e entry) d)
 
+agree_lent_to : (d : ℕ) (lent : Lent) (next other : Place → ℕ → Effect) → ((place : Place) (k : ℕ) → Agree (next place k) (other place k))
+    → Agree (lent_to d lent next) (lent_to d lent other)
+agree_lent_to d (There place) next other h = h place d
+agree_lent_to d (Begins view first) next other h = agree_given d first _ _ (λ word k. h (Part view word) k)
+
+-- .. behind another name for an array
+agree_array_declared : (o p : Option Lent) → Agree o p → (a b : Name) → a.text.now ≡ b.text.now → (after other : Names → ℕ → Effect)
+    → WithNames after other → (m n : Names) → Joined m n → (d : ℕ)
+    → Agree (and_then o (λ lent. lent_to d lent (λ place x. after (with_name a (Is place) m) x)))
+    (and_then p (λ lent. lent_to d lent (λ place x. other (with_name b (Is place) n) x)))
+agree_array_declared o p h a b e after other w m n j d =
+    agree_then h (λ lent. agree_lent_to d lent _ _ (λ place x.
+    w.at (with_name a (Is place) m) (with_name b (Is place) n) (joined_same j a.text.now b.text.now e (Is place)) x))
+
 agree_value_declared : (s t : Option written.Type) → plain_type_if s ≡ plain_type_if t → (a b : Name) → a.text.now ≡ b.text.now
     → (e f : Expression) → plain e ≡ plain f → (after other : Names → ℕ → Effect) → WithNames after other
     → (m n : Names) → Joined m n → (d : ℕ) → Agree (value_declared s a e after m d) (value_declared t b f other n d)
 agree_value_declared s t k a b l e f h after other w m n j d =
     agree_if (is_array s e) (is_array t f) (sym (is_array_same s e) ∙ (λ i. is_array (k i) (h i)) ∙ is_array_same t f)
-    (agree_naming (table_entry s e m) (table_entry t f n)
-    (agree_between (table_below s e m j.upper j.left) (table_below t f n j.upper j.right) (λ i. table_entry (k i) (h i) j.upper))
+    (agree_array_declared (array_lent (shape_of_table s e m) e m d) (array_lent (shape_of_table t f n) f n d)
+    (agree_between (table_below s e m j.upper d j.left) (table_below t f n j.upper d j.right)
+    (λ i. array_lent (shape_of_table (k i) (h i) j.upper) (h i) j.upper d))
     a b l after other w m n j d)
     (agree_then (agree_between (type_of_value_below s e m j.upper j.left) (type_of_value_below t f n j.upper j.right) (λ i. type_of_value (k i) (h i) j.upper))
     (λ of. agree_then (agree_value e f h of m n d j) (λ v. agree_where (may_be_declared v) (may_be_declared v)
-    (agree_given d v _ _ (λ word x. w.at (with_name a (Is (Fixed of word)) m) (with_name b (Is (Fixed of word)) n)
-    (joined_same j a.text.now b.text.now l (Is (Fixed of word))) x)))))
+    (agree_given d v _ _ (λ word x. let known = limited (most_of e m) word in
+    subst (λ z. Agree (after (with_name a (Is (Fixed of known)) m) x) (other (with_name b (Is (Fixed of (limited z word))) n) x)) (agree_most e f h m n j)
+    (w.at (with_name a (Is (Fixed of known)) m) (with_name b (Is (Fixed of known)) n) (joined_same j a.text.now b.text.now l (Is (Fixed of known))) x))))))
 
 -- .. behind another name for a variable or an element
 one_referred : (e : Expression) (of : Primitive) (m : Names) (d : ℕ) (next other : Place → ℕ → Effect)
     → ((place : Place) (k : ℕ) → Agree (next place k) (other place k)) → Agree (referred e of m d next) (referred e of m d other)
 one_referred (tree.Name name) of m d next other h = agree_then (agree_refl {o = lent of (found name m)}) (λ place. h place d)
 one_referred (tree.Element' p a q i span) of m d next other h =
-    agree_then (agree_refl {o = named a m}) (λ view. agree_then (agree_refl {o = written_array view}) (λ a.
-    agree_as of (element_type view.kind) (agree_then (agree_refl {o = value_of i Int m d}) (λ i.
-    agree_given d (of_one (λ i. bind i (subscript view.size)) i) _ _ (λ word k. h (Element view word) k)))))
+    agree_then (agree_refl {o = of_elements a m}) (λ view. agree_then (agree_refl {o = written_array view}) (λ array.
+    agree_as of (element_type view.kind) (agree_then (agree_refl {o = first_of a m d}) (λ first.
+    agree_then (agree_refl {o = value_of i Int m d}) (λ i. agree_given d (behind_first first (checked view.size i)) _ _
+    (λ word k. h (Element view word) k))))))
 one_referred (tree.Bracketed' p e span) of m d next other h = one_referred e of m d next other h
 one_referred anything of m d next other h = agree_left_none
 
@@ -141,9 +165,9 @@ agree_abbreviated s t k a b l e f h after other w m n j d =
     agree_by_sizes s.sizes t.sizes _ _ _ _ (ap (λ z. z.sizes) k)
     (agree_referred s.of t.of (ap (λ z. z.of) k) e f h m n j d _ _ (λ place x.
     w.at (with_name a (Is place) m) (with_name b (Is place) n) (joined_same j a.text.now b.text.now l (Is place)) x))
-    (agree_naming (array_entry (shape_of s true m) e m) (array_entry (shape_of t true n) f n)
-    (agree_between (array_entry_below s e m j.upper j.left) (array_entry_below t f n j.upper j.right)
-    (λ i. array_entry (shape_of (k i) true j.upper) (h i) j.upper)) a b l after other w m n j d)
+    (agree_array_declared (array_lent (shape_of s true m) e m d) (array_lent (shape_of t true n) f n d)
+    (agree_between (array_lent_below s e m j.upper d j.left) (array_lent_below t f n j.upper d j.right)
+    (λ i. array_lent (shape_of (k i) true j.upper) (h i) j.upper d)) a b l after other w m n j d)
 
 variables_plain : (of : Primitive) (names : list.Names) (after : Names → ℕ → Effect) (m : Names) (d : ℕ)
     → variables of (plain_names names) after m d ≡ variables of names after m d
@@ -165,27 +189,29 @@ agree_variables p q e k l h after other w m n j d =
     (subst (λ z. Agree (variables p (plain_names k) after m d) z) ((λ i. variables (e i) (h i) other n d) ∙ variables_plain q l other n d)
     (one_variables p (plain_names k) after other w m n j d))
 
-arrays_plain : (kind : Kind) (size : Option ℕ) (names : list.Names) (after : Names → ℕ → Effect) (m : Names) (d : ℕ)
-    → arrays kind size (plain_names names) after m d ≡ arrays kind size names after m d
-arrays_plain kind None names after m d = refl
-arrays_plain kind (Some k) listed.End after m d = refl
-arrays_plain kind (Some k) (listed.More' a p more) after m d =
-    ap (within_array d (bytes_of kind k)) (arrays_plain kind (Some k) more after (with_name a (Is (Whole (array_view kind k d))) m) (d + 1))
+arrays_plain : (kind : Kind) (size row : Option ℕ) (names : list.Names) (after : Names → ℕ → Effect) (m : Names) (d : ℕ)
+    → arrays kind size row (plain_names names) after m d ≡ arrays kind size row names after m d
+arrays_plain kind None row names after m d = refl
+arrays_plain kind (Some k) row listed.End after m d = refl
+arrays_plain kind (Some k) row (listed.More' a p more) after m d =
+    ap (within_array d (bytes_of kind (elements_in_all k row)))
+    (arrays_plain kind (Some k) row more after (with_name a (Is (Whole (array_view kind k row d))) m) (d + 1))
 
-one_arrays : (kind : Kind) (size : Option ℕ) (names : list.Names) (after other : Names → ℕ → Effect) → WithNames after other → (m n : Names) → Joined m n
-    → (d : ℕ) → Agree (arrays kind size names after m d) (arrays kind size names other n d)
-one_arrays kind None names after other w m n j d = agree_left_none
-one_arrays kind (Some k) listed.End after other w m n j d = w.at m n j d
-one_arrays kind (Some k) (listed.More' a p more) after other w m n j d =
-    agree_then (one_arrays kind (Some k) more after other w (with_name a (Is (Whole (array_view kind k d))) m) (with_name a (Is (Whole (array_view kind k d))) n)
-    (joined_same j a.text.now a.text.now refl (Is (Whole (array_view kind k d)))) (d + 1)) (λ f. agree_refl)
+one_arrays : (kind : Kind) (size row : Option ℕ) (names : list.Names) (after other : Names → ℕ → Effect) → WithNames after other → (m n : Names) → Joined m n
+    → (d : ℕ) → Agree (arrays kind size row names after m d) (arrays kind size row names other n d)
+one_arrays kind None row names after other w m n j d = agree_left_none
+one_arrays kind (Some k) row listed.End after other w m n j d = w.at m n j d
+one_arrays kind (Some k) row (listed.More' a p more) after other w m n j d =
+    agree_then (one_arrays kind (Some k) row more after other w (with_name a (Is (Whole (array_view kind k row d))) m)
+    (with_name a (Is (Whole (array_view kind k row d))) n)
+    (joined_same j a.text.now a.text.now refl (Is (Whole (array_view kind k row d)))) (d + 1)) (λ f. agree_refl)
 
-agree_arrays : (kind : Kind) (size : Option ℕ) (k l : list.Names) → plain_names k ≡ plain_names l → (after other : Names → ℕ → Effect)
-    → WithNames after other → (m n : Names) → Joined m n → (d : ℕ) → Agree (arrays kind size k after m d) (arrays kind size l other n d)
-agree_arrays kind size k l h after other w m n j d =
-    subst (λ z. Agree z (arrays kind size l other n d)) (arrays_plain kind size k after m d)
-    (subst (λ z. Agree (arrays kind size (plain_names k) after m d) z) (ap (λ z. arrays kind size z other n d) h ∙ arrays_plain kind size l other n d)
-    (one_arrays kind size (plain_names k) after other w m n j d))
+agree_arrays : (kind : Kind) (size row : Option ℕ) (k l : list.Names) → plain_names k ≡ plain_names l → (after other : Names → ℕ → Effect)
+    → WithNames after other → (m n : Names) → Joined m n → (d : ℕ) → Agree (arrays kind size row k after m d) (arrays kind size row l other n d)
+agree_arrays kind size row k l h after other w m n j d =
+    subst (λ z. Agree z (arrays kind size row l other n d)) (arrays_plain kind size row k after m d)
+    (subst (λ z. Agree (arrays kind size row (plain_names k) after m d) z) (ap (λ z. arrays kind size row z other n d) h ∙ arrays_plain kind size row l other n d)
+    (one_arrays kind size row (plain_names k) after other w m n j d))
 
 -- ---- PROCs and FUNCTIONs
 
@@ -281,7 +307,7 @@ agree_declared (declaration.Value s a e) (declaration.Value t b f) h r after oth
 agree_declared (declaration.Variables s k) (declaration.Variables t l) h r after other w m n j d =
     agree_by_sizes s.sizes t.sizes _ _ _ _ (ap (λ z. z.sizes) h.0)
     (agree_variables s.of t.of (ap (λ z. z.of) h.0) k l h.1 after other w m n j d)
-    (agree_then (agree_shape s t h.0 true m n j) (λ shape. agree_arrays shape.kind shape.size k l h.1 after other w m n j d))
+    (agree_then (agree_shape s t h.0 true m n j) (λ shape. agree_then agree_refl (λ row. agree_arrays shape.kind shape.size row k l h.1 after other w m n j d)))
 agree_declared (declaration.Retypes s a x) (declaration.Retypes t b y) h r after other w m n j d =
     agree_naming (retyped s x m) (retyped t y n)
     (agree_between (retyped_below s x m j.upper j.left) (retyped_below t y n j.upper j.right) (λ i. retyped (h.0 i) (name_of (h.2 i)) j.upper))
@@ -331,11 +357,56 @@ agree_results places e f h m n j d =
     (ap (λ z. results_given places z j.upper d) h)
 
 agree_called : (x y : Name) → x.text.now ≡ y.text.now → (a b : Expressions) → all_plain a ≡ all_plain b → (m n : Names) → Joined m n → (d : ℕ)
-    → Agree (called (found x m) a m d) (called (found y n) b n d)
+    → Agree (called x.text.now (found x m) a m d) (called y.text.now (found y n) b n d)
 agree_called x y e a b h m n j d =
-    agree_between (called_below (found x m) (found (name_of x.text.now) j.upper) a m j.upper d (found_below x m j.upper j.left) j.left)
-    (called_below (found y n) (found (name_of y.text.now) j.upper) b n j.upper d (found_below y n j.upper j.right) j.right)
-    (λ i. called (found (name_of (e i)) j.upper) (h i) j.upper d)
+    agree_between (called_below x.text.now (found x m) (found (name_of x.text.now) j.upper) a m j.upper d (found_below x m j.upper j.left) j.left)
+    (called_below y.text.now (found y n) (found (name_of y.text.now) j.upper) b n j.upper d (found_below y n j.upper j.right) j.right)
+    (λ i. called (e i) (found (name_of (e i)) j.upper) (h i) j.upper d)
+
+-- ---- turns
+
+agree_counted : (word : Word) (x start : ℕ) (body other : Effect) → Agree body other → Agree (counted word x start body) (counted word x start other)
+agree_counted (Constant n) x start body other a = a
+agree_counted (Kept c) x start body other a = agree_then a (λ f. agree_refl)
+agree_counted (Limited c most) x start body other a = agree_then a (λ f. agree_refl)
+
+agree_replicated : (x y : Name) → x.text.now ≡ y.text.now → (e g : Expression) → plain e ≡ plain g → (f k : Expression) → plain f ≡ plain k
+    → (body other : Names → ℕ → Effect) → WithNames body other → (m n : Names) → Joined m n → (d : ℕ)
+    → Agree (replicated x e f body m d) (replicated y g k other n d)
+agree_replicated x y l e g h f k i body other w m n j d =
+    agree_then (agree_constant e g h Int m n j) (λ from. agree_then (agree_value f k i Int m n d j) (λ v.
+    agree_then (agree_between below_refl below_refl (ap (most_turns (constant_in v)) (agree_most f k i m n j))) (λ most.
+    agree_where (are_turns from most) (are_turns from most) (agree_given d v _ _ (λ word c.
+    let index = Is (Fixed Int (index_word c from most)) in
+    agree_then (agree_counted word c from _ _ (w.at (with_name x index m) (with_name y index n) (joined_same j x.text.now y.text.now l index) (c + 1)))
+    (λ f. agree_refl))))))
+
+-- ---- searches
+
+agree_noting : (a b : Choices) → SameChoices a b → (k found place x : ℕ) → WithNames (noting a k found place x) (noting b k found place x)
+agree_noting choices.End choices.End h k found place x = record { at = λ m n j d. agree_refl }
+agree_noting (choices.More' e p u r a) (choices.More' f q y t b) h k found place x =
+    let two = agree_noting a b h.2 (k + 1) found place x in
+    record { at = λ m n j d. agree_then (agree_value e f h.0 Truth m n d j) (λ v. agree_then (agree_refl {o = found_at k found place x}) (λ f. agree_then (two.at m n j d) (λ g. agree_refl))) }
+agree_noting (choices.Search' i e f p a r more) (choices.Search' k g l q b t others) h z found place x = record { at = λ m n j d. agree_left_none }
+agree_noting a b h k found place x = absurd h
+
+agree_searched : (x y : Name) → x.text.now ≡ y.text.now → (e g : Expression) → plain e ≡ plain g → (f k : Expression) → plain f ≡ plain k
+    → (a b : Choices) → SameChoices a b → (does other : Names → ℕ → Effect) → WithNames does other → (m n : Names) → Joined m n → (d : ℕ)
+    → Agree (searched x e f a does m d) (searched y g k b other n d)
+agree_searched x y l e g h f k i a b s does other w m n j d =
+    agree_then (agree_constant e g h Int m n j) (λ from. agree_then (agree_constant f k i Int m n j) (λ count.
+    agree_where (are_turns from count) (are_turns from count)
+    (let trying = Is (Fixed Int (index_word (d + 2) from count)) in
+    let within = Is (Fixed Int (index_word (d + 1) from count)) in
+    let tried = (agree_noting a b s 1 d (d + 1) (d + 2)).at (with_name x trying m) (with_name y trying n) (joined_same j x.text.now y.text.now l trying) (d + 3) in
+    let done = w.at (with_name x within m) (with_name y within n) (joined_same j x.text.now y.text.now l within) (d + 2) in
+    agree_then (agree_then (agree_then (agree_then (agree_then tried (λ f. agree_refl)) (λ f. agree_refl)) (λ f. agree_then done (λ g. agree_refl)))
+    (λ f. agree_refl)) (λ f. agree_refl))))
+
+-- what is behind guards agrees, in front of what agrees
+pub record BehindAgree (a b : Choices) : Type 0 where
+  pub behind : (k x : ℕ) (o p : Effect) → Agree o p → WithNames (behind_found a k x o) (behind_found b k x p)
 
 mutual
   pub agree_run : (x y : Process) → Same x y → WithNames (run x) (run y)
@@ -343,13 +414,9 @@ mutual
   agree_run (process.Stop s) (process.Stop t) h = record { at = λ m n j d. agree_refl }
   agree_run (process.Assign a b s) (process.Assign g k t) h = record { at = λ m n j d. agree_taken a b g k h.0 h.1 m n j d }
   agree_run (process.Sequence' p a s) (process.Sequence' q b t) h = record { at = (agree_all a b h).at }
-  agree_run (process.Replicated' x e f p a s) (process.Replicated' y g k q b t) h = record {
-    at = λ m n j d.
-        agree_then (agree_constant e g h.1 Int m n j) (λ from. agree_then (agree_constant f k h.2 Int m n j) (λ count.
-        agree_where (are_turns from count) (are_turns from count)
-        (agree_then ((agree_all a b h.3).at (with_name x (Is (Fixed Int (Kept d))) m) (with_name y (Is (Fixed Int (Kept d))) n)
-        (joined_same j x.text.now y.text.now h.0 (Is (Fixed Int (Kept d)))) (d + 1)) (λ f. agree_refl))));
-  }
+  agree_run (process.Replicated' x e f p a s) (process.Replicated' y g k q b t) h =
+      let steps = agree_all a b h.3 in
+      record { at = λ m n j d. agree_replicated x y h.0 e g h.1 f k h.2 (all_run a) (all_run b) steps m n j d }
   agree_run (process.If' p a s) (process.If' q b t) h = record { at = (agree_first a b h).at }
   agree_run (process.Case' e p a s) (process.Case' f q b t) h =
       let c = agree_cases a b h.1 in
@@ -419,7 +486,28 @@ mutual
       record {
         at = λ m n j d. agree_then (agree_value e f h.0 Truth m n d j) (λ v. agree_then (one.at m n j d) (λ f. agree_then (two.at m n j d) (λ g. agree_refl)));
       }
+  agree_first (choices.Search' i e f p a r more) (choices.Search' k g l q b t others) h =
+      let bodies = agree_behind a b h.3 in
+      let two = agree_first more others h.4 in
+      record {
+        at = λ m n j d. agree_searched i k h.0 e g h.1 f l h.2 a b h.3 (behind_found a 1 d (first_true more m (d + 2))) (behind_found b 1 d (first_true others n (d + 2)))
+            (bodies.behind 1 d (first_true more m (d + 2)) (first_true others n (d + 2)) (two.at m n j (d + 2))) m n j d;
+      }
   agree_first a b h = absurd h
+
+  pub agree_behind : (a b : Choices) → SameChoices a b → BehindAgree a b
+  agree_behind choices.End choices.End h = record { behind = λ k x o p w. record { at = λ m n j d. w } }
+  agree_behind (choices.More' e p x r a) (choices.More' f q y t b) h =
+      let one = agree_run x y h.1 in
+      let two = agree_behind a b h.2 in
+      record {
+        behind = λ k z o p w. record {
+          at = λ m n j d. agree_then (one.at m n j d) (λ f. agree_then ((two.behind (k + 1) z o p w).at m n j d) (λ g. agree_refl));
+        };
+      }
+  agree_behind (choices.Search' i e f p a r more) (choices.Search' k g l q b t others) h =
+      record { behind = λ k x o p w. record { at = λ m n j d. agree_left_none } }
+  agree_behind a b h = absurd h
 
   pub agree_cases : (a b : Cases) → SameCases a b → CasesAgree a b
   agree_cases cases.End cases.End h = record { selects = λ of word o p k m n j d. k; otherwise_does = λ m n j d. agree_refl }

@@ -2,6 +2,7 @@
 use Rattle.std.proofs.Common.{◌≡◌, ℕ, ◌+◌, ◌==◌, Bool, true, false, if◌then◌else◌, List, Option, Some, None, refl, arith}
 use Rattle.std.proofs.lemmas.Bool.Decides.{nat_tests}
 use Rattle.tpw_occam_core.specs.declared.kind.Kind.{Kind}
+use Rattle.tpw_occam_core.specs.Sound.{are_turns}
 use Rattle.tpw_occam_terms.specs.declared.name.Primitive.{Primitive}
 use Rattle.tpw_occam_terms.specs.declared.name.Primitive.TheVariants.{Int, Bool as Truth}
 use Rattle.tpw_occam_terms.specs.declared.name.Name.{Name}
@@ -25,20 +26,24 @@ use Rattle.tpw_occam_meaning.specs.declared.tree.Choices.{Choices}
 use Rattle.tpw_occam_meaning.specs.declared.tree.Choices.TheVariants as choices
 use Rattle.tpw_occam_meaning.specs.declared.tree.Cases.{Cases}
 use Rattle.tpw_occam_meaning.specs.declared.tree.Cases.TheVariants as cases
-use Rattle.tpw_occam_meaning.specs.Declarations.{value_declared, abbreviated, variables, arrays, naming, is_array, table_entry, type_of_value, may_be_declared}
+use Rattle.tpw_occam_meaning.specs.Counts.{most_of, most_turns, limited}
+use Rattle.tpw_occam_meaning.specs.Declarations.{value_declared, array_declared, abbreviated, variables, arrays, declared_row, is_array, shape_of_table, type_of_value, may_be_declared}
 use Rattle.tpw_occam_meaning.specs.Effects.{Effect, given}
 use Rattle.tpw_occam_meaning.specs.Expressions.{type_of, value_of}
 use Rattle.tpw_occam_meaning.specs.Maybe.{and_then, where_true}
 use Rattle.tpw_occam_meaning.specs.Messages.{carried}
 use Rattle.tpw_occam_meaning.specs.Names.{Word, Traces, Place, Fixed, Is, Names, found, with_name}
-use Rattle.tpw_occam_meaning.specs.Processes.{run, all_run, first_true, selected, otherwise, declared, valued, all_constants, constants_of, elses}
+use Rattle.tpw_occam_meaning.specs.Processes.{run, all_run, first_true, behind_found, selected, otherwise, declared, valued, all_constants, constants_of, elses}
+use Rattle.tpw_occam_meaning.specs.Searches.{noting, found_at}
 use Rattle.tpw_occam_meaning.specs.Types.{by_sizes}
+use Rattle.tpw_occam_meaning.specs.Values.{constant_in}
+use Rattle.tpw_occam_reading_laws.proofs.CountMeanings.{counted_needs}
 use Rattle.tpw_occam_reading_laws.proofs.Plain.{IsWhole, AreWhole}
 use Rattle.tpw_occam_reading_laws.proofs.PlainTypes.{IsType, IsTypeIf, AreSizes}
 use Rattle.tpw_occam_reading_laws.proofs.Wellformed.{Needs, needs_none, needs_fact, needs_map, needs_both, needs_first, needs_then, needs_where, value_needs}
 use Rattle.tpw_occam_reading_laws.proofs.TypeMeanings.{constant_needs, shape_needs, forms_needs}
-use Rattle.tpw_occam_reading_laws.proofs.Statements.{assignment_needs, given_needs, referred_needs, called_needs, message_needs, table_needs, array_entry_needs, type_of_value_needs, retyped_needs, results_given_needs, taken_needs}
-use Rattle.tpw_occam_reading_laws.proofs.Sameness.{DeclarationWhole, ProcessWhole, StepsWhole, ChoicesWhole, CasesWhole, ConstantsWhole, ElseWhole, BodyWhole}
+use Rattle.tpw_occam_reading_laws.proofs.Statements.{assignment_needs, given_needs, referred_needs, lent_to_needs, called_needs, message_needs, table_needs, array_lent_needs, type_of_value_needs, retyped_needs, results_given_needs, taken_needs}
+use Rattle.tpw_occam_reading_laws.proofs.Sameness.{DeclarationWhole, ProcessWhole, StepsWhole, ChoicesWhole, GuardsWhole, BodiesWhole, CasesWhole, ConstantsWhole, ElseWhole, BodyWhole}
 
 -- ---- declarations
 
@@ -47,11 +52,11 @@ variables_needs : {F : Type 0} (of : Primitive) (names : list.Names) (after : Na
 variables_needs of listed.End after m d h = h m d
 variables_needs of (listed.More' name p more) after m d h = needs_first _ (variables_needs of more after _ (d + 1) h)
 
-arrays_needs : {F : Type 0} (kind : Kind) (size : Option ℕ) (names : list.Names) (after : Names → ℕ → Effect) (m : Names) (d : ℕ)
-    → ((m : Names) (d : ℕ) → Needs F (after m d)) → Needs F (arrays kind size names after m d)
-arrays_needs kind None names after m d h = needs_none
-arrays_needs kind (Some n) listed.End after m d h = h m d
-arrays_needs kind (Some n) (listed.More' name p more) after m d h = needs_first _ (arrays_needs kind (Some n) more after _ (d + 1) h)
+arrays_needs : {F : Type 0} (kind : Kind) (size row : Option ℕ) (names : list.Names) (after : Names → ℕ → Effect) (m : Names) (d : ℕ)
+    → ((m : Names) (d : ℕ) → Needs F (after m d)) → Needs F (arrays kind size row names after m d)
+arrays_needs kind None row names after m d h = needs_none
+arrays_needs kind (Some n) row listed.End after m d h = h m d
+arrays_needs kind (Some n) row (listed.More' name p more) after m d h = needs_first _ (arrays_needs kind (Some n) row more after _ (d + 1) h)
 
 by_sizes_both : {F : Type 0} (s : Sizes) {one other : Effect} → Needs F one → Needs (AreSizes s × F) other
     → Needs (AreSizes s × F) (by_sizes s one other)
@@ -64,27 +69,28 @@ value_declared_needs : {F : Type 0} (of : Option written.Type) (name : Name) (e 
 value_declared_needs {F} of name e after m d h = by (is_array of e)
   where
     by : (b : Bool) → Needs ((IsTypeIf of × IsWhole e) × F)
-        (if b then naming name (table_entry of e m) after m d
+        (if b then array_declared (shape_of_table of e m) name e after m d
         else and_then (type_of_value of e m) (λ found_type. and_then (value_of e found_type m d) (λ v.
-        where_true (may_be_declared v) (given d v (λ word n. after (with_name name (Is (Fixed found_type word)) m) n)))))
-    by true = needs_both (table_needs of e m) (λ entry. h (with_name name entry m) d)
+        where_true (may_be_declared v) (given d v (λ word n. after (with_name name (Is (Fixed found_type (limited (most_of e m) word))) m) n)))))
+    by true = needs_both (table_needs of e m d) (λ lent. lent_to_needs d lent _ (λ place n. h (with_name name (Is place) m) n))
     by false =
         needs_map (λ w. ((w.0, w.1.0), w.1.1)) (needs_both (type_of_value_needs of e m) (λ found_type. needs_both (value_needs e found_type m d) (λ v.
-        needs_where (may_be_declared v) (given_needs d v _ (λ word n. h (with_name name (Is (Fixed found_type word)) m) n)))))
+        needs_where (may_be_declared v) (given_needs d v _ (λ word n. h (with_name name (Is (Fixed found_type (limited (most_of e m) word))) m) n)))))
 
 abbreviated_needs : {F : Type 0} (of : written.Type) (name : Name) (e : Expression) (after : Names → ℕ → Effect) (m : Names) (d : ℕ)
     → ((m : Names) (d : ℕ) → Needs F (after m d)) → Needs ((IsType of × IsWhole e) × F) (abbreviated of name e after m d)
 abbreviated_needs of name e after m d h =
     needs_map (λ w. ((w.0, w.1.0), w.1.1))
     (by_sizes_both of.sizes (referred_needs e of.of m d _ (λ place n. h (with_name name (Is place) m) n))
-    (needs_map (λ w. (w.0.0, (w.0.1, w.1))) (needs_both (array_entry_needs of e m) (λ entry. h (with_name name entry m) d))))
+    (needs_map (λ w. (w.0.0, (w.0.1, w.1))) (needs_both (array_lent_needs of e m d) (λ lent.
+    lent_to_needs d lent _ (λ place n. h (with_name name (Is place) m) n)))))
 
 pub declared_needs : {F : Type 0} (x : Declaration) (after : Names → ℕ → Effect) (m : Names) (d : ℕ)
     → ((m : Names) (d : ℕ) → Needs F (after m d)) → Needs (DeclarationWhole x × F) (declared x after m d)
 declared_needs (declaration.Value of name e) after m d h = value_declared_needs of name e after m d h
 declared_needs (declaration.Variables of names) after m d h =
     by_sizes_both of.sizes (variables_needs of.of names after m d h)
-    (needs_both (shape_needs of true m) (λ shape. arrays_needs shape.kind shape.size names after m d h))
+    (needs_both (shape_needs of true m) (λ shape. needs_then (declared_row shape.row) (λ row. arrays_needs shape.kind shape.size row names after m d h)))
 declared_needs (declaration.Retypes of name array) after m d h =
     needs_both (retyped_needs of array m) (λ entry. h (with_name name entry m) d)
 declared_needs (declaration.Abbreviation of name e) after m d h = abbreviated_needs of name e after m d h
@@ -120,6 +126,19 @@ cases_whole cases.End w e = tt
 cases_whole (cases.Constants' constants p body q others) w e = (w.0, w.1, cases_whole others w.2 e)
 cases_whole (cases.Else' p body q others) w e = (e.0, no_else others e.1 w)
 
+-- ---- guards below an IF with a replicator, and what is behind them
+
+noting_needs : (list : Choices) (k found place x : ℕ) (m : Names) (d : ℕ) → Needs (GuardsWhole list) (noting list k found place x m d)
+noting_needs choices.End k found place x m d = needs_fact tt
+noting_needs (choices.More' guard p body q more) k found place x m d =
+    needs_both (value_needs guard Truth m d) (λ v. needs_then (found_at k found place x) (λ f. needs_first _ (noting_needs more (k + 1) found place x m d)))
+noting_needs (choices.Search' index start count p guards q more) k found place x m d = needs_none
+
+guards_whole : (list : Choices) → GuardsWhole list → BodiesWhole list → ChoicesWhole list
+guards_whole choices.End v w = tt
+guards_whole (choices.More' guard p body q more) v w = (v.0, w.0, guards_whole more v.1 w.1)
+guards_whole (choices.Search' index start count p guards q more) v w = absurd v
+
 -- ---- processes
 
 mutual
@@ -130,15 +149,16 @@ mutual
   run_needs (process.Sequence' p steps span) m d = all_run_needs steps m d
   run_needs (process.Replicated' index start count p steps span) m d =
       needs_map (λ w. (w.0, w.1.0, w.1.1))
-      (needs_both (constant_needs start Int m) (λ from. needs_both (constant_needs count Int m) (λ n.
-      needs_where _ (needs_first _ (all_run_needs steps _ (d + 1))))))
+      (needs_both (constant_needs start Int m) (λ from. needs_both (value_needs count Int m d) (λ v.
+      needs_then (most_turns (constant_in v) (most_of count m)) (λ most. needs_where _ (given_needs d v _ (λ word x.
+      needs_first _ (counted_needs word x from _ (all_run_needs steps _ (x + 1)))))))))
   run_needs (process.If' p list span) m d = first_true_needs list m d
   run_needs (process.Case' e p list span) m d =
       needs_map (λ w. (w.0, cases_whole list w.1.0 w.1.1))
       (needs_then (type_of e m) (λ of. needs_then (all_constants list of m) (λ words.
       needs_where _ (needs_both (value_needs e of m d) (λ v. given_needs d v _ (λ word n.
       selected_needs list of word (otherwise list m n) m n list (otherwise_needs list m n)))))))
-  run_needs (process.Call name arguments span) m d = called_needs (found name m) arguments m d
+  run_needs (process.Call name arguments span) m d = called_needs name.text.now (found name m) arguments m d
   run_needs (process.Receive channel target span) m d = needs_none
   run_needs (process.Send channel e span) m d =
       needs_then (carried Traces (found channel m)) (λ protocol. needs_first _ (message_needs protocol e m d))
@@ -154,6 +174,19 @@ mutual
   first_true_needs (choices.More' guard p body q more) m d =
       needs_map (λ w. (w.0, w.1.0, w.1.1))
       (needs_both (value_needs guard Truth m d) (λ v. needs_both (run_needs body m d) (λ f. needs_first _ (first_true_needs more m d))))
+  first_true_needs (choices.Search' index start count p guards q more) m d =
+      needs_map (λ w. (w.0, w.1.0, guards_whole guards w.1.1.0 w.1.1.1.0, w.1.1.1.1))
+      (needs_both (constant_needs start Int m) (λ from. needs_both (constant_needs count Int m) (λ n. needs_where (are_turns from n)
+      (needs_first _ (needs_first _ (needs_both (needs_first _ (needs_first _ (noting_needs guards 1 d (d + 1) (d + 2) _ (d + 3))))
+      (λ f. needs_first _ (behind_found_needs guards 1 d _ _ (d + 2) (first_true_needs more m (d + 2))))))))))
+
+  pub behind_found_needs : {F : Type 0} (list : Choices) (k x : ℕ) (other : Effect) (m : Names) (d : ℕ) → Needs F other
+      → Needs (BodiesWhole list × F) (behind_found list k x other m d)
+  behind_found_needs choices.End k x other m d n = needs_map (λ f. (tt, f)) n
+  behind_found_needs (choices.More' guard p body q more) k x other m d n =
+      needs_map (λ w. ((w.0, w.1.0), w.1.1))
+      (needs_both (run_needs body m d) (λ f. needs_first _ (behind_found_needs more (k + 1) x other m d n)))
+  behind_found_needs (choices.Search' index start count p guards q more) k x other m d n = needs_none
 
   pub otherwise_needs : (list : Cases) (m : Names) (d : ℕ) → Needs (ElseWhole list) (otherwise list m d)
   otherwise_needs cases.End m d = needs_fact tt

@@ -5,6 +5,7 @@ pub mod Readings
 pub mod Wellformed
 pub mod Order
 pub mod Meanings
+pub mod CountMeanings
 pub mod OneValue
 pub mod PlainTypes
 pub mod TypeReadings

@@ -31,7 +31,7 @@ use Rattle.tpw_occam_meaning.specs.declared.tree.Cases.{Cases}
 use Rattle.tpw_occam_meaning.specs.declared.tree.Cases.TheVariants as cases
 use Rattle.tpw_occam_reading.specs.Spelled.{spelled, listed, behind_comma, of_primitive, sizes_spelled, types_spelled}
 use Rattle.tpw_occam_reading.specs.Unparse.{line, results_spelled, declaration_lines, body_lines, process_lines, steps_lines, choices_lines, cases_lines}
-use Rattle.tpw_occam_reading_laws.proofs.Plain.{is_name, IsWhole}
+use Rattle.tpw_occam_reading_laws.proofs.Plain.{is_indexed, IsWhole}
 use Rattle.tpw_occam_reading_laws.proofs.Statements.{is_target, AreTargets}
 use Rattle.tpw_occam_reading_laws.proofs.Sameness.{DeclarationWhole, ProcessWhole, Shallow}
 
@@ -102,14 +102,16 @@ sort_of (process.Send channel value span) = Sends
 sort_of (process.Declared' p declaration q process) = Declares
 sort_of process.Wrong = Others
 
-name_sort : (e : Expression) → is_name e ≡ true → (more : List Lexeme) → behind_name more ≡ Assigns → sort (spelled e more) ≡ Assigns
-name_sort (tree.Name n) h more k = k
-name_sort (tree.Bracketed' p within span) h more k = refl
-name_sort other h more k = cc
+indexed_sort : (e : Expression) → is_indexed e ≡ true → IsWhole e → (more : List Lexeme) → behind_name more ≡ Assigns → sort (spelled e more) ≡ Assigns
+indexed_sort (tree.Name n) h w more k = k
+indexed_sort (tree.Element' p a q i span) h w more k =
+    indexed_sort a w.0 w.1 (Sign symbol.OpenSquare ∷ spelled i (Sign symbol.CloseSquare ∷ more)) refl
+indexed_sort (tree.Bracketed' p within span) h w more k = refl
+indexed_sort other h w more k = cc
 
 target_sort : (e : Expression) → is_target e ≡ true → IsWhole e → (more : List Lexeme) → behind_name more ≡ Assigns → sort (spelled e more) ≡ Assigns
 target_sort (tree.Name n) h w more k = k
-target_sort (tree.Element' p a q i span) h w more k = name_sort a w.0 (Sign symbol.OpenSquare ∷ spelled i (Sign symbol.CloseSquare ∷ more)) refl
+target_sort (tree.Element' p a q i span) h w more k = indexed_sort a w.0 w.1 (Sign symbol.OpenSquare ∷ spelled i (Sign symbol.CloseSquare ∷ more)) refl
 target_sort (tree.Bracketed' p within span) h w more k = refl
 target_sort other h w more k = cc
 
@@ -241,6 +243,8 @@ mutual
   drops_choices choices.End d k h more = refl
   drops_choices (choices.More' guard p body q others) d k h more =
       drop_line d k h _ _ ∙ drops body d (k + 2) (two_more d k h) (choices_lines others k more) ∙ drops_choices others d k h more
+  drops_choices (choices.Search' index start count p guards q others) d k h more =
+      drop_line d k h _ _ ∙ drops_choices guards d (k + 2) (two_more d k h) (choices_lines others k more) ∙ drops_choices others d k h more
 
   drops_cases : (x : Cases) (d k : ℕ) → d < k → (more : List WrittenLine) → drop_deep d (cases_lines x k more) ≡ drop_deep d more
   drops_cases cases.End d k h more = refl

@@ -2,7 +2,7 @@
 use Rattle.std.proofs.Common.{◌≡◌, ℕ, ◌==◌, List, [], Option, Some, sym, ap, ◌∙◌}
 use Rattle.tpw_occam_core.specs.Meaning.{Meant}
 use Rattle.tpw_occam_terms.specs.declared.name.Name.{Name}
-use Rattle.tpw_occam_lexing.specs.Lines.{WrittenLine, lines_of}
+use Rattle.tpw_occam_lexing.specs.Lines.{WrittenLine}
 use Rattle.tpw_occam_meaning.specs.declared.expression.Expression.{Expression}
 use Rattle.tpw_occam_meaning.specs.declared.types.Parameters.{Parameters}
 use Rattle.tpw_occam_meaning.specs.declared.tree.Declaration.{Declaration}
@@ -21,6 +21,7 @@ use Rattle.tpw_occam_meaning.specs.Names.{Names, Packet, Output, found}
 use Rattle.tpw_occam_meaning.specs.Processes.{run, declared}
 use Rattle.tpw_occam_meaning.specs.States.{State}
 use Rattle.tpw_occam_meaning.specs.Texts.{finished, worker_body, worker, text_effect, meaning_of_text, MeansText}
+use Rattle.tpw_occam_reading.specs.Predefined.{whole_lines}
 use Rattle.tpw_occam_reading.specs.Unparse.{declaration_lines, process_lines, all_lines, unparse}
 use Rattle.tpw_occam_reading_laws.proofs.Plain.{plain}
 use Rattle.tpw_occam_reading_laws.proofs.PlainTypes.{plain_parameters}
@@ -170,9 +171,9 @@ one_meaning a b m n h k l =
 some_same : (o : Option (List WrittenLine)) (x y : List WrittenLine) → o ≡ Some x → o ≡ Some y → x ≡ y
 some_same o x y h k = cc (sym h ∙ k)
 
-pub one_meaning_of_text : (text : List ℕ) (a b : Source) (m n : List ℕ → Option Meant) → lines_of text ≡ Some (unparse a)
-    → lines_of text ≡ Some (unparse b) → MeansText a m → MeansText b n → m ≡ n
-one_meaning_of_text text a b m n h k = one_meaning a b m n (some_same (lines_of text) (unparse a) (unparse b) h k)
+pub one_meaning_of_text : (text : List ℕ) (a b : Source) (m n : List ℕ → Option Meant) → whole_lines text ≡ Some (unparse a)
+    → whole_lines text ≡ Some (unparse b) → MeansText a m → MeansText b n → m ≡ n
+one_meaning_of_text text a b m n h k = one_meaning a b m n (some_same (whole_lines text) (unparse a) (unparse b) h k)
 
 pub one_thing : (p q : Process) (names : Names) (d : ℕ) (f g : State → State) → process_lines p 0 [] ≡ process_lines q 0 []
     → run p names d ≡ Some f → run q names d ≡ Some g → f ≡ g

@@ -92,11 +92,18 @@ is_name (tree.Name n) = true
 is_name (tree.Bracketed' p within span) = is_name within
 is_name other = false
 
+-- .. or what has a subscript, and takes another
+abbrev pub is_indexed : Expression → Bool
+is_indexed (tree.Name n) = true
+is_indexed (tree.Element' p array q subscript span) = true
+is_indexed (tree.Bracketed' p within span) = is_indexed within
+is_indexed other = false
+
 abbrev mutual
-  -- an expression with no fault in it, where what has a subscript is a name
+  -- an expression with no fault in it, where what has a subscript may have one
   pub IsWhole : Expression → Type 0
   IsWhole (tree.Table' p items span) = AreWhole items
-  IsWhole (tree.Element' p array q subscript span) = (is_name array ≡ true) × IsWhole array × IsWhole subscript
+  IsWhole (tree.Element' p array q subscript span) = (is_indexed array ≡ true) × IsWhole array × IsWhole subscript
   IsWhole (tree.Call' n p arguments) = AreWhole arguments
   IsWhole (tree.Bracketed' p within span) = IsWhole within
   IsWhole (tree.Monadic' operator span p operand) = IsWhole operand

@@ -333,6 +333,12 @@ steps_shallow (processes.More' p x q others) w d more h = process_shallow x w.0 
 choices_shallow : (a : Choices) (d : ℕ) (more : List WrittenLine) → Shallow d more → Shallow (d + 2 + 1) (choices_lines a d more)
 choices_shallow choices.End d more h = below d more h
 choices_shallow (choices.More' guard p x q others) d more h = omega arith
+choices_shallow (choices.Search' index start count p guards q others) d more h = omega arith
+
+guards_shallow : (a : Choices) (d : ℕ) (more : List WrittenLine) → Shallow d more → Shallow (d + 2) (choices_lines a d more)
+guards_shallow choices.End d more h = shallow_up d (d + 2) (omega arith) more h
+guards_shallow (choices.More' guard p x q others) d more h = omega arith
+guards_shallow (choices.Search' index start count p guards q others) d more h = omega arith
 
 cases_shallow : (a : Cases) (d : ℕ) (more : List WrittenLine) → Shallow d more → Shallow (d + 2 + 1) (cases_lines a d more)
 cases_shallow cases.End d more h = below d more h
@@ -344,6 +350,13 @@ no_else_line : (constants : Expressions) → AreWhole constants → listed const
 no_else_line constants w h =
     let e : [] ≡ (Word keyword.Else ∷ []) =
     sym (ap left_of (list_reads constants w [] tt)) ∙ ap (λ l. left_of (parse l (Wants (InList Top (λ all. all))))) h in
+    cc
+
+-- a guard is no IF with a replicator
+no_if_line : (e : Expression) → IsWhole e → (rest : List Lexeme) → spelled e [] ≡ (Word keyword.If ∷ rest) → ⊥
+no_if_line e w rest h =
+    let e' : [] ≡ (Word keyword.If ∷ rest) =
+    sym (ap left_of (list_reads (More' boxed e boxed End) (w, tt) [] tt)) ∙ ap (λ l. left_of (parse l (Wants (InList Top (λ all. all))))) h in
     cc
 
 no_line : (d : ℕ) {lexemes : List Lexeme} {rest : List WrittenLine} (more : List WrittenLine) → Shallow d more → more ≡ (line d lexemes ∷ rest) → ⊥
@@ -405,7 +418,19 @@ mutual
       → Shallow d more → Shallow d others → choices_lines x d more ≡ choices_lines y d others → OneChoices x y more others
   one_choices choices.End choices.End v w d more others e f h = record { same = tt; behind = h }
   one_choices choices.End (choices.More' l q y t b) v w d more others e f h = absurd (no_line d more e h)
+  one_choices choices.End (choices.Search' j k l q g t b) v w d more others e f h = absurd (no_line d more e h)
   one_choices (choices.More' k p x r a) choices.End v w d more others e f h = absurd (no_line d others f (sym h))
+  one_choices (choices.Search' i k l p g r a) choices.End v w d more others e f h = absurd (no_line d others f (sym h))
+  one_choices (choices.More' k p x r a) (choices.Search' j m l q g t b) v w d more others e f h = absurd (no_if_line k v.0 _ (heads h))
+  one_choices (choices.Search' j m l q g t b) (choices.More' k p x r a) v w d more others e f h = absurd (no_if_line k w.0 _ (sym (heads h)))
+  one_choices (choices.Search' i k l p g r a) (choices.Search' j m n q u t b) v w d more others e f h =
+      let from = one_expression k m v.0 w.0 (Word keyword.For ∷ spelled l []) (Word keyword.For ∷ spelled n []) tt tt (same_tail (same_tail (same_tail (heads h)))) in
+      let one = one_choices g u v.2 w.2 (d + 2) (choices_lines a d more) (choices_lines b d others) (guards_shallow a d more e) (guards_shallow b d others f) (behinds h) in
+      let two = one_choices a b v.3 w.3 d more others e f one.behind in
+      record {
+        same = (one_bytes (same_tail (heads h)), from.0, one_last l n v.1 w.1 (same_tail from.1), one.same, two.same);
+        behind = two.behind;
+      }
   one_choices (choices.More' k p x r a) (choices.More' l q y t b) v w d more others e f h =
       let one = one_process x y v.1 w.1 (d + 2) (choices_lines a d more) (choices_lines b d others) (choices_shallow a d more e) (choices_shallow b d others f) (behinds h) in
       let two = one_choices a b v.2 w.2 d more others e f one.behind in

@@ -1,5 +1,5 @@
 -- What is spelled is read back, without places and brackets.
-use Rattle.std.proofs.Common.{◌≡◌, ℕ, Bool, true, false, List, [], ◌∷◌, refl, ap, sym, ◌∙◌, subst}
+use Rattle.std.proofs.Common.{◌≡◌, Bool, true, false, List, [], ◌∷◌, refl, ap, sym, ◌∙◌, subst}
 use Rattle.tpw_occam_terms.specs.declared.name.Primitive.TheVariants as primitive
 use Rattle.tpw_occam_lexing.specs.declared.symbol.Symbol.TheVariants as symbol
 use Rattle.tpw_occam_lexing.specs.Lexemes.{Lexeme, Sign}
@@ -13,7 +13,7 @@ use Rattle.tpw_occam_meaning.specs.declared.expression.Expression.TheVariants as
 use Rattle.tpw_occam_meaning.specs.declared.expression.Expressions.{Expressions}
 use Rattle.tpw_occam_meaning.specs.declared.expression.Expressions.TheVariants.{End, More'}
 use Rattle.tpw_occam_reading.specs.Spelled.{spelled, listed, behind_comma, of_monadic, of_dyadic, is_operand, is_left_operand, bracketed_unless}
-use Rattle.tpw_occam_reading_laws.proofs.Plain.{plain, all_plain, name, table, call, monadic, dyadic, is_name, IsWhole, AreWhole}
+use Rattle.tpw_occam_reading_laws.proofs.Plain.{plain, all_plain, table, call, monadic, dyadic, is_indexed, IsWhole, AreWhole}
 use Rattle.tpw_occam_reading_laws.proofs.Plain as plainly
 use Rattle.tpw_occam_reading_laws.proofs.Reader.{start, Operator, next, Next, Opens, Subscripts, Directs, Operates}
 use Rattle.tpw_occam_reading_laws.proofs.Reader.{Around, ListKind, TableIn, CallIn, InRound, InSubscript, InList, BehindOne, BehindTwo}
@@ -147,21 +147,17 @@ left_reads : (e : Expression) → Reads e → (b : Bool) (around : Around) → I
 left_reads e r true around o more f = r.whole around o more f
 left_reads e r false around o more f = in_brackets e around more r
 
-name_operand : (e : Expression) → is_name e ≡ true → is_operand e ≡ true
-name_operand (tree.Monadic' operator span p operand) h = h
-name_operand (tree.Dyadic' operator span p left q right) h = h
-name_operand other h = refl
+indexed_operand : (e : Expression) → is_indexed e ≡ true → is_operand e ≡ true
+indexed_operand (tree.Monadic' operator span p operand) h = h
+indexed_operand (tree.Dyadic' operator span p left q right) h = h
+indexed_operand other h = refl
 
-plain_name : (e : Expression) → is_name e ≡ true → (bytes : List ℕ) × (plain e ≡ name bytes)
-plain_name (tree.Name n) h = (n.text.now, refl)
-plain_name (tree.Bracketed' p within span) h = plain_name within h
-plain_name other h = cc
-
-subscripts : (e : Expression) → is_name e ≡ true → (around : Around) (more : List Lexeme)
+subscripts : (e : Expression) → is_indexed e ≡ true → (around : Around) (more : List Lexeme)
     → parse (Sign symbol.OpenSquare ∷ more) (Has (plain e) around) ≡ parse more (Wants (InSubscript (plain e) around))
-subscripts e h around more =
-    let n = plain_name e h in
-    subst (λ x. parse (Sign symbol.OpenSquare ∷ more) (Has x around) ≡ parse more (Wants (InSubscript x around))) (sym n.1) refl
+subscripts (tree.Name n) h around more = refl
+subscripts (tree.Element' p array q subscript span) h around more = refl
+subscripts (tree.Bracketed' p within span) h around more = subscripts within h around more
+subscripts other h around more = cc
 
 follows_behind : (others : Expressions) (more : List Lexeme) → Follows more → Follows (behind_comma others more)
 follows_behind End more h = h
@@ -191,7 +187,7 @@ mutual
   reads (tree.Channel n direction.Send) w = leaf (tree.Channel n direction.Send) (λ around more. refl)
   reads (tree.Element' p array q subscript span) w =
       leaf (tree.Element' p array q subscript span) (λ around more.
-      (reads array w.1).primary (name_operand array w.0) around (Sign symbol.OpenSquare ∷ spelled subscript (Sign symbol.CloseSquare ∷ more))
+      (reads array w.1).primary (indexed_operand array w.0) around (Sign symbol.OpenSquare ∷ spelled subscript (Sign symbol.CloseSquare ∷ more))
       ∙ subscripts array w.0 around (spelled subscript (Sign symbol.CloseSquare ∷ more))
       ∙ (reads subscript w.2).whole (InSubscript (plain array) around) tt (Sign symbol.CloseSquare ∷ more) tt)
   reads (tree.Call' n p arguments) w =

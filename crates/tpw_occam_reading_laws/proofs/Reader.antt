@@ -213,6 +213,8 @@ opened e around = settled Stops e around
 
 abbrev pub subscripted : Expression → Around → Move
 subscripted (tree.Name n) around = Goes (Wants (InSubscript (tree.Name n) around))
+subscripted (tree.Element' p array q subscript span) around =
+    Goes (Wants (InSubscript (tree.Element' p array q subscript span) around))
 subscripted e around = settled Stops e around
 
 abbrev pub directed : Direction → Expression → Around → Move

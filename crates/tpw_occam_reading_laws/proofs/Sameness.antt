@@ -58,6 +58,8 @@ abbrev mutual
   pub ChoicesWhole : Choices → Type 0
   ChoicesWhole choices.End = Unit {0}
   ChoicesWhole (choices.More' guard p body q others) = IsWhole guard × ProcessWhole body × ChoicesWhole others
+  ChoicesWhole (choices.Search' index start count p guards q others) =
+      IsWhole start × IsWhole count × ChoicesWhole guards × ChoicesWhole others
 
   pub CasesWhole : Cases → Type 0
   CasesWhole cases.End = Unit {0}
@@ -68,6 +70,17 @@ abbrev pub BodyWhole : ValueProcess → Type 0
 BodyWhole (value.Declared' p declaration q body) = DeclarationWhole declaration × BodyWhole body
 BodyWhole (value.ValOf' p process results span) = ProcessWhole process × AreWhole results
 BodyWhole value.Wrong = ⊥
+
+-- .. of guards below an IF with a replicator these alone, and what is behind them
+abbrev pub GuardsWhole : Choices → Type 0
+GuardsWhole choices.End = Unit {0}
+GuardsWhole (choices.More' guard p body q others) = IsWhole guard × GuardsWhole others
+GuardsWhole (choices.Search' index start count p guards q others) = ⊥
+
+abbrev pub BodiesWhole : Choices → Type 0
+BodiesWhole choices.End = Unit {0}
+BodiesWhole (choices.More' guard p body q others) = ProcessWhole body × BodiesWhole others
+BodiesWhole (choices.Search' index start count p guards q others) = ⊥
 
 -- .. of the choices of a CASE those with constants, and the one behind ELSE
 abbrev pub ConstantsWhole : Cases → Type 0
@@ -145,6 +158,8 @@ abbrev mutual
   pub SameChoices : Choices → Choices → Type 0
   SameChoices choices.End choices.End = Unit {0}
   SameChoices (choices.More' e p x r a) (choices.More' f q y t b) = (plain e ≡ plain f) × Same x y × SameChoices a b
+  SameChoices (choices.Search' i e f p g r a) (choices.Search' j k l q h t b) =
+      (i.text.now ≡ j.text.now) × (plain e ≡ plain k) × (plain f ≡ plain l) × SameChoices g h × SameChoices a b
   SameChoices one other = ⊥
 
   pub SameCases : Cases → Cases → Type 0

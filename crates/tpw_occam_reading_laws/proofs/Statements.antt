@@ -1,7 +1,7 @@
 -- Assignments, calls and messages: by their plain trees they mean the same; what means something is well formed.
 use Rattle.std.proofs.Common.{◌≡◌, ℕ, ◌+◌, Bool, true, false, List, [], ◌∷◌, map, Option, Some, None, refl, sym, ap, subst}
 use Rattle.tpw_occam_terms.specs.declared.name.Primitive.{Primitive}
-use Rattle.tpw_occam_terms.specs.declared.name.Primitive.TheVariants.{Int}
+use Rattle.tpw_occam_terms.specs.declared.name.Primitive.TheVariants.{Int, Bool as Truth}
 use Rattle.tpw_occam_terms.specs.declared.name.Name.{Name}
 use Rattle.tpw_occam_meaning.specs.declared.expression.Expression.{Expression}
 use Rattle.tpw_occam_meaning.specs.declared.expression.Expression.TheVariants as tree
@@ -10,23 +10,25 @@ use Rattle.tpw_occam_meaning.specs.declared.expression.Expressions.TheVariants.{
 use Rattle.tpw_occam_meaning.specs.declared.types.Sizes.{Sizes}
 use Rattle.tpw_occam_meaning.specs.declared.types.Sizes.TheVariants as sizes
 use Rattle.tpw_occam_meaning.specs.declared.types.Type as written
-use Rattle.tpw_occam_meaning.specs.Assignments.{target_in, target_of, written_array, all_assigned, whole_target, copied, assignment, results_given}
-use Rattle.tpw_occam_meaning.specs.Calls.{lent, referred, same_protocol, traces_of, entered, called, call_in, call_alone, results_taken, taken_from}
-use Rattle.tpw_occam_meaning.specs.Declarations.{is_table, is_array, type_in_table, shape_of_table, type_of_value, array_entry, table_entry, retyped}
+use Rattle.tpw_occam_meaning.specs.Assignments.{target_in, target_of, written_array, all_assigned, whole, whole_target, copied, assignment, results_given}
+use Rattle.tpw_occam_meaning.specs.Calls.{lent, referred, lent_to, same_protocol, traces_of, entered, asserted, is_assert, called, call_in, call_alone, results_taken, taken_from}
+use Rattle.tpw_occam_meaning.specs.Counts.{most_of, limited}
+use Rattle.tpw_occam_meaning.specs.Declarations.{is_table, is_array, type_in_table, shape_of_table, type_of_value, array_lent, retyped}
 use Rattle.tpw_occam_meaning.specs.Effects.{Effect, given}
-use Rattle.tpw_occam_meaning.specs.Expressions.{view_in}
+use Rattle.tpw_occam_meaning.specs.Expressions.{view_in, of_elements}
 use Rattle.tpw_occam_meaning.specs.Maybe.{and_then, where_true}
 use Rattle.tpw_occam_meaning.specs.Messages.{message_of, carried, received}
-use Rattle.tpw_occam_meaning.specs.Names.{Word, Constant, Kept, View, Place, Form, OfValue, OfVariable, OfArray, OfChannel, Protocol, OneWord, Several, Channel, Traces, Fixed, Whole, Carrier, Element}
+use Rattle.tpw_occam_meaning.specs.Names.{Word, Constant, Kept, View, Place, Form, OfValue, OfVariable, OfArray, OfChannel, Protocol, OneWord, Several, Channel, Traces, Fixed, Part, Carrier, Element, Lent, There, Begins}
 use Rattle.tpw_occam_meaning.specs.Names.{Body, behind, Entry, Is, Procedure, Function, Routine, Nothing, Names, found}
 use Rattle.tpw_occam_meaning.specs.States.{State}
 use Rattle.tpw_occam_meaning.specs.Types.{shape_of, by_sizes}
 use Rattle.tpw_occam_meaning.specs.Values.{Value, Known, Varying, element_type}
 use Rattle.tpw_occam_reading_laws.proofs.Plain.{plain, all_plain, name_of, is_name, IsWhole, AreWhole}
 use Rattle.tpw_occam_reading_laws.proofs.PlainTypes.{plain_name_of, plain_sizes, plain_type, plain_type_if, IsType, IsTypeIf}
-use Rattle.tpw_occam_reading_laws.proofs.Order.{Below, below_refl, below_none, below_eq, below_then, below_where, below_as, BodyBelow, behind_below, EntryBelow, NamesBelow, found_below, same_lookup}
-use Rattle.tpw_occam_reading_laws.proofs.Wellformed.{Needs, needs_none, needs_fact, needs_map, needs_both, needs_first, needs_then, needs_where, needs_as, named_needs, value_needs, array_needs}
-use Rattle.tpw_occam_reading_laws.proofs.Meanings.{named_same, type_same, value_below, array_below}
+use Rattle.tpw_occam_reading_laws.proofs.Order.{Below, below_refl, below_none, below_eq, below_then, below_where, below_as, BodyBelow, behind_below, EntryBelow, NamesBelow, found_below, same_lookup, RoutineBelow}
+use Rattle.tpw_occam_reading_laws.proofs.Wellformed.{Needs, needs_none, needs_fact, needs_map, needs_both, needs_first, needs_then, needs_where, needs_as, value_needs, first_needs, array_needs, lent_needs, named_needs}
+use Rattle.tpw_occam_reading_laws.proofs.CountMeanings.{most_same}
+use Rattle.tpw_occam_reading_laws.proofs.Meanings.{type_same, value_below, first_below, array_below, lent_below, elements_same, named_same}
 use Rattle.tpw_occam_reading_laws.proofs.TypeMeanings.{shape_needs, by_sizes_needs, shape_below, by_sizes_below}
 
 -- ---- targets
@@ -50,7 +52,8 @@ name_target other h = h
 pub target_needs : (e : Expression) (names : Names) (d : ℕ) → Needs ((is_target e ≡ true) × IsWhole e) (target_of e names d)
 target_needs (tree.Name name) names d = needs_fact (refl, tt)
 target_needs (tree.Element' p a q i span) names d =
-    needs_map (λ w. (refl, (w.0.0, w.0.1, w.1))) (needs_both (named_needs a names) (λ view. needs_first _ (value_needs i Int names d)))
+    needs_map (λ w. (refl, (w.0.0, w.0.1, w.1))) (needs_then (of_elements a names) (λ view.
+    needs_both (first_needs a names d) (λ first. needs_first _ (value_needs i Int names d))))
 target_needs (tree.Bracketed' p e span) names d = target_needs e names d
 target_needs other names d = needs_none
 
@@ -58,7 +61,8 @@ pub target_below : (e : Expression) (m n : Names) (d : ℕ) → NamesBelow m n �
 target_below (tree.Name name) m n d h =
     below_eq (same_lookup target_in (λ forms b c. refl) (λ of forms b c. refl) (λ types forms b c. refl) (found name m) (found (name_of name.text.now) n) (found_below name m n h))
 target_below (tree.Element' p a q i span) m n d h =
-    below_then (below_eq (named_same a m n h)) (λ view. below_then (value_below i Int m n d h) (λ i. below_refl))
+    below_then (below_eq (elements_same a m n h)) (λ view. below_then (first_below a m n d h) (λ first.
+    below_then (value_below i Int m n d h) (λ i. below_refl)))
 target_below (tree.Bracketed' p e span) m n d h = target_below e m n d h
 target_below other m n d h = below_none
 
@@ -101,14 +105,25 @@ results_given_below (place ∷ places) (More' p e q results) m n d h =
 results_given_below [] (More' p e q results) m n d h = below_none
 results_given_below (place ∷ places) End m n d h = below_none
 
+whole_same : (e : Expression) (m n : Names) → NamesBelow m n → whole (plain e) n ≡ whole e m
+whole_same (tree.Name name) m n h =
+    same_lookup view_in (λ forms b c. refl) (λ of forms b c. refl) (λ types forms b c. refl) (found name m) (found (name_of name.text.now) n) (found_below name m n h)
+whole_same (tree.Bracketed' p e span) m n h = whole_same e m n h
+whole_same other m n h = refl
+
+whole_needs : (e : Expression) (names : Names) → Needs ((is_name e ≡ true) × IsWhole e) (whole e names)
+whole_needs (tree.Name n) names = needs_fact (refl, tt)
+whole_needs (tree.Bracketed' p e span) names = whole_needs e names
+whole_needs other names = needs_none
+
 whole_target_same : (targets : Expressions) (m n : Names) → NamesBelow m n → whole_target (all_plain targets) n ≡ whole_target targets m
 whole_target_same End m n h = refl
-whole_target_same (More' p t q End) m n h = ap (λ o. and_then o (λ view. where_true view.is_variable (Some view))) (named_same t m n h)
+whole_target_same (More' p t q End) m n h = ap (λ o. and_then o (λ view. where_true view.is_variable (Some view))) (whole_same t m n h)
 whole_target_same (More' p t q (More' r u s more)) m n h = refl
 
 whole_target_needs : (targets : Expressions) (names : Names) → Needs (AreTargets targets) (whole_target targets names)
 whole_target_needs End names = needs_fact tt
-whole_target_needs (More' p t q End) names = needs_map (λ w. (name_target t w.0, w.1, tt)) (needs_first _ (named_needs t names))
+whole_target_needs (More' p t q End) names = needs_map (λ w. (name_target t w.0, w.1, tt)) (needs_first _ (whole_needs t names))
 whole_target_needs (More' p t q (More' r u s more)) names = needs_none
 
 copied_needs : (view : View) (e : Expression) (names : Names) → Needs (IsWhole e) (copied view e names)
@@ -160,8 +175,9 @@ pub referred_needs : {F : Type 0} (e : Expression) (of : Primitive) (names : Nam
 referred_needs (tree.Name name) of names d next h = needs_then _ (λ place. needs_map (λ f. (tt, f)) (h place d))
 referred_needs (tree.Element' p a q i span) of names d next h =
     needs_map (λ w. ((w.0.0, w.0.1, w.1.0), w.1.1))
-    (needs_both (named_needs a names) (λ view. needs_then (written_array view) (λ a. needs_as of (element_type view.kind)
-    (needs_both (value_needs i Int names d) (λ i. given_needs d _ _ (λ word n. h (Element view word) n))))))
+    (needs_then (of_elements a names) (λ view. needs_then (written_array view) (λ array. needs_as of (element_type view.kind)
+    (needs_both (first_needs a names d) (λ first. needs_both (value_needs i Int names d) (λ i.
+    given_needs d _ _ (λ word n. h (Element view word) n)))))))
 referred_needs (tree.Bracketed' p e span) of names d next h = referred_needs e of names d next h
 referred_needs other of names d next h = needs_none
 
@@ -171,10 +187,21 @@ referred_below (tree.Name name) of m n d next other h b =
     below_then (below_eq (same_lookup (lent of) (λ forms b c. refl) (λ of forms b c. refl) (λ types forms b c. refl) (found name m) (found (name_of name.text.now) n) (found_below name m n h)))
     (λ place. b place d)
 referred_below (tree.Element' p a q i span) of m n d next other h b =
-    below_then (below_eq (named_same a m n h)) (λ view. below_then below_refl (λ a. below_as of (element_type view.kind)
-    (below_then (value_below i Int m n d h) (λ i. given_below d _ _ _ (λ word k. b (Element view word) k)))))
+    below_then (below_eq (elements_same a m n h)) (λ view. below_then below_refl (λ array. below_as of (element_type view.kind)
+    (below_then (first_below a m n d h) (λ first. below_then (value_below i Int m n d h) (λ i.
+    given_below d _ _ _ (λ word k. b (Element view word) k))))))
 referred_below (tree.Bracketed' p e span) of m n d next other h b = referred_below e of m n d next other h b
 referred_below anything of m n d next other h b = below_none
+
+pub lent_to_needs : {F : Type 0} (d : ℕ) (lent : Lent) (next : Place → ℕ → Effect) → ((place : Place) (n : ℕ) → Needs F (next place n))
+    → Needs F (lent_to d lent next)
+lent_to_needs d (There place) next h = h place d
+lent_to_needs d (Begins view first) next h = given_needs d first _ (λ word n. h (Part view word) n)
+
+lent_to_below : (d : ℕ) (lent : Lent) (next other : Place → ℕ → Effect) → ((place : Place) (k : ℕ) → Below (next place k) (other place k))
+    → Below (lent_to d lent next) (lent_to d lent other)
+lent_to_below d (There place) next other h = h place d
+lent_to_below d (Begins view first) next other h = given_below d first _ _ (λ word k. h (Part view word) k)
 
 traces_needs : (e : Expression) (names : Names) → Needs (IsWhole e) (traces_of e names)
 traces_needs (tree.Name name) names = needs_fact tt
@@ -216,7 +243,7 @@ entered_needs (More' p e q more) (OfValue of ∷ forms) does names d =
 entered_needs (More' p e q more) (OfVariable of ∷ forms) does names d =
     referred_needs e of names d _ (λ place n. entered_needs more forms _ names n)
 entered_needs (More' p e q more) (OfArray shape ∷ forms) does names d =
-    needs_both (array_needs e shape names) (λ view. entered_needs more forms _ names d)
+    needs_both (lent_needs e shape names d) (λ lent. lent_to_needs d lent _ (λ place n. entered_needs more forms _ names n))
 entered_needs (More' p e q more) (OfChannel wanted ∷ forms) does names d =
     needs_both (traces_needs e names) (λ protocol. needs_where (same_protocol wanted protocol) (entered_needs more forms _ names d))
 entered_needs (More' p e q more) [] does names d = needs_none
@@ -227,30 +254,47 @@ entered_below End [] does other b m n d h = b.at [] d
 entered_below End (form ∷ forms) does other b m n d h = below_none
 entered_below (More' p e q more) (OfValue of ∷ forms) does other b m n d h =
     below_then (value_below e of m n d h) (λ v. given_below d v _ _ (λ word k.
-    entered_below more forms (behind (Fixed of word) does) (behind (Fixed of word) other) (behind_below (Fixed of word) b) m n k h))
+    let known = limited (most_of e m) word in
+    subst (λ z. Below (entered more forms (behind (Fixed of known) does) m k) (entered (all_plain more) forms (behind (Fixed of (limited z word)) other) n k))
+    (sym (most_same e m n h))
+    (entered_below more forms (behind (Fixed of known) does) (behind (Fixed of known) other) (behind_below (Fixed of known) b) m n k h)))
 entered_below (More' p e q more) (OfVariable of ∷ forms) does other b m n d h =
     referred_below e of m n d _ _ h (λ place k. entered_below more forms (behind place does) (behind place other) (behind_below place b) m n k h)
 entered_below (More' p e q more) (OfArray shape ∷ forms) does other b m n d h =
-    below_then (array_below e shape m n h) (λ view.
-    entered_below more forms (behind (Whole view) does) (behind (Whole view) other) (behind_below (Whole view) b) m n d h)
+    below_then (lent_below e shape m n d h) (λ lent. lent_to_below d lent _ _ (λ place k.
+    entered_below more forms (behind place does) (behind place other) (behind_below place b) m n k h))
 entered_below (More' p e q more) (OfChannel wanted ∷ forms) does other b m n d h =
     below_then (below_eq (traces_same e m n h)) (λ protocol. below_where (same_protocol wanted protocol)
     (entered_below more forms (behind (Carrier Traces protocol) does) (behind (Carrier Traces protocol) other) (behind_below (Carrier Traces protocol) b) m n d h))
 entered_below (More' p e q more) [] does other b m n d h = below_none
 
-pub called_needs : (entry : Entry) (arguments : Expressions) (names : Names) (d : ℕ) → Needs (AreWhole arguments) (called entry arguments names d)
-called_needs (Procedure forms does) arguments names d = entered_needs arguments forms does names d
-called_needs other arguments names d = needs_none
+asserted_needs : (arguments : Expressions) (names : Names) (d : ℕ) → Needs (AreWhole arguments) (asserted arguments names d)
+asserted_needs End names d = needs_none
+asserted_needs (More' p e q End) names d = needs_map (λ w. (w, tt)) (needs_first _ (value_needs e Truth names d))
+asserted_needs (More' p e q (More' r f u more)) names d = needs_none
 
-pub called_below : (x y : Entry) (arguments : Expressions) (m n : Names) (d : ℕ) → EntryBelow x y → NamesBelow m n
-    → Below (called x arguments m d) (called y (all_plain arguments) n d)
-called_below (Procedure forms does) y arguments m n d e h =
-    subst (λ z. Below (called (Procedure forms does) arguments m d) (called z (all_plain arguments) n d)) (sym e.1)
+asserted_below : (arguments : Expressions) (m n : Names) (d : ℕ) → NamesBelow m n → Below (asserted arguments m d) (asserted (all_plain arguments) n d)
+asserted_below End m n d h = below_none
+asserted_below (More' p e q End) m n d h = below_then (value_below e Truth m n d h) (λ v. below_refl)
+asserted_below (More' p e q (More' r f u more)) m n d h = below_none
+
+pub called_needs : (spelled : List ℕ) (entry : Entry) (arguments : Expressions) (names : Names) (d : ℕ)
+    → Needs (AreWhole arguments) (called spelled entry arguments names d)
+called_needs spelled (Procedure forms does) arguments names d = entered_needs arguments forms does names d
+called_needs spelled Nothing arguments names d = needs_where (is_assert spelled) (asserted_needs arguments names d)
+called_needs spelled other arguments names d = needs_none
+
+pub called_below : (spelled : List ℕ) (x y : Entry) (arguments : Expressions) (m n : Names) (d : ℕ) → EntryBelow x y → NamesBelow m n
+    → Below (called spelled x arguments m d) (called spelled y (all_plain arguments) n d)
+called_below spelled (Procedure forms does) y arguments m n d e h =
+    subst (λ z. Below (called spelled (Procedure forms does) arguments m d) (called spelled z (all_plain arguments) n d)) (sym e.1)
     (entered_below arguments forms does e.0 e.2 m n d h)
-called_below (Is place) y arguments m n d e h = below_none
-called_below (Function of forms gives) y arguments m n d e h = below_none
-called_below (Routine types forms does) y arguments m n d e h = below_none
-called_below Nothing y arguments m n d e h = below_none
+called_below spelled (Is place) y arguments m n d e h = below_none
+called_below spelled (Function of forms gives) y arguments m n d e h = below_none
+called_below spelled (Routine types forms does) y arguments m n d e h = below_none
+called_below spelled Nothing y arguments m n d e h =
+    subst (λ z. Below (called spelled Nothing arguments m d) (called spelled z (all_plain arguments) n d)) (sym e)
+    (below_where (is_assert spelled) (asserted_below arguments m n d h))
 
 -- ---- calls of FUNCTIONs with a body
 
@@ -374,20 +418,21 @@ shape_of_table_below : (of : Option written.Type) (e : Expression) (m n : Names)
 shape_of_table_below None e m n h = below_then (below_eq (type_in_table_same e m n h)) (λ of. below_refl)
 shape_of_table_below (Some of) e m n h = shape_below of false m n h
 
-pub table_needs : (of : Option written.Type) (e : Expression) (names : Names) → Needs (IsTypeIf of × IsWhole e) (table_entry of e names)
-table_needs of e names = needs_both (shape_of_table_needs of e names) (λ shape. needs_first _ (array_needs e shape names))
+pub table_needs : (of : Option written.Type) (e : Expression) (names : Names) (d : ℕ)
+    → Needs (IsTypeIf of × IsWhole e) (array_lent (shape_of_table of e names) e names d)
+table_needs of e names d = needs_both (shape_of_table_needs of e names) (λ shape. lent_needs e shape names d)
 
-pub table_below : (of : Option written.Type) (e : Expression) (m n : Names) → NamesBelow m n
-    → Below (table_entry of e m) (table_entry (plain_type_if of) (plain e) n)
-table_below of e m n h = below_then (shape_of_table_below of e m n h) (λ shape. below_then (array_below e shape m n h) (λ view. below_refl))
+pub table_below : (of : Option written.Type) (e : Expression) (m n : Names) (d : ℕ) → NamesBelow m n
+    → Below (array_lent (shape_of_table of e m) e m d) (array_lent (shape_of_table (plain_type_if of) (plain e) n) (plain e) n d)
+table_below of e m n d h = below_then (shape_of_table_below of e m n h) (λ shape. lent_below e shape m n d h)
 
-pub array_entry_needs : (of : written.Type) (e : Expression) (names : Names)
-    → Needs (IsType of × IsWhole e) (array_entry (shape_of of true names) e names)
-array_entry_needs of e names = needs_both (shape_needs of true names) (λ shape. needs_first _ (array_needs e shape names))
+pub array_lent_needs : (of : written.Type) (e : Expression) (names : Names) (d : ℕ)
+    → Needs (IsType of × IsWhole e) (array_lent (shape_of of true names) e names d)
+array_lent_needs of e names d = needs_both (shape_needs of true names) (λ shape. lent_needs e shape names d)
 
-pub array_entry_below : (of : written.Type) (e : Expression) (m n : Names) → NamesBelow m n
-    → Below (array_entry (shape_of of true m) e m) (array_entry (shape_of (plain_type of) true n) (plain e) n)
-array_entry_below of e m n h = below_then (shape_below of true m n h) (λ shape. below_then (array_below e shape m n h) (λ view. below_refl))
+pub array_lent_below : (of : written.Type) (e : Expression) (m n : Names) (d : ℕ) → NamesBelow m n
+    → Below (array_lent (shape_of of true m) e m d) (array_lent (shape_of (plain_type of) true n) (plain e) n d)
+array_lent_below of e m n d h = below_then (shape_below of true m n h) (λ shape. lent_below e shape m n d h)
 
 pub type_of_value_needs : (of : Option written.Type) (e : Expression) (names : Names) → Needs (IsTypeIf of) (type_of_value of e names)
 type_of_value_needs None e names = needs_fact tt

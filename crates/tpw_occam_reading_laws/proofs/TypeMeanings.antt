@@ -12,7 +12,7 @@ use Rattle.tpw_occam_meaning.specs.declared.types.Parameters.{Parameters}
 use Rattle.tpw_occam_meaning.specs.declared.types.Parameters.TheVariants as parameters
 use Rattle.tpw_occam_meaning.specs.Expressions.{constant}
 use Rattle.tpw_occam_meaning.specs.Names.{Names, Form, Place, Is, bound, with_name}
-use Rattle.tpw_occam_meaning.specs.Types.{size_in, shape_of, by_sizes, protocol_of, array_form, form_of, forms_behind, forms_of}
+use Rattle.tpw_occam_meaning.specs.Types.{size_in, size_of_row, of_rows, shape_of, by_sizes, protocol_of, array_form, form_of, forms_behind, forms_of}
 use Rattle.tpw_occam_meaning.specs.Values.{kind_of}
 use Rattle.tpw_occam_reading_laws.proofs.Plain.{IsWhole}
 use Rattle.tpw_occam_reading_laws.proofs.PlainTypes.{plain_name_of, plain_sizes, plain_type, plain_parameters, AreSizes, IsType, AreParameters}
@@ -25,14 +25,32 @@ use Rattle.tpw_occam_reading_laws.proofs.Meanings.{constant_below}
 pub constant_needs : (e : Expression) (of : Primitive) (names : Names) → Needs (IsWhole e) (constant e of names)
 constant_needs e of names = needs_first _ (value_needs e of names 0)
 
-pub size_needs : (s : Sizes) (names : Names) → Needs (AreSizes s) (size_in s names)
+-- the first size is
+abbrev FirstWhole : Sizes → Type 0
+FirstWhole (sizes.Of' e p rows) = IsWhole e
+FirstWhole other = Unit {0}
+
+size_needs : (s : Sizes) (names : Names) → Needs (FirstWhole s) (size_in s names)
 size_needs sizes.End names = needs_none
-size_needs (sizes.Open' p sizes.End) names = needs_fact tt
-size_needs (sizes.Of' e p sizes.End) names = needs_map (λ w. (w, tt)) (needs_first _ (constant_needs e Int names))
-size_needs other names = needs_none
+size_needs (sizes.Open' p rows) names = needs_fact tt
+size_needs (sizes.Of' e p rows) names = needs_first _ (constant_needs e Int names)
+
+row_needs : (s : Sizes) (names : Names) → Needs (AreSizes s) (size_of_row s names)
+row_needs sizes.End names = needs_fact tt
+row_needs (sizes.Open' p sizes.End) names = needs_fact tt
+row_needs (sizes.Of' e p sizes.End) names =
+    needs_map (λ w. (w, tt)) (needs_first _ (size_needs (sizes.Of' e p sizes.End) names))
+row_needs other names = needs_none
+
+all_sizes : (s : Sizes) → FirstWhole s → AreSizes (of_rows s) → AreSizes s
+all_sizes sizes.End f r = tt
+all_sizes (sizes.Open' p rows) f r = r
+all_sizes (sizes.Of' e p rows) f r = (f, r)
 
 pub shape_needs : (of : written.Type) (v : Bool) (names : Names) → Needs (IsType of) (shape_of of v names)
-shape_needs of v names = needs_then (kind_of of.of) (λ kind. needs_first _ (size_needs of.sizes names))
+shape_needs of v names =
+    needs_then (kind_of of.of) (λ kind. needs_map (λ w. all_sizes of.sizes w.0 w.1)
+    (needs_both (size_needs of.sizes names) (λ size. needs_first _ (row_needs (of_rows of.sizes) names))))
 
 pub by_sizes_needs : {A : Type 0} (s : Sizes) (one : Option A) {other : Option A} → Needs (AreSizes s) other → Needs (AreSizes s) (by_sizes s one other)
 by_sizes_needs sizes.End one n = needs_fact tt
@@ -62,14 +80,26 @@ forms_needs takes names = forms_behind_needs takes None names
 
 -- ---- the same by plain trees
 
-pub size_below : (s : Sizes) (m n : Names) → NamesBelow m n → Below (size_in s m) (size_in (plain_sizes s) n)
+size_below : (s : Sizes) (m n : Names) → NamesBelow m n → Below (size_in s m) (size_in (plain_sizes s) n)
 size_below sizes.End m n h = below_none
-size_below (sizes.Open' p sizes.End) m n h = below_refl
-size_below (sizes.Of' e p sizes.End) m n h = below_then (constant_below e Int m n h) (λ k. below_refl)
-size_below other m n h = below_none
+size_below (sizes.Open' p rows) m n h = below_refl
+size_below (sizes.Of' e p rows) m n h = below_then (constant_below e Int m n h) (λ k. below_refl)
+
+row_below : (s : Sizes) (m n : Names) → NamesBelow m n → Below (size_of_row s m) (size_of_row (plain_sizes s) n)
+row_below sizes.End m n h = below_refl
+row_below (sizes.Open' p sizes.End) m n h = below_refl
+row_below (sizes.Of' e p sizes.End) m n h = below_then (size_below (sizes.Of' e p sizes.End) m n h) (λ size. below_refl)
+row_below other m n h = below_none
+
+-- .. of the sizes behind the first
+row_behind_below : (s : Sizes) (m n : Names) → NamesBelow m n → Below (size_of_row (of_rows s) m) (size_of_row (of_rows (plain_sizes s)) n)
+row_behind_below sizes.End m n h = below_refl
+row_behind_below (sizes.Open' p rows) m n h = row_below rows m n h
+row_behind_below (sizes.Of' e p rows) m n h = row_below rows m n h
 
 pub shape_below : (of : written.Type) (v : Bool) (m n : Names) → NamesBelow m n → Below (shape_of of v m) (shape_of (plain_type of) v n)
-shape_below of v m n h = below_then below_refl (λ kind. below_then (size_below of.sizes m n h) (λ size. below_refl))
+shape_below of v m n h = below_then below_refl (λ kind. below_then (size_below of.sizes m n h) (λ size.
+    below_then (row_behind_below of.sizes m n h) (λ row. below_refl)))
 
 pub by_sizes_below : {A : Type 0} (s : Sizes) {one other first second : Option A} → Below one first → Below other second
     → Below (by_sizes s one other) (by_sizes (plain_sizes s) first second)

@@ -3,7 +3,6 @@
 ghost use Rattle.std.specs.Prelude.{◌≡◌, ℕ, List, [], Option, Some};
 ghost use Rattle.tpw_occam_core.specs.Meaning.{Meant};
 ghost use Rattle.tpw_occam_terms.specs.declared.name.Primitive.{Primitive};
-ghost use Rattle.tpw_occam_lexing.specs.Lines.{lines_of};
 ghost use Rattle.tpw_occam_meaning.specs.declared.expression.Expression.{Expression};
 ghost use Rattle.tpw_occam_meaning.specs.declared.tree.Process.{Process};
 ghost use Rattle.tpw_occam_meaning.specs.declared.tree.Source.{Source};
@@ -13,6 +12,7 @@ ghost use Rattle.tpw_occam_meaning.specs.Processes.{run};
 ghost use Rattle.tpw_occam_meaning.specs.States.{State};
 ghost use Rattle.tpw_occam_meaning.specs.Texts.{MeansText};
 ghost use Rattle.tpw_occam_meaning.specs.Values.{Value};
+ghost use Rattle.tpw_occam_reading.specs.Predefined.{whole_lines};
 ghost use Rattle.tpw_occam_reading.specs.Spelled.{spelled};
 ghost use Rattle.tpw_occam_reading.specs.Unparse.{process_lines, unparse};
 
@@ -31,6 +31,6 @@ pub fn a_process_does_one_thing()
 /// Trees that are written the same mean the same, where they mean something; so a text has at most one meaning.
 pub fn a_text_has_one_meaning()
     ensures trees { (a b : Source) (m n : List ℕ → Option Meant) → unparse a ≡ unparse b → MeansText a m → MeansText b n → m ≡ n }
-    ensures text { (text : List ℕ) (a b : Source) (m n : List ℕ → Option Meant) → lines_of text ≡ Some (unparse a)
-        → lines_of text ≡ Some (unparse b) → MeansText a m → MeansText b n → m ≡ n }
+    ensures text { (text : List ℕ) (a b : Source) (m n : List ℕ → Option Meant) → whole_lines text ≡ Some (unparse a)
+        → whole_lines text ≡ Some (unparse b) → MeansText a m → MeansText b n → m ≡ n }
 {}

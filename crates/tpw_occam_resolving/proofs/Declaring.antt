@@ -7,12 +7,14 @@ use Rattle.tpw_occam_terms.specs.declared.name.Name.{Name}
 use Rattle.tpw_occam_meaning.specs.declared.tree.Declaration.{Declaration}
 use Rattle.tpw_occam_meaning.specs.declared.tree.Declaration.TheVariants as declaration
 use Rattle.tpw_occam_meaning.specs.declared.tree.Process.{Process}
+use Rattle.tpw_occam_meaning.specs.declared.tree.Process.TheVariants as process
 use Rattle.tpw_occam_meaning.specs.declared.tree.ValueProcess.{ValueProcess}
+use Rattle.tpw_occam_meaning.specs.declared.tree.ValueProcess.TheVariants as body
 use Rattle.tpw_occam_meaning.specs.declared.types.Primitives.{Primitives}
 use Rattle.tpw_occam_meaning.specs.declared.types.Parameters.{Parameters}
 use Rattle.tpw_occam_meaning.specs.Effects.{Effect}
 use Rattle.tpw_occam_meaning.specs.Maybe.{and_then, where_true}
-use Rattle.tpw_occam_meaning.specs.Names.{Procedure, Routine, Names, with_name, taking}
+use Rattle.tpw_occam_meaning.specs.Names.{Procedure, Routine, Place, Names, with_name, taking}
 use Rattle.tpw_occam_meaning.specs.Processes.{run, declared, valued}
 use Rattle.tpw_occam_meaning.specs.Types.{forms_of, is_value, all_types}
 use Rattle.tpw_occam_names.specs.declared.scope.Form.{Form}
@@ -44,3 +46,16 @@ routine_done p after names d types name takes b body forms found e p-is body-is 
     (Some (Routine (all_types types) forms (λ results. taking takes (valued b.value results) names)))))
     (λ entry. after (with_name name entry names) d)) found-is)
     ∙ sym (ap (λ x. declared x after names d) p-is)
+
+-- a process behind a declaration, and the body of a FUNCTION behind one
+pub declared_run : (p : Process) (b : Box Declaration Global) (q : Box Process Global) (declaration : Declaration) (rest : Process)
+    (names : Names) (d : ℕ) (r : Effect) → p ≡ process.Declared b q → declaration ≡ b.value → rest ≡ q.value →
+    r ≡ declared declaration (run rest) names d → r ≡ run p names d
+declared_run p b q declaration rest names d r p-is declaration-is rest-is h =
+    h ∙ (λ i. declared (declaration-is i) (run (rest-is i)) names d) ∙ sym (ap (λ x. run x names d) p-is)
+
+pub declared_valued : (p : ValueProcess) (b : Box Declaration Global) (q : Box ValueProcess Global) (declaration : Declaration)
+    (rest : ValueProcess) (results : List Place) (names : Names) (d : ℕ) (r : Effect) → p ≡ body.Declared b q → declaration ≡ b.value →
+    rest ≡ q.value → r ≡ declared declaration (valued rest results) names d → r ≡ valued p results names d
+declared_valued p b q declaration rest results names d r p-is declaration-is rest-is h =
+    h ∙ (λ i. declared (declaration-is i) (valued (rest-is i) results) names d) ∙ sym (ap (λ x. valued x results names d) p-is)

@@ -1,8 +1,10 @@
+pub mod Counting
 pub mod Declaring
 pub mod Entering
 pub mod Giving
 pub mod Making
 pub mod Operating
+pub mod Searching
 pub mod Selecting
 pub mod Sending
 pub mod Sequencing

@@ -4,20 +4,38 @@ ghost use Rattle.std.specs.Prelude.{◌≡◌, ◌++◌, Some, IfOk};
 ghost use Rattle.tpw_occam_core.specs.Arrays.{size};
 ghost use Rattle.tpw_occam_meaning.specs.Expressions as text;
 ghost use Rattle.tpw_occam_meaning.specs.Maybe.{and_then};
-ghost use Rattle.tpw_occam_names.specs.Scopes.{view_of, shape_of};
-ghost use Rattle.tpw_occam_resolving.specs.Passing.{array_made};
+ghost use Rattle.tpw_occam_meaning.specs.Names.{found};
+ghost use Rattle.tpw_occam_names.specs.Scopes.{names_of, view_of, shape_of};
+ghost use Rattle.tpw_occam_resolving.specs.Passing.{array_made, lent_made};
 ghost use Rattle.tpw_occam_scoped.specs.Made.{storage_made};
 
 use std::alloc::Global;
 use tpw_occam_core::Kind;
-use tpw_occam_names::{Fault, Shape, Storage, View};
-use tpw_occam_scoped::Bytes;
+use tpw_occam_names::{Fault, Meaning, Scope, Shape, Storage, View, Word, look_up};
+use tpw_occam_scoped::{Bytes, Value};
+use tpw_occam_terms::Name;
 
-/// An array as a name shows it, or a table that is written where it is used.
+/// An array as a name shows it, or a table that is written where it is used, in rows of a size or without.
 #[derive(Drop)]
 pub enum Array<'s> {
     Named(View<'s>),
-    Written { kind: Kind, bytes: Vec<u8> },
+    Written {
+        kind: Kind,
+        bytes: Vec<u8>,
+        size: usize,
+        row: Option<usize>,
+    },
+}
+
+/// An array that is passed, or has another name: one that is there, or one whose first element is worked out where it
+/// is passed.
+#[derive(Drop)]
+pub enum LentArray<'s> {
+    Whole(Array<'s>),
+    /// A part that has a name.
+    Part(View<'s>, Word),
+    /// A part, by its first element.
+    Begins(View<'s>, Value),
 }
 
 /// How many elements this many bytes have.
@@ -36,10 +54,16 @@ pub fn view<'r>(array: &'r Array<'r>) -> View<'r>
 {
     match array {
         Array::Named(view) => *view,
-        Array::Written { kind, bytes } => View {
+        Array::Written {
+            kind,
+            bytes,
+            size,
+            row,
+        } => View {
             storage: Storage::Table(bytes),
             kind: *kind,
-            size: elements(*kind, bytes),
+            size: *size,
+            row: *row,
             is_variable: false,
         },
     }
@@ -73,18 +97,30 @@ fn has_size(wanted: Option<usize>, size: usize) -> bool
     }
 }
 
+fn has_row(wanted: Option<Option<usize>>, row: Option<usize>) -> bool
+    ensures { result ≡ text.has_row wanted row }
+{
+    match (wanted, row) {
+        (None, None) => true,
+        (Some(wanted), Some(row)) => has_size(wanted, row),
+        (None, Some(_)) | (Some(_), None) => false,
+    }
+}
+
 /// An array, where it has the shape that is wanted.
 pub(crate) fn fitting(shape: Shape, view: View<'_>) -> Result<View<'_>, Fault>
     ensures { IfOk result (λ v. text.fitting (shape_of shape) (view_of view.entry) ≡ Some (view_of v)) }
 {
     let fits = has_kind(shape.kind, view.kind)
         && has_size(shape.size, view.size)
+        && has_row(shape.row, view.row)
         && (view.is_variable || !shape.is_variable);
     if fits {
         Ok(View {
             storage: view.storage,
             kind: view.kind,
             size: view.size,
+            row: view.row,
             is_variable: shape.is_variable,
         })
     } else {
@@ -99,18 +135,101 @@ pub(crate) fn named_array(shape: Shape, view: View<'_>) -> Result<Array<'_>, Fau
     Ok(Array::Named(fitting(shape, view)?))
 }
 
+/// An array that is named, where it has the shape that is wanted, as another name is lent it.
+pub(crate) fn lent_by_name<'s>(
+    scope: &Scope<'s, '_, '_>,
+    name: Name<'_>,
+    shape: Shape,
+) -> Result<LentArray<'s>, Fault>
+    ensures { IfOk result (λ lent.
+        text.lent_in (shape_of shape) (found name.entry (names_of scope.now)) ≡ Some (lent_made lent)) }
+{
+    match look_up(scope, name) {
+        Some((Meaning::Whole(view), _)) => {
+            Ok(LentArray::Whole(Array::Named(fitting(shape, view)?)))
+        }
+        Some((Meaning::Part(view, first), _)) => Ok(LentArray::Part(fitting(shape, view)?, first)),
+        _ => Err(Fault::Wrong),
+    }
+}
+
 /// A table, where it has the shape that is wanted.
 pub(crate) fn table<'s>(kind: Kind, bytes: Vec<u8>, shape: Shape) -> Result<Array<'s>, Fault>
     ensures { IfOk result (λ a. and_then (text.table kind bytes.items) (text.fitting (shape_of shape)) ≡ Some (array_made a)) }
 {
+    let size = elements(kind, &bytes);
     let fits = !bytes.is_empty()
         && has_kind(shape.kind, kind)
-        && has_size(shape.size, elements(kind, &bytes))
+        && has_size(shape.size, size)
+        && has_row(shape.row, None)
         && !shape.is_variable;
     if fits {
-        Ok(Array::Written { kind, bytes })
+        Ok(Array::Written {
+            kind,
+            bytes,
+            size,
+            row: None,
+        })
     } else {
         Err(Fault::Wrong)
+    }
+}
+
+/// A table in rows of so many elements, where it has the shape that is wanted.
+pub(crate) fn table_of_rows<'s>(
+    kind: Kind,
+    row: usize,
+    bytes: Vec<u8>,
+    shape: Shape,
+) -> Result<Array<'s>, Fault>
+    ensures { IfOk result (λ a.
+        and_then (text.table_of_rows kind row bytes.items) (text.fitting (shape_of shape)) ≡ Some (array_made a)) }
+{
+    if row == 0 {
+        return Err(Fault::Wrong);
+    }
+    let size = elements(kind, &bytes) / row;
+    let fits = !bytes.is_empty()
+        && has_kind(shape.kind, kind)
+        && has_size(shape.size, size)
+        && has_row(shape.row, Some(row))
+        && !shape.is_variable;
+    if fits {
+        Ok(Array::Written {
+            kind,
+            bytes,
+            size,
+            row: Some(row),
+        })
+    } else {
+        Err(Fault::Wrong)
+    }
+}
+
+/// The shape of a table's rows.
+pub(crate) fn shape_of_row(kind: Kind, size: Option<usize>) -> Shape
+    ensures { shape_of result ≡ text.shape_of_row kind size }
+{
+    Shape {
+        kind,
+        size,
+        row: None,
+        is_variable: false,
+    }
+}
+
+/// The bytes of a row of a table, and more.
+pub(crate) fn with_row(alloc: Global, array: &Array<'_>, more: &[u8]) -> Result<Vec<u8>, Fault>
+    ensures { IfOk result (λ bytes. and_then (text.bytes_of_table (array_made array.now).storage)
+        (λ row. Some (row ++ more.now)) ≡ Some bytes.items) }
+{
+    match view(&*array).storage {
+        Storage::Table(row) => {
+            let mut bytes = Vec::from_slice(alloc, row)?;
+            bytes.extend_from_slice(more)?;
+            Ok(bytes)
+        }
+        Storage::Array(_) => Err(Fault::Wrong),
     }
 }
 

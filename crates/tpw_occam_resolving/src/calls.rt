@@ -11,14 +11,14 @@ ghost use Rattle.tpw_occam_scoped.specs.Made.{value_made, depth_behind, passed_t
 ghost use Rattle.tpw_occam_resolving.specs.Passing.{place_of};
 
 use crate::depths::word_passed;
-use crate::expressions::value;
+use crate::expressions::{first_of, value};
 use crate::targets::written_array;
-use crate::values::{checked, is_type};
+use crate::values::{behind_first, checked, is_type};
 use std::alloc::Global;
 use tpw_occam_core::Kind;
 use tpw_occam_meaning::Expression;
 use tpw_occam_names::{
-    Channel, Fault, Meaning, Protocol, Scope, View, Word, element_type, look_up, named,
+    Channel, Fault, Meaning, Protocol, Scope, View, Word, element_type, look_up, of_elements,
 };
 use tpw_occam_scoped::Value;
 use tpw_occam_terms::{Name, Primitive};
@@ -90,14 +90,16 @@ pub fn referred<'t, 's, 'a>(
             array,
             subscript,
             ..
-        } => match named(scope, array) {
+        } => match of_elements(scope, array) {
             Some(view) => {
                 is_type(of, element_type(view.kind))?;
                 if written_array(view).is_none() {
                     return Err(Fault::Wrong);
                 }
+                let first = first_of(alloc, scope, d, array, room)?;
                 let i = value(alloc, scope, d, subscript, Primitive::Int, room)?;
-                let subscript = checked(alloc, view.size, i)?;
+                let i = checked(alloc, view.size, i)?;
+                let subscript = behind_first(alloc, first, i)?;
                 Ok(Lent {
                     place: Place::Element(view, word_passed(d, &subscript)),
                     subscript,

@@ -100,6 +100,7 @@ fn word_expression(word: Word) -> Made
     match word {
         Word::Constant(word) => Made::Constant(word),
         Word::Kept(x) => Made::Cell(x),
+        Word::Limited(x, _) => Made::Cell(x),
     }
 }
 

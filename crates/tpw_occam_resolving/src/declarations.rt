@@ -8,12 +8,12 @@ ghost use Rattle.tpw_occam_meaning.specs.Declarations as text;
 ghost use Rattle.tpw_occam_meaning.specs.Types as types;
 ghost use Rattle.tpw_occam_names.specs.Scopes.{names_of, form_of, protocol_of, shape_of, view_of};
 ghost use Rattle.tpw_occam_meaning.specs.Names.{Is, Whole};
-ghost use Rattle.tpw_occam_resolving.specs.Passing.{array_made};
+ghost use Rattle.tpw_occam_resolving.specs.Passing.{array_made, lent_made};
 ghost use Rattle.tpw_occam_scoped.specs.Made.{value_made};
 
-use crate::arrays::{Array, fitting};
-use crate::expressions::array;
-use crate::types::{bytes_of, is_single, kind_of, shape};
+use crate::arrays::{Array, LentArray, fitting};
+use crate::expressions::lent_array;
+use crate::types::{bytes_of, elements_in_all, is_single, kind_of, shape};
 use std::alloc::Global;
 use tpw_occam_core::Kind;
 use tpw_occam_meaning::{Expression, Expressions, Parameters, Sizes, Type};
@@ -102,15 +102,15 @@ fn protocol<'t, 'a>(
         };
     }
     let shape = shape(alloc, scope, of, false, room)?;
-    match shape.size {
-        Some(size) => {
+    match (shape.row, shape.size) {
+        (None, Some(size)) => {
             if is_message(bytes_of(shape.kind, size)?) {
                 Ok(Protocol::Several(shape.kind, size))
             } else {
                 Err(Fault::Wrong)
             }
         }
-        None => Err(Fault::Wrong),
+        _ => Err(Fault::Wrong),
     }
 }
 
@@ -252,6 +252,7 @@ fn shape_of_table<'t, 'a>(
                 Some(kind) => Ok(Shape {
                     kind,
                     size: None,
+                    row: None,
                     is_variable: false,
                 }),
                 None => Err(Fault::Wrong),
@@ -264,41 +265,63 @@ fn shape_of_table<'t, 'a>(
 pub fn table_declared<'t, 's, 'a>(
     alloc: Global,
     scope: &Scope<'s, 't, 'a>,
+    d: usize,
     of: &Option<Type<'a>>,
     e: &Expression<'a>,
     room: u32,
-) -> Result<Array<'s>, Fault>
-    ensures { IfOk result (λ a. text.table_entry of.now e.now (names_of scope.now) ≡ Some (Is (Whole (array_made a)))) }
+) -> Result<LentArray<'s>, Fault>
+    ensures { IfOk result (λ lent. text.array_lent (text.shape_of_table of.now e.now (names_of scope.now)) e.now
+        (names_of scope.now) d ≡ Some (lent_made lent)) }
 {
     let shape = shape_of_table(alloc, scope, of, e, room)?;
-    array(alloc, scope, e, shape, room)
+    lent_array(alloc, scope, d, e, shape, room)
 }
 
 /// Another name for an array that may be written to.
 pub fn array_abbreviated<'t, 's, 'a>(
     alloc: Global,
     scope: &Scope<'s, 't, 'a>,
+    d: usize,
     of: &Type<'a>,
     e: &Expression<'a>,
     room: u32,
-) -> Result<Array<'s>, Fault>
-    ensures { IfOk result (λ a. text.array_entry (types.shape_of of.now true (names_of scope.now)) e.now
-        (names_of scope.now) ≡ Some (Is (Whole (array_made a)))) }
+) -> Result<LentArray<'s>, Fault>
+    ensures { IfOk result (λ lent. text.array_lent (types.shape_of of.now true (names_of scope.now)) e.now
+        (names_of scope.now) d ≡ Some (lent_made lent)) }
 {
     let shape = shape(alloc, scope, of, true, room)?;
-    array(alloc, scope, e, shape, room)
+    lent_array(alloc, scope, d, e, shape, room)
+}
+
+/// The size of rows that are declared, where there are any.
+pub fn declared_row(row: Option<Option<usize>>) -> Result<Option<usize>, Fault>
+    ensures { IfOk result (λ r. text.declared_row row ≡ Some r) }
+{
+    match row {
+        None => Ok(None),
+        Some(Some(row)) => Ok(Some(row)),
+        Some(None) => Err(Fault::Wrong),
+    }
+}
+
+/// How many bytes an array has.
+fn all_bytes(view: View<'_>) -> Result<u32, Fault>
+    ensures { IfOk result (λ bytes. bytes ≡ text.all_bytes (view_of view.entry)) }
+{
+    bytes_of(view.kind, elements_in_all(view.size, view.row)?)
 }
 
 /// An array, seen as words or as bytes.
 fn seen_as(kind: Kind, view: View<'_>) -> Result<View<'_>, Fault>
     ensures { IfOk result (λ v. text.seen_as kind (view_of view.entry) ≡ Some (view_of v)) }
 {
-    let bytes = bytes_of(view.kind, view.size)? as usize;
+    let bytes = all_bytes(view)? as usize;
     match kind {
         Kind::Byte => Ok(View {
             storage: view.storage,
             kind,
             size: bytes,
+            row: None,
             is_variable: view.is_variable,
         }),
         Kind::Word => {
@@ -307,6 +330,30 @@ fn seen_as(kind: Kind, view: View<'_>) -> Result<View<'_>, Fault>
                     storage: view.storage,
                     kind,
                     size: bytes / 4,
+                    row: None,
+                    is_variable: view.is_variable,
+                })
+            } else {
+                Err(Fault::Wrong)
+            }
+        }
+    }
+}
+
+/// .. in rows, where rows of a size are wanted.
+fn seen_in_rows(row: Option<Option<usize>>, view: View<'_>) -> Result<View<'_>, Fault>
+    ensures { IfOk result (λ v. text.seen_in_rows row (view_of view.entry) ≡ Some (view_of v)) }
+{
+    match row {
+        None => Ok(view),
+        Some(None) => Err(Fault::Wrong),
+        Some(Some(row)) => {
+            if row > 0 && view.size % row == 0 {
+                Ok(View {
+                    storage: view.storage,
+                    kind: view.kind,
+                    size: view.size / row,
+                    row: Some(row),
                     is_variable: view.is_variable,
                 })
             } else {
@@ -330,7 +377,8 @@ pub fn retyped<'t, 's, 'a>(
         Some((Meaning::Whole(view), _)) => {
             let shape = shape(alloc, scope, of, view.is_variable, room)?;
             let seen = seen_as(shape.kind, view)?;
-            Ok(Array::Named(fitting(shape, seen)?))
+            let rows = seen_in_rows(shape.row, seen)?;
+            Ok(Array::Named(fitting(shape, rows)?))
         }
         _ => Err(Fault::Wrong),
     }

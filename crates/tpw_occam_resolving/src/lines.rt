@@ -6,7 +6,7 @@ ghost use Rattle.tpw_occam_scoped.specs.Made.{effect_of};
 use std::alloc::{AllocError, Global};
 use tpw_occam_meaning::{Declaration, Expression, Expressions, Names, Process as Tree};
 use tpw_occam_scoped::Process;
-use tpw_occam_terms::Span;
+use tpw_occam_terms::{NO_LINE, Span};
 
 /// The line of a place, as a core keeps it.
 pub fn line_of(span: Span) -> u32 {
@@ -79,12 +79,13 @@ pub(crate) fn process_line(p: &Tree<'_>) -> Option<u32> {
     }
 }
 
-/// A process that comes from a line, where that is known.
+/// A process that comes from a line, where that is known. What is predefined stands in none: it comes from that of its
+/// call.
 pub(crate) fn at(alloc: Global, line: Option<u32>, made: Process) -> Result<Process, AllocError>
     ensures { IfOk result (λ p. effect_of p ≡ effect_of made) }
 {
     match line {
-        Some(line) => Process::at(alloc, line, made),
-        None => Ok(made),
+        Some(line) if line as usize != NO_LINE => Process::at(alloc, line, made),
+        _ => Ok(made),
     }
 }

@@ -36,6 +36,7 @@ pub fn message<'t, 'a>(
             let shape = Shape {
                 kind,
                 size: Some(n),
+                row: None,
                 is_variable: false,
             };
             let sent = array(alloc, scope, e, shape, room)?;

@@ -15,21 +15,25 @@ ghost use Rattle.tpw_occam_resolving.specs.Passing.{array_made};
 ghost use Rattle.tpw_occam_scoped.specs.Made.{effect_of};
 
 use crate::arrays::{Array, view};
+use crate::assertions::asserted;
 use crate::calls::{meaning_of, referred, same_protocol, traces_of};
 use crate::cases::{all_constants, are_distinct, constants_of, has_else, selection};
+use crate::counts::{replicated, word_named};
 use crate::declarations::{
-    are_values, array_abbreviated, forms_of, is_array, may_be_declared, retyped, table_declared,
-    type_of_value,
+    are_values, array_abbreviated, declared_row, forms_of, is_array, may_be_declared, retyped,
+    table_declared, type_of_value,
 };
 use crate::depths::{depth_behind, next, word_passed};
-use crate::expressions::{array, value};
+use crate::expressions::{lent_array, value};
 use crate::functions::{assigned, valued};
 use crate::lines::{at, expression_line, first_line, process_line};
 use crate::messages::traced;
 use crate::parameters::first;
+use crate::parts::{array_entered, lent_declared};
 use crate::rest::Rest;
+use crate::searches::searched;
 use crate::targets::cell_kind;
-use crate::types::{are_turns, bytes_of, constant, is_single, shape};
+use crate::types::{bytes_of, elements_in_all, is_single, shape};
 use std::alloc::Global;
 use tpw_occam_core::Kind;
 use tpw_occam_meaning::{
@@ -37,7 +41,7 @@ use tpw_occam_meaning::{
     Process as Tree, Processes, Type, ValueProcess,
 };
 use tpw_occam_names::{
-    Channel, Fault, Form, Meaning, Scope, Storage, View, Word, look_up, type_of,
+    Channel, Fault, Form, Meaning, Scope, Storage, View, Word, is_assert, look_up, type_of,
 };
 use tpw_occam_scoped::Process;
 use tpw_occam_terms::{Name, Primitive};
@@ -89,21 +93,7 @@ fn without_line<'t, 'a>(
             count,
             steps,
             ..
-        } => {
-            let from = constant(alloc, scope, start, Primitive::Int, room)?;
-            let turns = constant(alloc, scope, count, Primitive::Int, room)?;
-            if !are_turns(from, turns) {
-                return Err(Fault::Wrong);
-            }
-            let index_word = Word::Kept(d);
-            let within = Scope::Within(
-                index.text,
-                Meaning::Fixed(Primitive::Int, index_word),
-                &*scope,
-            );
-            let body = all(alloc, &within, next(d)?, steps, room - 1)?;
-            Ok(Process::repeat(alloc, index.span, d, from, turns, body)?)
-        }
+        } => replicated(alloc, scope, d, *index, start, count, steps, room - 1),
         Tree::If { choices, .. } => first_true(alloc, scope, d, choices, room - 1),
         Tree::Declared {
             declaration,
@@ -133,7 +123,7 @@ fn without_line<'t, 'a>(
 
 /// One process after another.
 #[cycle(process)]
-fn all<'t, 'a>(
+pub(crate) fn all<'t, 'a>(
     alloc: Global,
     scope: &Scope<'_, 't, 'a>,
     d: usize,
@@ -192,7 +182,7 @@ fn some<'t, 'a>(
 
 /// The process behind the first guard that is TRUE.
 #[cycle(process)]
-fn first_true<'t, 'a>(
+pub(crate) fn first_true<'t, 'a>(
     alloc: Global,
     scope: &Scope<'_, 't, 'a>,
     d: usize,
@@ -214,6 +204,23 @@ fn first_true<'t, 'a>(
             let chosen = Process::choice(alloc, guard, body, more)?;
             Ok(at(alloc, line, chosen)?)
         }
+        Choices::Search {
+            index,
+            start,
+            count,
+            guards,
+            more,
+        } => searched(
+            alloc,
+            scope,
+            d,
+            *index,
+            start,
+            count,
+            guards,
+            more,
+            room - 1,
+        ),
     }
 }
 
@@ -236,15 +243,15 @@ pub(crate) fn declared<'t, 'a>(
     match declaration {
         Declaration::Value { of, name, value: e } => {
             if is_array(of, e) {
-                let table = table_declared(alloc, scope, of, e, room)?;
-                return array_declared(alloc, scope, d, *name, &table, rest, room - 1);
+                let table = table_declared(alloc, scope, d, of, e, room)?;
+                return lent_declared(alloc, scope, d, *name, table, rest, room - 1);
             }
             let of = type_of_value(scope, of, e)?;
             let value = value(alloc, scope, d, e, of, room)?;
             if !may_be_declared(&value) {
                 return Err(Fault::Wrong);
             }
-            let word = word_passed(d, &value);
+            let word = word_named(scope, d, e, &value)?;
             let within = Scope::Within(name.text, Meaning::Fixed(of, word), &*scope);
             let body = behind(alloc, &within, depth_behind(d, &value)?, rest, room - 1)?;
             Ok(Process::passed_to(alloc, Some(name.span), d, value, body)?)
@@ -254,8 +261,19 @@ pub(crate) fn declared<'t, 'a>(
                 return variables(alloc, scope, d, of.of, names, rest, room - 1);
             }
             let shape = shape(alloc, scope, of, true, room)?;
+            let row = declared_row(shape.row)?;
             match shape.size {
-                Some(size) => arrays(alloc, scope, d, shape.kind, size, names, rest, room - 1),
+                Some(size) => arrays(
+                    alloc,
+                    scope,
+                    d,
+                    shape.kind,
+                    size,
+                    row,
+                    names,
+                    rest,
+                    room - 1,
+                ),
                 None => Err(Fault::Wrong),
             }
         }
@@ -336,7 +354,7 @@ pub(crate) fn declared<'t, 'a>(
 
 /// The rest behind declarations.
 #[cycle(process)]
-fn behind<'t, 'a>(
+pub(crate) fn behind<'t, 'a>(
     alloc: Global,
     scope: &Scope<'_, 't, 'a>,
     d: usize,
@@ -396,8 +414,8 @@ fn abbreviated<'t, 'a>(
     if is_single(&of.sizes) {
         return place_declared(alloc, scope, d, of.of, name, e, rest, room - 1);
     }
-    let named = array_abbreviated(alloc, scope, of, e, room)?;
-    array_declared(alloc, scope, d, name, &named, rest, room - 1)
+    let lent = array_abbreviated(alloc, scope, d, of, e, room)?;
+    lent_declared(alloc, scope, d, name, lent, rest, room - 1)
 }
 
 /// The process behind another name for a variable or an element, whose subscript is worked out there.
@@ -525,7 +543,7 @@ fn variables<'t, 'a>(
         Names::More(name, more) => {
             let within = Scope::Within(name.text, Meaning::Variable(of, d), &*scope);
             let body = variables(alloc, &within, next(d)?, of, more, rest, room - 1)?;
-            Ok(Process::variable(alloc, name.span, d, cell_kind(of), body)?)
+            Ok(Process::variable(alloc, Some(name.span), d, cell_kind(of), body)?)
         }
     }
 }
@@ -538,12 +556,13 @@ fn arrays<'t, 'a>(
     d: usize,
     kind: Kind,
     size: usize,
+    row: Option<usize>,
     names: &'t Names<'a>,
     rest: Rest<'_, 't, 'a>,
     room: u32,
 ) -> Result<Process, Fault>
-    ensures { IfOk result (λ made.
-        effect_of made ≡ text_declarations.arrays kind (Some size) names.now (after_of rest.entry) (names_of scope.now) d) }
+    ensures { IfOk result (λ made. effect_of made
+        ≡ text_declarations.arrays kind (Some size) row names.now (after_of rest.entry) (names_of scope.now) d) }
 {
     if room == 0 {
         return Err(Fault::Deep);
@@ -555,11 +574,23 @@ fn arrays<'t, 'a>(
                 storage: Storage::Array(d),
                 kind,
                 size,
+                row,
                 is_variable: true,
             };
             let within = Scope::Within(name.text, Meaning::Whole(view), &*scope);
-            let body = arrays(alloc, &within, next(d)?, kind, size, more, rest, room - 1)?;
-            Ok(Process::array(alloc, name.span, d, bytes_of(kind, size)?, body)?)
+            let body = arrays(
+                alloc,
+                &within,
+                next(d)?,
+                kind,
+                size,
+                row,
+                more,
+                rest,
+                room - 1,
+            )?;
+            let bytes = bytes_of(kind, elements_in_all(size, row)?)?;
+            Ok(Process::array(alloc, name.span, d, bytes, body)?)
         }
     }
 }
@@ -575,7 +606,7 @@ fn called<'t, 'a>(
     room: u32,
 ) -> Result<Process, Fault>
     ensures { IfOk result (λ made. effect_of made
-        ≡ calls.called (found name.entry (names_of scope.now)) arguments.now (names_of scope.now) d) }
+        ≡ calls.called name.entry.text.now (found name.entry (names_of scope.now)) arguments.now (names_of scope.now) d) }
 {
     if room == 0 {
         return Err(Fault::Deep);
@@ -594,7 +625,13 @@ fn called<'t, 'a>(
                 room - 1,
             )
         }
-        _ => Err(Fault::Wrong),
+        Some(_) => Err(Fault::Wrong),
+        None => {
+            if !is_assert(name.text) {
+                return Err(Fault::Wrong);
+            }
+            asserted(alloc, scope, d, arguments, room)
+        }
     }
 }
 
@@ -632,7 +669,7 @@ pub(crate) fn entered<'t, 'a>(
     match *form {
         Form::OfValue(of) => {
             let passed = value(alloc, scope, d, e, of, room)?;
-            let word = word_passed(d, &passed);
+            let word = word_named(scope, d, e, &passed)?;
             let n = depth_behind(d, &passed)?;
             let own = Scope::Within(name.text, Meaning::Fixed(of, word), &*own);
             let rest = entered(alloc, scope, &own, forms, takes, more, body, n, room - 1)?;
@@ -646,9 +683,10 @@ pub(crate) fn entered<'t, 'a>(
             Ok(Process::passed_to(alloc, None, d, lent.subscript, rest)?)
         }
         Form::OfArray(shape) => {
-            let passed = array(alloc, scope, e, shape, room)?;
-            let own = Scope::Within(name.text, Meaning::Whole(view(&passed)), &*own);
-            entered(alloc, scope, &own, forms, takes, more, body, d, room - 1)
+            let lent = lent_array(alloc, scope, d, e, shape, room)?;
+            array_entered(
+                alloc, scope, own, name, lent, forms, takes, more, body, d, room,
+            )
         }
         Form::OfChannel(wanted) => {
             let protocol = traces_of(scope, e)?;

@@ -3,16 +3,18 @@
 ghost use Rattle.std.specs.Prelude.{◌≡◌, Some, None, IfOk, MatchOption};
 ghost use Rattle.tpw_occam_meaning.specs.Assignments as text;
 ghost use Rattle.tpw_occam_meaning.specs.Names.{Is, Variable, found};
-ghost use Rattle.tpw_occam_names.specs.Scopes.{names_of, view_of};
+ghost use Rattle.tpw_occam_names.specs.Scopes.{names_of, shape_of, view_of};
 ghost use Rattle.tpw_occam_scoped.specs.Made.{value_made, target_made, effect_of, effect_of_all};
 
 use crate::arrays::{bytes, view};
-use crate::expressions::{array, value};
-use crate::values::word_value;
+use crate::expressions::{array, first_of, value};
+use crate::values::{in_storage, word_value};
 use std::alloc::Global;
 use tpw_occam_core::Kind;
 use tpw_occam_meaning::{Expression, Expressions};
-use tpw_occam_names::{Fault, Meaning, Scope, Shape, Storage, View, element_type, look_up, named};
+use tpw_occam_names::{
+    Fault, Meaning, Scope, Shape, Storage, View, element_type, look_up, of_elements,
+};
 use tpw_occam_scoped::{Assignment, Process, Target, Value, assigning, no_assignments};
 use tpw_occam_terms::{Name, Primitive};
 
@@ -105,9 +107,11 @@ pub fn target_of<'t, 'a>(
             array,
             subscript,
             ..
-        } => match named(scope, array) {
+        } => match of_elements(scope, array) {
             Some(view) => {
+                let first = first_of(alloc, scope, d, array, room)?;
                 let i = value(alloc, scope, d, subscript, Primitive::Int, room)?;
+                let i = in_storage(alloc, view.size, first, i)?;
                 element_target(alloc, view, i)
             }
             None => Err(Fault::Wrong),
@@ -170,6 +174,21 @@ pub(crate) fn assignment<'t, 'a>(
     }
 }
 
+/// The array that a name stands for, all of its storage.
+fn whole<'s>(scope: &Scope<'s, '_, '_>, e: &Expression<'_>) -> Option<View<'s>>
+    ensures { MatchOption result (text.whole e.now (names_of scope.now) ≡ None)
+        (λ view. text.whole e.now (names_of scope.now) ≡ Some (view_of view)) }
+{
+    match e {
+        Expression::Name(name) => match look_up(scope, *name) {
+            Some((Meaning::Whole(view), _)) => Some(view),
+            _ => None,
+        },
+        Expression::Bracketed { within, .. } => whole(scope, within),
+        _ => None,
+    }
+}
+
 /// The array that is the one target.
 fn whole_target<'t, 's, 'a>(
     scope: &Scope<'s, 't, 'a>,
@@ -180,13 +199,29 @@ fn whole_target<'t, 's, 'a>(
 {
     match targets {
         Expressions::More(target, more) => match &**more {
-            Expressions::End => match named(scope, target) {
+            Expressions::End => match whole(scope, target) {
                 Some(view) if view.is_variable => Some(view),
                 _ => None,
             },
             Expressions::More(_, _) => None,
         },
         Expressions::End => None,
+    }
+}
+
+/// The shape that an array has, and another one that is copied to it.
+fn exact(view: View<'_>) -> Shape
+    ensures { shape_of result ≡ text.exact (view_of view.entry) }
+{
+    let row = match view.row {
+        None => None,
+        Some(row) => Some(Some(row)),
+    };
+    Shape {
+        kind: view.kind,
+        size: Some(view.size),
+        row,
+        is_variable: false,
     }
 }
 
@@ -202,12 +237,7 @@ fn copied<'t, 'a>(
 {
     match written_array(to) {
         Some(a) => {
-            let shape = Shape {
-                kind: to.kind,
-                size: Some(to.size),
-                is_variable: false,
-            };
-            let from = array(alloc, scope, e, shape, room)?;
+            let from = array(alloc, scope, e, exact(to), room)?;
             Ok(Process::copy(a, bytes(alloc, view(&from))?))
         }
         None => Err(Fault::Wrong),

@@ -3,6 +3,7 @@
 ghost use Rattle.std.specs.Prelude.{◌≡◌, true, false, Some, IfOk};
 ghost use Rattle.tpw_occam_core.specs.Sound.{are_turns};
 ghost use Rattle.tpw_occam_meaning.specs.Expressions as text;
+ghost use Rattle.tpw_occam_meaning.specs.Names as places;
 ghost use Rattle.tpw_occam_meaning.specs.Types as types;
 ghost use Rattle.tpw_occam_meaning.specs.Values as values;
 ghost use Rattle.tpw_occam_names.specs.Scopes.{names_of, shape_of};
@@ -41,22 +42,48 @@ fn size_in<'t, 'a>(
     ensures { IfOk result (λ size. types.size_in sizes.now (names_of scope.now) ≡ Some size) }
 {
     match sizes {
-        Sizes::Open(more) => match &**more {
-            Sizes::End => Ok(None),
-            _ => Err(Fault::Wrong),
-        },
-        Sizes::Of(e, more) => match &**more {
-            Sizes::End => {
-                let n = constant(alloc, scope, e, Primitive::Int, room)?;
-                if 0 < n && n < 0x8000_0000 {
-                    Ok(Some(n as usize))
-                } else {
-                    Err(Fault::Wrong)
-                }
+        Sizes::Open(_) => Ok(None),
+        Sizes::Of(e, _) => {
+            let n = constant(alloc, scope, e, Primitive::Int, room)?;
+            if 0 < n && n < 0x8000_0000 {
+                Ok(Some(n as usize))
+            } else {
+                Err(Fault::Wrong)
             }
+        }
+        Sizes::End => Err(Fault::Wrong),
+    }
+}
+
+/// The size of rows, where there are any, and one is said.
+fn size_of_row<'t, 'a>(
+    alloc: Global,
+    scope: &Scope<'_, 't, 'a>,
+    sizes: &Sizes<'a>,
+    room: u32,
+) -> Result<Option<Option<usize>>, Fault>
+    ensures { IfOk result (λ row. types.size_of_row sizes.now (names_of scope.now) ≡ Some row) }
+{
+    match sizes {
+        Sizes::End => Ok(None),
+        Sizes::Open(more) => match &**more {
+            Sizes::End => Ok(Some(None)),
             _ => Err(Fault::Wrong),
         },
-        Sizes::End => Err(Fault::Wrong),
+        Sizes::Of(_, more) => match &**more {
+            Sizes::End => Ok(Some(size_in(alloc, scope, sizes, room)?)),
+            _ => Err(Fault::Wrong),
+        },
+    }
+}
+
+/// The sizes behind the first.
+fn of_rows<'r, 'a>(sizes: &'r Sizes<'a>) -> &'r Sizes<'a>
+    ensures { result.now ≡ types.of_rows sizes.now }
+{
+    match sizes {
+        Sizes::End => sizes,
+        Sizes::Open(rows) | Sizes::Of(_, rows) => &**rows,
     }
 }
 
@@ -84,9 +111,11 @@ pub fn shape<'t, 'a>(
     match kind_of(of.of) {
         Some(kind) => {
             let size = size_in(alloc, scope, &of.sizes, room)?;
+            let row = size_of_row(alloc, scope, of_rows(&of.sizes), room)?;
             Ok(Shape {
                 kind,
                 size,
+                row,
                 is_variable,
             })
         }
@@ -99,6 +128,19 @@ pub fn is_single(sizes: &Sizes<'_>) -> bool
     ensures { result ≡ types.by_sizes sizes.now true false }
 {
     matches!(sizes, Sizes::End)
+}
+
+/// How many elements arrays of a size have in all, each of them a row where there are rows.
+pub fn elements_in_all(n: usize, row: Option<usize>) -> Result<usize, Fault>
+    ensures { IfOk result (λ elements. elements ≡ places.elements_in_all n row) }
+{
+    match row {
+        None => Ok(n),
+        Some(row) => match n.checked_mul(row) {
+            Some(elements) => Ok(elements),
+            None => Err(Fault::Deep),
+        },
+    }
 }
 
 /// How many bytes this many elements have, where they are fewer than 2 to the 32.

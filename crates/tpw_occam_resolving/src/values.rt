@@ -1,8 +1,6 @@
 //! Values of names, of elements and of what is spelled.
 
 ghost use Rattle.std.specs.Prelude.{◌≡◌, false, Some, IfOk};
-ghost use Rattle.tpw_occam_core.specs.Arithmetic.{subscript};
-ghost use Rattle.tpw_occam_core.specs.Meaning.{bind};
 ghost use Rattle.tpw_occam_meaning.specs.Expressions as text;
 ghost use Rattle.tpw_occam_meaning.specs.Literals as literals;
 ghost use Rattle.tpw_occam_meaning.specs.Maybe.{and_then};
@@ -11,11 +9,13 @@ ghost use Rattle.tpw_occam_meaning.specs.Names.{found};
 ghost use Rattle.tpw_occam_meaning.specs.Values as types;
 ghost use Rattle.tpw_occam_terms.specs.declared.name.Primitive.TheVariants.{Byte};
 ghost use Rattle.tpw_occam_names.specs.Scopes.{names_of, view_of, word_of};
+ghost use Rattle.tpw_occam_resolving.specs.Passing.{first_made};
 ghost use Rattle.tpw_occam_scoped.specs.Made.{value_made};
 
+use crate::operators::of_two;
 use std::alloc::Global;
 use tpw_occam_core::{bind, checked_subscript, element_at};
-use tpw_occam_meaning::Expression as Tree;
+use tpw_occam_meaning::{Dyadic, Expression as Tree};
 use tpw_occam_names::{
     Fault, Meaning, Scope, Storage, View, Word, character, element_type, look_up, named, number,
 };
@@ -84,6 +84,7 @@ pub(crate) fn word_value(word: Word) -> Value
     match word {
         Word::Constant(word) => Value::known(word),
         Word::Kept(x) => Value::cell(x),
+        Word::Limited(x, _) => Value::cell(x),
     }
 }
 
@@ -108,7 +109,7 @@ pub(crate) fn element(alloc: Global, view: View<'_>, i: Value) -> Result<Value, 
 
 /// A subscript, checked against a size.
 pub(crate) fn checked(alloc: Global, size: usize, i: Value) -> Result<Value, Fault>
-    ensures { IfOk result (λ r. value_made r ≡ types.of_one (λ i. bind i (subscript size)) (value_made i)) }
+    ensures { IfOk result (λ r. value_made r ≡ names.checked size (value_made i)) }
 {
     match i {
         Value::Known(i) => Ok(Value::Known(bind(i, checked_subscript(size, i.word)))),
@@ -116,6 +117,68 @@ pub(crate) fn checked(alloc: Global, size: usize, i: Value) -> Result<Value, Fau
             Ok(size) => Ok(Value::Varying(Expression::checked(alloc, size, i)?)),
             Err(_) => Err(Fault::Wrong),
         },
+    }
+}
+
+/// So many elements behind the first of an array.
+pub(crate) fn behind_first(alloc: Global, first: Option<Value>, i: Value) -> Result<Value, Fault>
+    ensures { IfOk result (λ r. value_made r ≡ names.behind_first (first_made first) (value_made i)) }
+{
+    match first {
+        None => Ok(i),
+        Some(first) => Ok(of_two(alloc, Dyadic::Plus, first, i)?),
+    }
+}
+
+/// The subscript in the storage of an array's element.
+pub(crate) fn in_storage(
+    alloc: Global,
+    size: usize,
+    first: Option<Value>,
+    i: Value,
+) -> Result<Value, Fault>
+    ensures { IfOk result (λ r. value_made r ≡ names.in_storage size (first_made first) (value_made i)) }
+{
+    match first {
+        None => Ok(i),
+        Some(first) => {
+            let i = checked(alloc, size, i)?;
+            behind_first(alloc, Some(first), i)
+        }
+    }
+}
+
+/// The first element of a row, of so many elements each.
+pub(crate) fn row_first(
+    alloc: Global,
+    size: usize,
+    row: usize,
+    first: Option<Value>,
+    i: Value,
+) -> Result<Value, Fault>
+    ensures { IfOk result (λ r. value_made r ≡ names.row_first size row (first_made first) (value_made i)) }
+{
+    match u32::try_from(row) {
+        Ok(row) => {
+            let i = checked(alloc, size, i)?;
+            let i = of_two(alloc, Dyadic::Times, i, Value::known(row))?;
+            behind_first(alloc, first, i)
+        }
+        Err(_) => Err(Fault::Wrong),
+    }
+}
+
+/// Where an array that is named begins in its storage, where it is not all of it.
+pub(crate) fn first_by_name(
+    scope: &Scope<'_, '_, '_>,
+    name: Name<'_>,
+) -> Result<Option<Value>, Fault>
+    ensures { IfOk result (λ r. text.first_in (found name.entry (names_of scope.now)) ≡ Some (first_made r)) }
+{
+    match look_up(scope, name) {
+        Some((Meaning::Whole(_), _)) => Ok(None),
+        Some((Meaning::Part(_, first), _)) => Ok(Some(word_value(first))),
+        _ => Err(Fault::Wrong),
     }
 }
 

@@ -67,9 +67,9 @@ pub enum Process {
         guarded: Box<Process>,
         rest: Box<Process>,
     },
-    /// A process with a variable of its own, which is 0 first.
+    /// A process with a variable of its own, which is 0 first, under a name or without one.
     Variable {
-        name: Span,
+        name: Option<Span>,
         cell: usize,
         kind: Kind,
         body: Box<Process>,

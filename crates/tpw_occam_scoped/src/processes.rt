@@ -80,7 +80,7 @@ impl Process {
     /// A process with a variable of its own.
     pub fn variable(
         alloc: Global,
-        name: Span,
+        name: Option<Span>,
         cell: usize,
         kind: Kind,
         body: Process,

@@ -36,6 +36,10 @@ pub enum Wanted {
     Colon,
     Is,
     Replicator,
+    /// A replicator behind an IF that is a choice.
+    Search,
+    /// Guards alone below such an IF.
+    Guards,
     /// Nothing more on this line.
     Nothing,
     /// Nothing below the line above.
@@ -124,6 +128,8 @@ impl fmt::Display for Wanted {
             Wanted::Colon => "a declaration ends by a colon",
             Wanted::Is => "IS is wanted behind what is declared",
             Wanted::Replicator => "SEQ stands alone, or as SEQ i = start FOR turns",
+            Wanted::Search => "an IF as a choice of an IF is IF i = start FOR turns",
+            Wanted::Guards => "below IF i = start FOR turns stand guards, and no other IF",
             Wanted::Nothing => "nothing more is wanted on this line",
             Wanted::NothingBelow => "nothing stands below the line above: is it indented too deep?",
             Wanted::ProcessBelow =>

@@ -13,6 +13,6 @@ mod unsupported;
 pub use fault::{Fault, FaultKind, MAX_FAULTS, Wanted};
 pub use name::{Name, Passing, Primitive};
 pub use places::{placed, placed_faults};
-pub use span::Span;
+pub use span::{NO_LINE, Span};
 pub use spelling::{is_hexadecimal, quoted, text_bytes};
 pub use unsupported::Unsupported;

@@ -8,7 +8,15 @@ pub struct Span {
     pub width: usize,
 }
 
+/// The line of what stands in no line of the text: of what is predefined.
+pub const NO_LINE: usize = 0;
+
 impl Span {
+    /// Whether it is the place of something predefined, which is none of the text.
+    pub fn is_predefined(self) -> bool {
+        self.line == NO_LINE
+    }
+
     /// The place behind it, which has no width.
     pub fn end(self) -> Span {
         Span {

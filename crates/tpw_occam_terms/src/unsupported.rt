@@ -31,6 +31,8 @@ pub enum Unsupported {
     Slice,
     /// `STEP`
     Step,
+    /// `[l][m][n]INT`, `a[i][j][k]`
+    Dimensions,
 }
 
 impl fmt::Display for Unsupported {
@@ -54,11 +56,15 @@ impl fmt::Display for Unsupported {
             Unsupported::Channel => {
                 "a worker declares no channels: it has the packet's, the result's and the traces'"
             }
-            Unsupported::Reshape => "arrays have one dimension: RETYPES names one's bytes or words",
+            Unsupported::Reshape =>
+                "there is no RESHAPES: RETYPES names an array's bytes or words, in rows or without",
             Unsupported::Inline => "each PROC and FUNCTION is put in line: leave INLINE out",
             Unsupported::Slice => "there are no slices: name elements, or copy in a replicated SEQ",
             Unsupported::Step =>
                 "a replicated SEQ counts by one: work other steps out of its index",
+            Unsupported::Dimensions => {
+                "arrays have one dimension or two: write [l * m][n]INT, and subscripts as (m * i) + j"
+            }
         })
     }
 }

@@ -6,6 +6,7 @@ use crate::checker::{Checker, Frame};
 use crate::environment::{Access, Channel, Entry, Meaning, Protocol, Scope, View};
 use crate::limits::levels_within;
 use crate::operators::checked;
+use crate::rows::in_storage;
 use crate::signatures::{Callee, Form, Signature};
 use crate::trees::{bare, count_of, name_alone, span_of};
 use crate::value::{Constness, Root, Value};
@@ -51,7 +52,11 @@ fn alias<'t, 'a>(meaning: Meaning<'t, 'a>) -> Passed<'t, 'a> {
 }
 
 /// A parameter that stands for a value: a constant, a name that has it already, or a name that is bound to it.
-fn passed_value<'t, 'a>(value: Value, fixed: Option<Meaning<'t, 'a>>) -> Passed<'t, 'a> {
+fn passed_value<'t, 'a>(
+    value: Value,
+    most: Option<u32>,
+    fixed: Option<Meaning<'t, 'a>>,
+) -> Passed<'t, 'a> {
     let of = value.of;
     match (value.constness, fixed) {
         (Constness::Constant(word), _) => alias(Meaning::Constant { of, word }),
@@ -60,6 +65,7 @@ fn passed_value<'t, 'a>(value: Value, fixed: Option<Meaning<'t, 'a>>) -> Passed<
             meaning: Meaning::Value {
                 of,
                 root: Root::Named,
+                most,
             },
             is_bound: true,
         },
@@ -92,7 +98,7 @@ impl<'t, 'a> Checker<'t, 'a> {
     fn fixed(&self, scope: Scope, e: &Tree<'a>, callee: Callee) -> Option<Meaning<'t, 'a>> {
         let name = name_alone(e)?;
         match self.environment.find(scope, name.text)?.meaning {
-            Meaning::Value { of, root } => Some(Meaning::Value { of, root }),
+            Meaning::Value { of, root, most } => Some(Meaning::Value { of, root, most }),
             Meaning::Index {
                 first,
                 last,
@@ -106,16 +112,20 @@ impl<'t, 'a> Checker<'t, 'a> {
                 Some(Meaning::Value {
                     of,
                     root: Root::Variable(variable),
+                    most: None,
                 })
             }
             _ => None,
         }
     }
 
-    /// A parameter that is another name for an array.
-    fn passed_array(&mut self, view: View, access: Access) -> Passed<'t, 'a> {
+    /// A parameter that is another name for an array, or for a row, whose first element is worked out at the call.
+    pub fn passed_array(&mut self, e: &Tree<'a>, view: View, access: Access) -> Passed<'t, 'a> {
         self.cells.read_array(view.storage);
-        alias(Meaning::Array(View { access, ..view }))
+        Passed {
+            meaning: Meaning::Array(View { access, ..view }),
+            is_bound: matches!(*bare(e), Tree::Element { .. }) && view.is_computed(),
+        }
     }
 
     /// A parameter that is another name for an array that is written to.
@@ -125,12 +135,14 @@ impl<'t, 'a> Checker<'t, 'a> {
         e: &Tree<'a>,
         view: View,
     ) -> Result<Passed<'t, 'a>, Interrupt> {
-        let Some(name) = name_alone(e) else {
-            return Err(self.fault(span_of(e), FaultKind::VariableWanted));
+        let name = match bare(e) {
+            Tree::Name(name) => *name,
+            Tree::Element { array, .. } => self.array_name(array)?,
+            other => return Err(self.fault(span_of(other), FaultKind::VariableWanted)),
         };
         self.written_view(scope, name)?;
         self.cells.write_array(view.storage);
-        Ok(self.passed_array(view, Access::ReadAndWrite))
+        Ok(self.passed_array(e, view, Access::ReadAndWrite))
     }
 
     /// The traces' channel, where it carries what is wanted.
@@ -211,7 +223,10 @@ impl<'t, 'a> Checker<'t, 'a> {
     /// A parameter that is another name for an element, whose subscript is worked out at the call.
     fn passed_element(&mut self, view: View, subscript: Constness, span: Span) -> Passed<'t, 'a> {
         self.cells.write_array(view.storage);
-        let subscript = checked(view.elements, subscript, span);
+        let subscript = match view.front {
+            None => checked(view.elements, subscript, span),
+            Some(_) => in_storage(view, subscript, span),
+        };
         Passed {
             meaning: Meaning::Element {
                 storage: view.storage,
@@ -227,17 +242,18 @@ impl<'t, 'a> Checker<'t, 'a> {
         &mut self,
         frame: Frame,
         of: Primitive,
-        array: Name<'a>,
+        array: &'t Tree<'a>,
         subscript: &'t Tree<'a>,
         depth: u32,
     ) -> Result<Passed<'t, 'a>, Interrupt> {
         let place = self.subscript_at(frame, subscript);
-        let view = self.written_view(frame.scope, array);
+        let array = self.indexed(frame, array, Access::ReadAndWrite, depth);
         let subscript = self.expression(frame, subscript, Some(Primitive::Int), depth);
-        let (view, subscript) = (view?, subscript?);
-        self.check_subscript(array, view, subscript.constness, place)?;
-        self.check_type(Some(array.text), element_type(view.kind), of, array.span)?;
-        Ok(self.passed_element(view, subscript.constness, array.span))
+        let (array, subscript) = (array?, subscript?);
+        let (name, view) = (array.name, array.view);
+        self.check_subscript(array, subscript.constness, place)?;
+        self.check_type(Some(name.text), element_type(view.kind), of, name.span)?;
+        Ok(self.passed_element(view, subscript.constness, name.span))
     }
 
     /// A parameter that is another name for a variable or an element.
@@ -255,10 +271,7 @@ impl<'t, 'a> Checker<'t, 'a> {
                 array,
                 subscript,
                 ..
-            } => {
-                let array = self.array_name(array)?;
-                self.element_reference(frame, of, array, subscript, depth)
-            }
+            } => self.element_reference(frame, of, array, subscript, depth),
             Tree::Channel { name, .. } => {
                 Err(self.no_channel(frame.scope, *name, Use::Variable))
             }
@@ -279,13 +292,14 @@ impl<'t, 'a> Checker<'t, 'a> {
         match form {
             Form::Value(of) => {
                 let value = self.expression(frame, e, Some(of), depth)?;
-                Ok(passed_value(value, self.fixed(frame.scope, e, callee)))
+                let most = self.most_of(frame.scope, e);
+                Ok(passed_value(value, most, self.fixed(frame.scope, e, callee)))
             }
             Form::Variable(of) => self.reference(frame, of, e, depth),
             Form::Array { shape, access } => {
                 let view = self.array(frame, e, shape, depth)?;
                 match access {
-                    Access::Read => Ok(self.passed_array(view, Access::Read)),
+                    Access::Read => Ok(self.passed_array(e, view, Access::Read)),
                     Access::ReadAndWrite => self.passed_written(frame.scope, e, view),
                 }
             }
@@ -378,6 +392,7 @@ impl<'t, 'a> Checker<'t, 'a> {
         self.check_count(name, entry, signature, count_of(arguments))?;
         self.enter(signature);
         let bound = self.bound(frame, signature, arguments, scope, depth)?;
+        self.findings.begin_call(name.span);
         Ok(Inlined {
             frame: frame.in_call(bound.scope, name.span),
             depth: levels_within(depth, bound.names),

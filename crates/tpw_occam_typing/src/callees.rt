@@ -57,9 +57,12 @@ impl<'t, 'a> Checker<'t, 'a> {
         self.environment.count()
     }
 
-    /// The PROC or the FUNCTION that was declared behind so many names, if it is one and is not called.
+    /// The PROC or the FUNCTION that was declared behind so many names, if it is one of the text and is not called.
     pub fn uncalled(&self, index: usize) -> Option<Entry<'t, 'a>> {
         let entry = self.environment.at(index)?;
+        if entry.name.span.is_predefined() {
+            return None;
+        }
         match entry.meaning {
             Meaning::Procedure { signature, .. }
             | Meaning::Function { signature, .. }
@@ -75,6 +78,7 @@ impl<'t, 'a> Checker<'t, 'a> {
             Form::Value(of) => Meaning::Value {
                 of,
                 root: Root::Named,
+                most: None,
             },
             Form::Variable(of) => Meaning::Variable {
                 of,
@@ -84,6 +88,8 @@ impl<'t, 'a> Checker<'t, 'a> {
                 storage: Storage::Array(self.cells.add(parameter.name)?),
                 kind: shape.kind,
                 elements: shape.elements.unwrap_or(1),
+                row: shape.row.map(|row| row.unwrap_or(1)),
+                front: None,
                 access,
             }),
             Form::Channel(protocol) => Meaning::Channel {

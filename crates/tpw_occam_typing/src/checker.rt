@@ -195,6 +195,14 @@ impl<'t, 'a> Checker<'t, 'a> {
         Ok(())
     }
 
+    /// Counts a name that is declared, where it is one of the text.
+    pub fn count_name(&mut self, frame: Frame, name: Name<'a>) -> Result<(), Interrupt> {
+        if name.span.is_predefined() {
+            return Ok(());
+        }
+        self.count(frame, name.span)
+    }
+
     /// Declares a name in front of a scope.
     pub fn declare(
         &mut self,

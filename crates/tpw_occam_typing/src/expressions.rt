@@ -3,9 +3,10 @@
 //! `depth` counts down with each expression that lies within another, inlined calls among them.
 
 use crate::checker::{Checker, Frame};
-use crate::environment::{Entry, Meaning, Scope, Storage, View};
+use crate::environment::{Access, Entry, Meaning, Scope, Storage, View};
 use crate::flags::decides;
 use crate::operators::{is_order, low_byte, of_one, of_two, operand_of, operands_of};
+use crate::rows::{Indexed, in_storage};
 use crate::subscripts::Subscript;
 use crate::trees::{bare, is_number, name_of, span_of};
 use crate::value::{Constness, Root, Value, answered, computed, constant};
@@ -109,16 +110,13 @@ impl<'t, 'a> Checker<'t, 'a> {
                 array,
                 subscript,
                 ..
-            } => {
-                let array = self.array_name(array)?;
-                self.element(frame, array, subscript, depth)
-            }
+            } => self.element(frame, array, subscript, depth),
             Tree::Call { name, arguments } => self.call(frame, *name, arguments, depth),
             Tree::Monadic {
                 operator: Monadic::Size,
                 operand,
                 ..
-            } => self.size_of(frame.scope, operand),
+            } => self.size_of(frame, operand, depth),
             Tree::Monadic {
                 operator,
                 span,
@@ -221,7 +219,7 @@ impl<'t, 'a> Checker<'t, 'a> {
 
     /// The constness of an element: of a table, with a constant subscript, it is a constant.
     fn element_constness(&self, view: View, subscript: Constness, span: Span) -> Constness {
-        match (view.storage, subscript) {
+        match (view.storage, in_storage(view, subscript, span)) {
             (Storage::Table(table), Constness::Constant(at)) => match self.tables.get(table) {
                 Some(bytes) => answered(element_at(view.kind, bytes, at), span),
                 None => Constness::Computed,
@@ -234,16 +232,16 @@ impl<'t, 'a> Checker<'t, 'a> {
     /// An element of an array, read.
     fn element_of(
         &mut self,
-        name: Name<'a>,
-        view: View,
+        array: Indexed<'a>,
         subscript: Constness,
         place: Subscript,
     ) -> Result<Value, Interrupt> {
-        self.check_subscript(name, view, subscript, place)?;
+        self.check_subscript(array, subscript, place)?;
+        let view = array.view;
         self.cells.read_array(view.storage);
         Ok(Value {
             of: element_type(view.kind),
-            constness: self.element_constness(view, subscript, name.span),
+            constness: self.element_constness(view, subscript, array.name.span),
             root: Root::Made,
         })
     }
@@ -253,15 +251,15 @@ impl<'t, 'a> Checker<'t, 'a> {
     fn element(
         &mut self,
         frame: Frame,
-        name: Name<'a>,
+        array: &'t Tree<'a>,
         subscript: &'t Tree<'a>,
         depth: u32,
     ) -> Result<Value, Interrupt> {
         let place = self.subscript_at(frame, subscript);
-        let view = self.view_of(frame.scope, name);
+        let array = self.indexed(frame, array, Access::Read, depth);
         let subscript = self.expression(frame, subscript, Some(Primitive::Int), depth);
-        let (view, subscript) = (view?, subscript?);
-        self.element_of(name, view, subscript.constness, place)
+        let (array, subscript) = (array?, subscript?);
+        self.element_of(array, subscript.constness, place)
     }
 
     /// Reports what is called in an expression, and is no FUNCTION of one expression.

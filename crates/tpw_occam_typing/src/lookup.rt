@@ -2,7 +2,7 @@
 
 use crate::checker::Checker;
 use crate::environment::{Access, Channel, Entry, Meaning, Protocol, Scope, View};
-use crate::trees::{name_alone, span_of};
+use crate::trees::name_alone;
 use crate::value::{Root, Value, computed, constant};
 use tpw_occam_faults::{FaultKind, Interrupt, Use};
 use tpw_occam_lexing::Keyword;
@@ -54,7 +54,7 @@ impl<'t, 'a> Checker<'t, 'a> {
         let entry = self.find(scope, name)?;
         match entry.meaning {
             Meaning::Constant { of, word } => Ok(constant(of, word)),
-            Meaning::Value { of, root } => Ok(computed(of, root)),
+            Meaning::Value { of, root, .. } => Ok(computed(of, root)),
             Meaning::Index { .. } => Ok(computed(Primitive::Int, Root::Named)),
             Meaning::Variable { of, variable } => {
                 self.cells.read(variable);
@@ -76,6 +76,11 @@ impl<'t, 'a> Checker<'t, 'a> {
         } else {
             None
         }
+    }
+
+    /// Whether a name is declared, and in scope.
+    pub fn is_declared(&self, scope: Scope, name: Name<'a>) -> bool {
+        self.environment.find(scope, name.text).is_some()
     }
 
     /// The array that a name stands for.
@@ -126,21 +131,6 @@ impl<'t, 'a> Checker<'t, 'a> {
         match self.environment.find(scope, name.text)?.meaning {
             Meaning::Array(view) => Some(view),
             _ => None,
-        }
-    }
-
-    /// `SIZE` of an operand: how many elements an array has.
-    pub(crate) fn size_of(
-        &mut self,
-        scope: Scope,
-        operand: &Expression<'a>,
-    ) -> Result<Value, Interrupt> {
-        match name_alone(operand) {
-            Some(name) => {
-                let view = self.view_of(scope, name)?;
-                Ok(constant(Primitive::Int, view.elements))
-            }
-            None => Err(self.fault(span_of(operand), FaultKind::ArrayWanted)),
         }
     }
 }

@@ -25,10 +25,12 @@ impl<'t, 'a> Checker<'t, 'a> {
         }
         let shape = self.shape(frame, of, span)?;
         match shape.elements {
-            Some(elements) if shape.is_message(elements) => Ok(Protocol::Array {
-                kind: shape.kind,
-                elements,
-            }),
+            Some(elements) if shape.row.is_none() && shape.is_message(elements) => Ok(
+                Protocol::Array {
+                    kind: shape.kind,
+                    elements,
+                },
+            ),
             _ => Err(self.fault(span, FaultKind::Protocol)),
         }
     }
@@ -70,7 +72,7 @@ impl<'t, 'a> Checker<'t, 'a> {
         form: Form,
         is_per_call: bool,
     ) -> Result<(), Interrupt> {
-        self.count(frame, name.span)?;
+        self.count_name(frame, name)?;
         if is_per_call {
             self.per_call.add(name.span)?;
         }

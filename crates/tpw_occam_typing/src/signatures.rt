@@ -6,11 +6,13 @@ use crate::trees::bytes_of;
 use tpw_occam_core::Kind;
 use tpw_occam_terms::{Name, Primitive};
 
-/// The elements of an array, and how many; none where there may be any number.
+/// The elements of an array, and its size; none where it may have any.
 #[derive(Clone, Copy)]
 pub struct Shape {
     pub kind: Kind,
     pub elements: Option<u32>,
+    /// The rows that it has, if any, and their size.
+    pub row: Option<Option<u32>>,
 }
 
 impl Shape {
@@ -18,6 +20,11 @@ impl Shape {
     pub(crate) fn is_message(self, elements: u32) -> bool {
         let bytes = bytes_of(self.kind, elements);
         bytes > 0 && bytes % 4 == 0 && bytes / 4 <= MAX_MESSAGE_WORDS
+    }
+
+    /// Whether its sizes are written.
+    fn has_sizes(self) -> bool {
+        self.elements.is_some() && !matches!(self.row, Some(None))
     }
 }
 
@@ -39,7 +46,7 @@ pub enum Form {
 impl Form {
     /// Whether it is an array of a size that is written.
     pub(crate) fn has_size(self) -> bool {
-        matches!(self, Form::Array { shape, .. } if shape.elements.is_some())
+        matches!(self, Form::Array { shape, .. } if shape.has_sizes())
     }
 }
 

@@ -3,12 +3,12 @@
 use crate::checker::{Checker, Frame};
 use crate::environment::{Meaning, View};
 use crate::per_call::Point;
+use crate::rows::Indexed;
 use crate::trees::{bare, name_alone, span_of};
 use crate::value::Constness;
 use tpw_occam_faults::{FaultKind, Interrupt, NoteKind};
 use tpw_occam_meaning::{Dyadic, Expression as Tree};
-use tpw_occam_names::number;
-use tpw_occam_terms::{Name, Primitive, Span};
+use tpw_occam_terms::{Name, Span};
 
 /// The values of a subscript in the first and the last turn of a loop.
 #[derive(Clone, Copy)]
@@ -43,11 +43,6 @@ pub struct Subscript {
     turns: Option<Turns>,
 }
 
-/// The value of a constant.
-fn signed(word: u32) -> i64 {
-    i64::from(word.cast_signed())
-}
-
 impl<'t, 'a> Checker<'t, 'a> {
     /// The values of a loop's index, where each turn comes here.
     fn index_of(&self, frame: Frame, e: &Tree<'a>) -> Option<Turns> {
@@ -65,28 +60,19 @@ impl<'t, 'a> Checker<'t, 'a> {
         }
     }
 
-    /// The constant that a number or a name is by itself.
-    fn constant_alone(&self, frame: Frame, e: &Tree<'a>) -> Option<i64> {
-        match bare(e) {
-            Tree::Number { spelled, .. } => Some(signed(number(spelled)?)),
-            Tree::Name(name) => match self.environment.find(frame.scope, name.text)?.meaning {
-                Meaning::Constant {
-                    of: Primitive::Int,
-                    word,
-                } => Some(signed(word)),
-                _ => None,
-            },
-            _ => None,
-        }
+    /// The constant that a number or a name is by itself, read signed.
+    fn signed_alone(&self, frame: Frame, e: &Tree<'a>) -> Option<i64> {
+        let word = self.constant_alone(frame.scope, e)?;
+        Some(i64::from(word.cast_signed()))
     }
 
     /// The values of the sum of a loop's index and a constant.
     fn sum_of(&self, frame: Frame, left: &Tree<'a>, right: &Tree<'a>) -> Option<Turns> {
         if let Some(index) = self.index_of(frame, left) {
-            return Some(index.plus(self.constant_alone(frame, right)?));
+            return Some(index.plus(self.signed_alone(frame, right)?));
         }
         let index = self.index_of(frame, right)?;
-        Some(index.plus(self.constant_alone(frame, left)?))
+        Some(index.plus(self.signed_alone(frame, left)?))
     }
 
     /// The values of a subscript that is a loop's index, with a constant or without.
@@ -105,7 +91,7 @@ impl<'t, 'a> Checker<'t, 'a> {
                 ..
             } => {
                 let index = self.index_of(frame, left)?;
-                Some(index.minus(self.constant_alone(frame, right)?))
+                Some(index.minus(self.signed_alone(frame, right)?))
             }
             other => self.index_of(frame, other),
         }
@@ -128,26 +114,30 @@ impl<'t, 'a> Checker<'t, 'a> {
         }
     }
 
+    /// Reports an array that has no such dimensions where it takes a subscript.
+    pub(crate) fn no_dimensions(&mut self, name: Name<'a>, view: View) -> Interrupt {
+        let kind = FaultKind::Subscripts {
+            name: name.text,
+            has: view.dimensions(),
+        };
+        self.fault(name.span, kind)
+    }
+
     /// Notes a subscript that is none in the first turn of its loop, or in the last.
-    fn note_turns(
-        &mut self,
-        name: Name<'a>,
-        view: View,
-        place: Subscript,
-    ) -> Result<(), Interrupt> {
+    fn note_turns(&mut self, array: Indexed<'a>, place: Subscript) -> Result<(), Interrupt> {
         let Some(turns) = place.turns else {
             return Ok(());
         };
-        let elements = view.elements;
+        let of = array.extent();
+        let elements = of.elements;
         let is_last = turns.last >= i64::from(elements);
         if !is_last && turns.first >= 0 {
             return Ok(());
         }
         let kind = NoteKind::Turn {
-            name: name.text,
+            of,
             at: if is_last { turns.last } else { turns.first },
             is_last,
-            elements,
         };
         Ok(self.findings.note(place.span, kind)?)
     }
@@ -156,22 +146,21 @@ impl<'t, 'a> Checker<'t, 'a> {
     /// it another constant, or give the array another size. Notes one that is none in a turn of its loop.
     pub fn check_subscript(
         &mut self,
-        name: Name<'a>,
-        view: View,
+        array: Indexed<'a>,
         subscript: Constness,
         place: Subscript,
     ) -> Result<(), Interrupt> {
         let Constness::Constant(word) = subscript else {
-            return self.note_turns(name, view, place);
+            return self.note_turns(array, place);
         };
-        if word < view.elements {
+        if word < array.view.elements {
             return Ok(());
         }
-        let (name, at, elements) = (name.text, word.cast_signed(), view.elements);
+        let (of, at) = (array.extent(), word.cast_signed());
         if self.per_call.point() == place.before {
-            return Err(self.fault(place.span, FaultKind::Subscript { name, at, elements }));
+            return Err(self.fault(place.span, FaultKind::Subscript { of, at }));
         }
-        let kind = NoteKind::Subscript { name, at, elements };
+        let kind = NoteKind::Subscript { of, at };
         Ok(self.findings.note(place.span, kind)?)
     }
 }

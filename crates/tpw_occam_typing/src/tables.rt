@@ -7,7 +7,7 @@ use crate::trees::{bare, span_of};
 use crate::value::Value;
 use std::alloc::AllocError;
 use tpw_occam_core::Kind;
-use tpw_occam_faults::{FaultKind, Interrupt, Use};
+use tpw_occam_faults::{FaultKind, Interrupt, Limit, Use};
 use tpw_occam_meaning::{Expression as Tree, Expressions};
 use tpw_occam_names::element_type;
 use tpw_occam_terms::{Span, text_bytes};
@@ -37,6 +37,8 @@ impl<'t, 'a> Checker<'t, 'a> {
             storage: Storage::Table(self.table_of(bytes)?),
             kind,
             elements,
+            row: None,
+            front: None,
             access: Access::Read,
         })
     }
@@ -94,6 +96,89 @@ impl<'t, 'a> Checker<'t, 'a> {
         }
     }
 
+    /// Appends the bytes of a row, which is a table; returns its size, or nothing where it has a fault.
+    fn put_row(
+        &mut self,
+        bytes: &mut Vec<u8>,
+        made: Result<View, Interrupt>,
+        span: Span,
+    ) -> Result<Option<u32>, Interrupt> {
+        let all = match made {
+            Ok(view) => self.all_of(view, span),
+            Err(stop) => Err(stop),
+        };
+        let view = match all {
+            Ok(view) => view,
+            Err(Interrupt::Reported) => return Ok(None),
+            Err(stop) => return Err(stop),
+        };
+        let Storage::Table(table) = view.storage else {
+            self.findings.report(span, FaultKind::NotConstant)?;
+            return Ok(None);
+        };
+        if let Some(row) = self.tables.get(table) {
+            bytes.extend_from_slice(row.as_slice())?;
+        }
+        Ok(Some(view.elements))
+    }
+
+    /// A table of rows, which have one size: that which is wanted, or that of the first.
+    #[cycle(expressions)]
+    fn table_of_rows(
+        &mut self,
+        frame: Frame,
+        items: &'t Expressions<'a>,
+        kind: Kind,
+        wanted: Option<u32>,
+        span: Span,
+        depth: u32,
+    ) -> Result<View, Interrupt> {
+        if depth == 0 {
+            return Err(self.limit(frame, span, Limit::Depth));
+        }
+        let mut bytes = Vec::new(self.alloc);
+        let mut size = wanted;
+        let mut is_whole = true;
+        let mut rest = items;
+        while let Expressions::More(item, more) = rest {
+            let shape = Shape {
+                kind,
+                elements: size,
+                row: None,
+            };
+            let made = self.array(frame, item, shape, depth - 1);
+            match self.put_row(&mut bytes, made, span_of(item))? {
+                Some(row) => size = Some(row),
+                None => is_whole = false,
+            }
+            rest = more;
+        }
+        if !is_whole {
+            return Err(Interrupt::Reported);
+        }
+        let all = self.table(kind, bytes, span)?;
+        Ok(all.in_rows(size.unwrap_or(1)))
+    }
+
+    /// A table that is written out, of constants or of rows.
+    #[cycle(expressions)]
+    fn written_table(
+        &mut self,
+        frame: Frame,
+        items: &'t Expressions<'a>,
+        shape: Shape,
+        span: Span,
+        depth: u32,
+    ) -> Result<View, Interrupt> {
+        match shape.row {
+            None => {
+                let bytes = self.list(frame, items, shape.kind, depth)?;
+                self.table(shape.kind, bytes, span)
+            }
+            Some(wanted) => self.table_of_rows(frame, items, shape.kind, wanted, span, depth),
+        }
+    }
+
     /// An array or a table of a shape.
     #[cycle(expressions)]
     pub fn array(
@@ -112,9 +197,12 @@ impl<'t, 'a> Checker<'t, 'a> {
             }
             Tree::Text { spelled, span } => self.text(spelled, shape, *span),
             Tree::Table { items, span } => {
-                let bytes = self.list(frame, items, shape.kind, depth)?;
-                let view = self.table(shape.kind, bytes, *span)?;
+                let view = self.written_table(frame, items, shape, *span, depth)?;
                 self.of_shape(view, shape, *span)
+            }
+            Tree::Element { .. } => {
+                let row = self.shown(frame, e, Access::Read, depth)?;
+                self.of_shape(row.view, shape, row.name.span)
             }
             Tree::Channel { name, .. } => Err(self.no_channel(frame.scope, *name, Use::Array)),
             other => Err(self.fault(span_of(other), FaultKind::ArrayWanted)),

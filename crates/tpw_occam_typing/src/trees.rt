@@ -41,6 +41,16 @@ pub fn name_alone<'a>(e: &Expression<'a>) -> Option<Name<'a>> {
     }
 }
 
+/// The name of an array that an expression is, or a row of.
+pub fn array_of<'a>(e: &Expression<'a>) -> Option<Name<'a>> {
+    match e {
+        Expression::Name(name) => Some(*name),
+        Expression::Element { array, .. } => array_of(array),
+        Expression::Bracketed { within, .. } => array_of(within),
+        _ => None,
+    }
+}
+
 /// The name that an expression is, or begins with.
 pub fn name_of<'a>(e: &Expression<'a>) -> Option<&'a str> {
     match e {
@@ -81,7 +91,7 @@ pub fn count_of(list: &Expressions<'_>) -> usize {
     count
 }
 
-/// How many elements there are.
+/// How many elements there are, or rows.
 #[derive(Clone, Copy)]
 pub enum Size<'t, 'a> {
     /// One value, no array.
@@ -90,18 +100,38 @@ pub enum Size<'t, 'a> {
     Open,
     /// `[k]`
     Of(&'t Expression<'a>),
-    /// Arrays of arrays, which are none.
-    Several,
 }
 
-/// How many elements a type has.
-pub fn size_of<'t, 'a>(of: &'t Type<'a>) -> Size<'t, 'a> {
-    match &of.sizes {
+/// The first of some sizes.
+fn first_of<'t, 'a>(sizes: &'t Sizes<'a>) -> Size<'t, 'a> {
+    match sizes {
         Sizes::End => Size::One,
-        Sizes::Open(more) if matches!(**more, Sizes::End) => Size::Open,
-        Sizes::Of(e, more) if matches!(**more, Sizes::End) => Size::Of(e),
-        Sizes::Open(_) | Sizes::Of(_, _) => Size::Several,
+        Sizes::Open(_) => Size::Open,
+        Sizes::Of(e, _) => Size::Of(e),
     }
+}
+
+/// The sizes behind the first.
+fn behind_first<'t, 'a>(sizes: &'t Sizes<'a>) -> &'t Sizes<'a> {
+    match sizes {
+        Sizes::End => sizes,
+        Sizes::Open(more) | Sizes::Of(_, more) => &**more,
+    }
+}
+
+/// How many elements a type has, or rows.
+pub fn size_of<'t, 'a>(of: &'t Type<'a>) -> Size<'t, 'a> {
+    first_of(&of.sizes)
+}
+
+/// How many elements each row of a type has, where it has rows.
+pub(crate) fn row_of<'t, 'a>(of: &'t Type<'a>) -> Size<'t, 'a> {
+    first_of(behind_first(&of.sizes))
+}
+
+/// Whether a type has more than two dimensions.
+pub(crate) fn has_more_dimensions(of: &Type<'_>) -> bool {
+    !matches!(behind_first(behind_first(&of.sizes)), Sizes::End)
 }
 
 /// The kind in the core of elements of a type; a BOOL has none.

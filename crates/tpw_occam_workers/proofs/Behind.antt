@@ -6,10 +6,12 @@ use Rattle.tpw_occam_meaning.specs.declared.tree.Declaration.{Declaration}
 use Rattle.tpw_occam_meaning.specs.declared.tree.Declaration.TheVariants as declaration
 use Rattle.tpw_occam_meaning.specs.declared.tree.Declarations.{Declarations}
 use Rattle.tpw_occam_meaning.specs.declared.tree.Declarations.TheVariants as declarations
+use Rattle.tpw_occam_meaning.specs.declared.tree.Process.{Process}
+use Rattle.tpw_occam_meaning.specs.declared.tree.Process.TheVariants as process
 use Rattle.tpw_occam_meaning.specs.Effects.{Effect}
 use Rattle.tpw_occam_meaning.specs.Names.{Names}
 use Rattle.tpw_occam_meaning.specs.Processes.{declared}
-use Rattle.tpw_occam_meaning.specs.Texts.{text_effect}
+use Rattle.tpw_occam_meaning.specs.Texts.{text_effect, worker_body}
 
 module _ (b : Box Declarations Global) (x : Declaration) (c : Box Declarations Global) (names : Names) (d : ℕ) where
   by_cases : (first : Declaration) → text_effect (declarations.More first (record b { value = declarations.More x c })) names d
@@ -37,3 +39,10 @@ text_behind list first b more again x c names d e list-is more-is is again-is h 
     h ∙ (λ i. declared first (text_effect (again-is i)) names d)
     ∙ sym (not_last b x c names d first (sym more-is ∙ is))
     ∙ sym (ap (λ l. text_effect l names d) list-is)
+
+-- the body of a worker behind a declaration
+pub body_behind : (p : Process) (b : Box Declaration Global) (q : Box Process Global) (declaration : Declaration) (rest : Process)
+    (names : Names) (d : ℕ) (e : Effect) → p ≡ process.Declared b q → declaration ≡ b.value → rest ≡ q.value
+    → e ≡ declared declaration (worker_body rest) names d → e ≡ worker_body p names d
+body_behind p b q declaration rest names d e p-is declaration-is rest-is h =
+    h ∙ (λ i. declared (declaration-is i) (worker_body (rest-is i)) names d) ∙ sym (ap (λ x. worker_body x names d) p-is)

@@ -42,6 +42,7 @@ fn received<'t, 'a>(
             let shape = Shape {
                 kind,
                 size: Some(n),
+                row: None,
                 is_variable: true,
             };
             let to = array(alloc, scope, e, shape, room)?;

@@ -11,7 +11,7 @@ ghost use Rattle.tpw_occam_meaning.specs.Types.{all_types};
 ghost use Rattle.tpw_occam_meaning.specs.Texts as text;
 ghost use Rattle.tpw_occam_meaning.specs.Texts.{MeansText};
 ghost use Rattle.tpw_occam_names.specs.Scopes.{names_of, form_of};
-ghost use Rattle.tpw_occam_resolving.specs.Passing.{array_made};
+ghost use Rattle.tpw_occam_resolving.specs.Passing.{array_made, lent_made};
 ghost use Rattle.tpw_occam_scoped.specs.Made.{effect_of};
 ghost use Rattle.tpw_occam_scoped.specs.Meaning.{meaning};
 ghost use Rattle.tpw_occam_workers.specs.Behind.{after_of, traces_places};
@@ -27,9 +27,10 @@ use tpw_occam_meaning::{
 };
 use tpw_occam_names::{Channel, Fault, Form, Meaning, Protocol, Scope, Storage, View};
 use tpw_occam_resolving::{
-    Array, are_values, array_abbreviated, bytes_of, cell_kind, depth_behind,
-    first as first_parameter, forms_of, is_array, is_single, may_be_declared, meaning_of, next,
-    referred, retyped, shape, table_declared, type_of_value, value, view, word_passed,
+    Array, LentArray, are_values, array_abbreviated, bytes_of, cell_kind, declared_row,
+    depth_behind, elements_in_all, first as first_parameter, forms_of, is_array, is_single,
+    may_be_declared, meaning_of, next, referred, retyped, shape, table_declared, type_of_value,
+    value, view, word_named, word_passed,
 };
 use tpw_occam_scoped::Process;
 use tpw_occam_terms::{Name, Primitive};
@@ -218,15 +219,15 @@ fn declared<'t, 'a>(
     match declaration {
         Declaration::Value { of, name, value: e } => {
             if is_array(of, e) {
-                let table = table_declared(alloc, scope, of, e, room)?;
-                return array_declared(alloc, scope, d, *name, &table, rest, room - 1);
+                let table = table_declared(alloc, scope, d, of, e, room)?;
+                return lent_declared(alloc, scope, d, *name, table, rest, room - 1);
             }
             let of = type_of_value(scope, of, e)?;
             let value = value(alloc, scope, d, e, of, room)?;
             if !may_be_declared(&value) {
                 return Err(Fault::Wrong);
             }
-            let word = word_passed(d, &value);
+            let word = word_named(scope, d, e, &value)?;
             let within = Scope::Within(name.text, Meaning::Fixed(of, word), &*scope);
             let body = behind(alloc, &within, depth_behind(d, &value)?, rest, room - 1)?;
             Ok(Process::passed_to(alloc, Some(name.span), d, value, body)?)
@@ -236,8 +237,19 @@ fn declared<'t, 'a>(
                 return variables(alloc, scope, d, of.of, names, rest, room - 1);
             }
             let shape = shape(alloc, scope, of, true, room)?;
+            let row = declared_row(shape.row)?;
             match shape.size {
-                Some(size) => arrays(alloc, scope, d, shape.kind, size, names, rest, room - 1),
+                Some(size) => arrays(
+                    alloc,
+                    scope,
+                    d,
+                    shape.kind,
+                    size,
+                    row,
+                    names,
+                    rest,
+                    room - 1,
+                ),
                 None => Err(Fault::Wrong),
             }
         }
@@ -337,6 +349,42 @@ fn array_declared<'t, 'a>(
     behind(alloc, &within, d, rest, room - 1)
 }
 
+/// The rest behind another name for an array that is there, or for one whose first element is worked out there.
+#[cycle(rest)]
+fn lent_declared<'t, 'a>(
+    alloc: Global,
+    scope: &Scope<'_, 't, 'a>,
+    d: usize,
+    name: Name<'a>,
+    lent: LentArray<'_>,
+    rest: Rest<'t, 'a>,
+    room: u32,
+) -> Result<Process, Fault>
+    ensures { IfOk result (λ made. effect_of made ≡ calls.lent_to d (lent_made lent.entry)
+        (λ place n. after_of rest.entry (with_name name.entry (Is place) (names_of scope.now)) n)) }
+{
+    if room == 0 {
+        return Err(Fault::Deep);
+    }
+    match lent {
+        LentArray::Whole(array) => {
+            let within = Scope::Within(name.text, Meaning::Whole(view(&array)), &*scope);
+            behind(alloc, &within, d, rest, room - 1)
+        }
+        LentArray::Part(part, first) => {
+            let within = Scope::Within(name.text, Meaning::Part(part, first), &*scope);
+            behind(alloc, &within, d, rest, room - 1)
+        }
+        LentArray::Begins(part, first) => {
+            let word = word_passed(d, &first);
+            let n = depth_behind(d, &first)?;
+            let within = Scope::Within(name.text, Meaning::Part(part, word), &*scope);
+            let body = behind(alloc, &within, n, rest, room - 1)?;
+            Ok(Process::passed_to(alloc, None, d, first, body)?)
+        }
+    }
+}
+
 /// The rest behind another name for a variable, an element or an array.
 #[cycle(rest)]
 fn abbreviated<'t, 'a>(
@@ -358,8 +406,8 @@ fn abbreviated<'t, 'a>(
     if is_single(&of.sizes) {
         return place_declared(alloc, scope, d, of.of, name, e, rest, room - 1);
     }
-    let named = array_abbreviated(alloc, scope, of, e, room)?;
-    array_declared(alloc, scope, d, name, &named, rest, room - 1)
+    let lent = array_abbreviated(alloc, scope, d, of, e, room)?;
+    lent_declared(alloc, scope, d, name, lent, rest, room - 1)
 }
 
 /// The rest behind another name for a variable or an element, whose subscript is worked out there.
@@ -487,7 +535,7 @@ fn variables<'t, 'a>(
         Names::More(name, more) => {
             let within = Scope::Within(name.text, Meaning::Variable(of, d), &*scope);
             let body = variables(alloc, &within, next(d)?, of, more, rest, room - 1)?;
-            Ok(Process::variable(alloc, name.span, d, cell_kind(of), body)?)
+            Ok(Process::variable(alloc, Some(name.span), d, cell_kind(of), body)?)
         }
     }
 }
@@ -500,12 +548,13 @@ fn arrays<'t, 'a>(
     d: usize,
     kind: Kind,
     size: usize,
+    row: Option<usize>,
     names: &'t Names<'a>,
     rest: Rest<'t, 'a>,
     room: u32,
 ) -> Result<Process, Fault>
     ensures { IfOk result (λ made. effect_of made
-        ≡ text_declarations.arrays kind (Some size) names.now (after_of rest.entry) (names_of scope.now) d) }
+        ≡ text_declarations.arrays kind (Some size) row names.now (after_of rest.entry) (names_of scope.now) d) }
 {
     if room == 0 {
         return Err(Fault::Deep);
@@ -517,11 +566,23 @@ fn arrays<'t, 'a>(
                 storage: Storage::Array(d),
                 kind,
                 size,
+                row,
                 is_variable: true,
             };
             let within = Scope::Within(name.text, Meaning::Whole(view), &*scope);
-            let body = arrays(alloc, &within, next(d)?, kind, size, more, rest, room - 1)?;
-            Ok(Process::array(alloc, name.span, d, bytes_of(kind, size)?, body)?)
+            let body = arrays(
+                alloc,
+                &within,
+                next(d)?,
+                kind,
+                size,
+                row,
+                more,
+                rest,
+                room - 1,
+            )?;
+            let bytes = bytes_of(kind, elements_in_all(size, row)?)?;
+            Ok(Process::array(alloc, name.span, d, bytes, body)?)
         }
     }
 }

@@ -11,8 +11,11 @@ pub(crate) fn said_on<'a>(lines: &[&'a str], line: u32) -> Printable<'a> {
     }
 }
 
-/// The text at a place in lines.
+/// The text at a place in lines; nothing where that is none of the text.
 pub(crate) fn said_at<'a>(lines: &[&'a str], span: Span) -> &'a str {
+    if span.is_predefined() {
+        return "";
+    }
     let first = span.column.saturating_sub(1);
     match lines.get(span.line.saturating_sub(1)) {
         Some(said) => said

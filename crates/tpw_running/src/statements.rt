@@ -95,8 +95,11 @@ impl<'a, 'w, W: Write> Statements<'a, 'w, W> {
         self.note(written);
     }
 
-    /// Writes a name, or an element by its number, with its word.
+    /// Writes a name, or an element by its number, with its word. What is predefined has no name.
     fn write_value(&mut self, name: &str, element: Option<usize>, word: u32) {
+        if name.is_empty() {
+            return;
+        }
         self.begin();
         let valued = Valued {
             name,
@@ -186,6 +189,12 @@ impl<W: Write> Watch for Statements<'_, '_, W> {
             }
         }
         Ok(())
+    }
+
+    fn hide(&mut self, variable: usize) {
+        if let Some(known) = self.variables.get_mut(variable) {
+            *known = None;
+        }
     }
 
     fn bind(&mut self, name: Span, word: u32) {

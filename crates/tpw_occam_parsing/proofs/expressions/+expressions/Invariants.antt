@@ -7,6 +7,9 @@ decreases-named l = 6 * l.depth
 abbrev pub decreases-grouped : goal.decreases-grouped
 decreases-grouped l = 6 * l.depth
 
+abbrev pub decreases-element : goal.decreases-element
+decreases-element l = 6 * l.depth + 4
+
 abbrev pub decreases-operand : goal.decreases-operand
 decreases-operand l = 6 * l.depth + 1
 

@@ -21,3 +21,6 @@ decreases-cases l = 2 * l.room + 1
 
 abbrev pub decreases-value_process : goal.decreases-value_process
 decreases-value_process l = 2 * l.room
+
+abbrev pub decreases-choice_of : goal.decreases-choice_of
+decreases-choice_of l = 2 * l.room

@@ -41,3 +41,6 @@ decreases-worker l = l.room
 
 abbrev pub decreases-routine_declared : goal.decreases-routine_declared
 decreases-routine_declared l = l.room
+
+abbrev pub decreases-lent_declared : goal.decreases-lent_declared
+decreases-lent_declared l = l.room

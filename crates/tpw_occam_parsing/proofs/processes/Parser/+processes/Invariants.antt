@@ -42,3 +42,6 @@ decreases-valof l = 10 * l.depth + 2
 
 abbrev pub decreases-value_process : goal.decreases-value_process
 decreases-value_process l = 10 * l.depth + 3
+
+abbrev pub decreases-search : goal.decreases-search
+decreases-search l = 10 * l.depth + 3

@@ -2,7 +2,7 @@ use Rattle.std.proofs.Common.{◌≡◌, length}
 use Rattle.std.specs.Str.{IsUtf8}
 use Rattle.tpw_occam_lexing.specs.Lines.{lines_of, each_line, text_lines}
 use Rattle.tpw_occam_lexing.specs.Reading.{meant}
-use Rattle.tpw_occam_lexing.proofs.lexing.lex.Given as goal
+use Rattle.tpw_occam_lexing.proofs.lexing.numbered.Given as goal
 
 abbrev pub invariant-lines : goal.invariant-lines
 invariant-lines l = record {
