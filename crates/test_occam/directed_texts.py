@@ -194,6 +194,29 @@ def messages():
          '    result ! x', ':'], some[:6])
 
 
+def ends():
+    """A result that ends the worker within its process."""
+    head = 'PROC worker (CHAN OF INT packet, CHAN OF INT result, CHAN OF INT trace)'
+    some = [packet(a) for a in ENDS]
+    text('a branch ends', [head, '  INT x:', '  SEQ', '    packet ? x', '    IF', '      x < 3', '        SEQ', '          trace ! x', '          result ! x PLUS 1',
+         '          trace ! 7', '          STOP', '      TRUE', '        x := x TIMES 3', '    trace ! 8', '    result ! x', ':'], some)
+    text('each branch ends', [head, '  INT x:', '  SEQ', '    packet ? x', '    IF', '      x < 3', '        result ! 1', '      TRUE', '        result ! 2 + x',
+         '    STOP', '    result ! 3', ':'], some)
+    text('a loop ends', [head, '  INT x, y:', '  SEQ', '    packet ? x', '    SEQ i = 0 FOR 40', '      SEQ', '        y := y + i', '        IF', '          i = x',
+         '            result ! y', '          TRUE', '            SKIP', '    result ! -1', ':'], some)
+    text('a loop of one turn ends', [head, '  INT x:', '  SEQ', '    packet ? x', '    SEQ i = 5 FOR 1', '      IF', '        x > i', '          result ! i',
+         '        TRUE', '          SKIP', '    result ! x', ':'], some)
+    text('the first turn ends', [head, '  INT x:', '  SEQ', '    packet ? x', '    SEQ i = 5 FOR 100', '      SEQ', '        x := x PLUS i', '        result ! x',
+         '    STOP', '    result ! 0', ':'], some)
+    text('loops in loops end', [head, '  INT x:', '  SEQ', '    packet ? x', '    SEQ i = 0 FOR 7', '      SEQ j = 0 FOR 7', '        SEQ k = 0 FOR 3',
+         '          IF', '            ((i * j) + k) = x', '              SEQ', '                trace ! i', '                result ! j',
+         '            TRUE', '              SKIP', '    result ! x', ':'], some)
+    text('a PROC and a CASE end', [head, '  INT x:', '  PROC give (VAL INT v)', '    CASE v', '      0, 7', '        result ! v', '      ELSE', '        trace ! v', '  :',
+         '  SEQ', '    packet ? x', '    give (x)', '    give (x /\\ 7)', '    result ! x', ':'], some)
+    text('an array ends', ['PROC worker (CHAN OF INT packet, CHAN OF [2]INT result)', '  [2]INT a:', '  SEQ', '    packet ? a[1]', '    [2]INT b:', '    SEQ',
+         '      b[0] := a[1]', '      IF', '        a[1] > 3', '          result ! b', '        TRUE', '          SKIP', '    result ! a', ':'], some)
+
+
 def spellings():
     """Escapes in letters of both cases, a DEL, bytes by two digits, numbers of many digits."""
     for name, spelled in (('capitals', '*N*C*T*S'), ('small letters', '*n*c*t*s'), ('a DEL', 'ab\x7f!'), ('digits', '*#0A*#AB*#7F*#80')):
@@ -272,7 +295,7 @@ def shared():
 
 
 def main():
-    parts = (operators, conversions, truth, registers, subscripts, assignments, parameters, choices, messages, spellings, declarations, stops, shared)
+    parts = (operators, conversions, truth, registers, subscripts, assignments, parameters, choices, messages, ends, spellings, declarations, stops, shared)
     for part in parts:
         part()
 

@@ -404,6 +404,10 @@ class Value:
         return self.word
 
 
+class Ended(Exception):
+    """The result is sent."""
+
+
 class Lost(Exception):
     pass
 
@@ -695,6 +699,7 @@ class Machine:
             self.traced += message
         else:
             self.result = message
+            raise Ended
 
 
 def run(tree, packet):
@@ -707,7 +712,10 @@ def run(tree, packet):
     for (_, (of, _), name), role in zip(parameters, ('packet', 'result', 'trace')):
         own[name] = (role, of)
     machine.flag = False
-    machine.block(body, own)
+    try:
+        machine.block(body, own)
+    except Ended:
+        pass
     if len(machine.traced) > MAX_TRACED:
         return None
     return machine.result, machine.flag, bytes(machine.traced)

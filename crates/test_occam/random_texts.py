@@ -46,6 +46,8 @@ class Maker:
         self.turns = 1
         self.calls = 0
         self.is_traced = self.random.random() < 0.7
+        # The element and the size of the result, within the worker's SEQ.
+        self.result = None
         # Within a PROC's or FUNCTION's body.
         self.levels = 0
 
@@ -440,6 +442,8 @@ class Maker:
             self.trace()
         elif pick < 0.22:
             self.copy()
+        elif pick < 0.25 and self.result and self.indent > 2:
+            self.ends()
         else:
             self.assign()
 
@@ -479,6 +483,10 @@ class Maker:
             self.line(f'{channel} ! {self.whole(INT, 2)}')
         else:
             self.line(f'{channel} ! {self.message(self.trace_of, self.trace_size)}')
+
+    def ends(self):
+        of, size = self.result
+        self.line(f'result ! {self.whole(INT, 2) if size is None else self.message(of, size)}')
 
     def message(self, of, size):
         """An array or a table of a protocol."""
@@ -610,6 +618,7 @@ class Maker:
         self.line('SEQ')
         self.indent += 1
         self.takes(packet_size)
+        self.result = result_of, result_size
         for _ in range(self.random.randint(1, 6)):
             self.block(3)
         self.gives(result_of, result_size)

@@ -46,8 +46,16 @@ fn message_bytes(protocol: Protocol) -> u64 {
     }
 }
 
-/// `trace ! x`.
-pub(crate) fn trace<'t, 'a>(
+/// The bytes that are traced at the least by a worker that ends here, or has ended before.
+pub(crate) fn least_traced(checker: &Checker<'_, '_>) -> u64 {
+    match checker.traced_at_end {
+        Some(least) => least.min(checker.traced),
+        None => checker.traced,
+    }
+}
+
+/// `trace ! x`, or `result ! x` that ends the worker before its SEQ does.
+pub(crate) fn sent<'t, 'a>(
     checker: &mut Checker<'t, 'a>,
     frame: Frame,
     name: Name<'a>,
@@ -62,6 +70,10 @@ pub(crate) fn trace<'t, 'a>(
             Ok(())
         }
         Channel::Packet => Err(checker.fault(name.span, FaultKind::SendsPacket)),
-        Channel::Output => Err(checker.fault(name.span, FaultKind::Send)),
+        Channel::Output => {
+            sent_by(checker, frame, protocol, e, depth)?;
+            checker.traced_at_end = Some(least_traced(checker));
+            Ok(())
+        }
     }
 }

@@ -7,7 +7,7 @@ use crate::branches::Branches;
 use crate::choices::{Seen, Selector, case_guard, chosen_by, guard};
 use crate::declarations::{Declared, Level, declare};
 use crate::limits::{MAX_GUARDS, MAX_TURNS, halves};
-use crate::messages::trace;
+use crate::messages::sent;
 use crate::trees::{cases_of, guards_of, has_else, place_of, steps_of};
 use std::alloc::AllocError;
 use tpw_occam_faults::{FaultKind, Interrupt, Limit, NoteKind, Use};
@@ -102,7 +102,7 @@ fn simple<'t, 'a>(
             values,
             ..
         } => assignment(checker, frame, targets, values, depth),
-        Written::Send { channel, value, .. } => trace(checker, frame, *channel, value, depth),
+        Written::Send { channel, value, .. } => sent(checker, frame, *channel, value, depth),
         Written::Receive { channel, .. } => Err(checker.fault(channel.span, FaultKind::Receive)),
         _ => Err(Interrupt::Reported),
     }

@@ -3,7 +3,7 @@
 use crate::assignments::target;
 use crate::declarations::{Declared, Level, declare};
 use crate::limits::MAX_TRACED;
-use crate::messages::{Message, sent_by};
+use crate::messages::{Message, least_traced, sent_by};
 use crate::processes::steps;
 use crate::trees::{behind, last_step, steps_of};
 use tpw_occam_faults::{FaultKind, Interrupt, NoteKind};
@@ -181,7 +181,7 @@ fn settle(checker: &mut Checker<'_, '_>, message: Message) {
 
 /// Notes traces with which each packet is lost.
 fn note_traces<'t, 'a>(checker: &mut Checker<'t, 'a>, worker: Name<'a>) -> Result<(), Interrupt> {
-    let bytes = checker.traced;
+    let bytes = least_traced(&*checker);
     if bytes > MAX_TRACED {
         checker
             .findings

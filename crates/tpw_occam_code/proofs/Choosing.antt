@@ -18,14 +18,15 @@ use Rattle.tpw_occam_code.specs.declared.analysis.First.TheVariants.{Nothing, As
 use Rattle.tpw_occam_symbolic.specs.declared.code.Step.TheVariants.{JumpTo, CjTo}
 use Rattle.tpw_occam_symbolic.specs.declared.code.CodeLine.{CodeLine}
 use Rattle.tpw_occam_symbolic.specs.Code.{Lines, followed_by, joined, none_at, line_of, place_behind, chosen_lines}
-use Rattle.tpw_occam_symbolic.specs.Symbolic.{Machine, nowhere, onward, performed, at_place, number, pop}
+use Rattle.tpw_occam_symbolic.specs.Symbolic.{Machine, Leads, nowhere, onward, performed, at_place, number, pop}
 use Rattle.tpw_occam_symbolic.specs.Leading.{Does, IsBefore, Arrives, HasLines}
 use Rattle.tpw_occam_expressions.specs.Agreement.{Knowledge, constant_in}
 use Rattle.tpw_occam_expressions.specs.Computing.{MayStand, reads, Decided, Decides}
-use Rattle.tpw_occam_code.specs.Executing.{MayRun, KnowsState, none_unset, holds_of_chosen, Matches, LeavesCounts, Executes, Chooses, is_skip, first_use, then_first, either_first, is_nothing, unset_after}
+use Rattle.tpw_occam_code.specs.Executing.{MayRun, KnowsState, none_unset, holds_of_chosen, Matches, LeavesCounts, Leaves, DoesOrEnds, IsBehind, Executes, Chooses, is_skip, first_use, then_first, either_first, is_nothing, unset_after}
+use Rattle.tpw_occam_code.proofs.Ending.{stops_behind, leaves_behind, ends_less, ends_joined}
 use Rattle.tpw_occam_symbolic.proofs.Leading.{does_less, step_is, leads_then, has_first, does_kept}
 use Rattle.tpw_occam_expressions.proofs.Constructs.{constant_value}
-use Rattle.tpw_occam_expressions.proofs.Conditions.{get_behind, does_branch, has_behind, jump_stands, cj_jumps, cj_passes, suc_not_zero}
+use Rattle.tpw_occam_expressions.proofs.Conditions.{has_behind, jump_stands, cj_jumps, cj_passes, suc_not_zero}
 use Rattle.tpw_occam_expressions.proofs.Standing.{Place}
 use Rattle.tpw_occam_symbolic.proofs.Sizes.{and_first, and_second}
 use Rattle.tpw_occam_code.proofs.Knowing.{knows_fewer, knows_flagged, matches_fewer, counts_of_items}
@@ -127,9 +128,18 @@ flag_same k storages scope unset s flag m none matches = record {
   room = matches.room;
 }
 
+chosen_runs : (k : Knowledge) (old new : Lines) (storages : List Storage) (scope : List Entry) (unset unset2 unset3 : ℕ → Bool) (s : Store) (flag : Bool) (t u : Store)
+    → flag ≡ false → t ≡ u → ((y : ℕ) → unset3 y ≡ false → unset2 y ≡ false)
+    → DoesOrEnds k.arrays old new t (Matches k storages scope unset (flagged flag s)) (IsBehind k storages scope unset2 t)
+    → DoesOrEnds k.arrays old new u (Matches k storages scope unset s) (IsBehind k storages scope unset3 u)
+chosen_runs k old new storages scope unset unset2 unset3 s flag t u none same fewer one =
+    subst (λ u. DoesOrEnds k.arrays old new u (Matches k storages scope unset s) (IsBehind k storages scope unset3 u)) same
+    (ends_less k.arrays old new t _ _ _ _ one (λ m matches. flag_same k storages scope unset s flag m none matches)
+    (λ m end code sizes matches after. (matches_fewer k storages scope unset2 unset3 t end fewer after.0, after.1)))
+
 pub never_executes : (k : Knowledge) (old new : Lines) (e : Expression) (guarded rest : Process) (c : ℕ) → constant_in k e ≡ Some c → c ≡ 0
     → Executes k old new rest → Chooses k old new e guarded rest
-never_executes k old new e guarded rest c is low one p q storages scope unset s place may known =
+never_executes k old new e guarded rest c is low one p q storages scope unset s place may known going =
     let parts = may_choose k storages scope unset e p guarded q rest may in
     let g = value_of e s in
     let t = flagged g.flag s in
@@ -137,37 +147,33 @@ never_executes k old new e guarded rest c is low one p q storages scope unset s 
     let none : nat_eq g.word 0 ≡ true = eq-eqb g.word 0 (ap (λ v. v.word) value ∙ low) in
     let same : run k.kinds rest t ≡ run k.kinds (process.If' e p guarded q rest) s =
     sym (chosen_none g.word (run k.kinds guarded t) (run k.kinds rest t) none) in
-    does_less k.arrays old new _ _ _ _ (one storages scope unset t place parts.none (knows_flagged k scope g.flag s known))
-    (λ m matches. flag_same k storages scope unset s g.flag m (ap (λ v. v.flag) value) matches)
-    (λ m end matches after. (
-      matches_state k storages scope _ (run k.kinds rest t) (run k.kinds (process.If' e p guarded q rest) s) end same
-          (matches_fewer k storages scope _ (unset_after (first_use (process.If' e p guarded q rest)) unset) (run k.kinds rest t) end parts.after_none after.0),
-      after.1,
-    ))
+    chosen_runs k old new storages scope unset (unset_after (first_use rest) unset) (unset_after (first_use (process.If' e p guarded q rest)) unset) s
+    g.flag (run k.kinds rest t) (run k.kinds (process.If' e p guarded q rest) s) (ap (λ v. v.flag) value) same parts.after_none
+    (one storages scope unset t place parts.none (knows_flagged k scope g.flag s known) going)
 
 pub always_executes : (k : Knowledge) (old new : Lines) (e : Expression) (guarded rest : Process) (c : ℕ) → constant_in k e ≡ Some c → (c ≡ 0 → ⊥)
     → Executes k old new guarded → Chooses k old new e guarded rest
-always_executes k old new e guarded rest c is some one p q storages scope unset s place may known =
+always_executes k old new e guarded rest c is some one p q storages scope unset s place may known going =
     let parts = may_choose k storages scope unset e p guarded q rest may in
     let g = value_of e s in
     let t = flagged g.flag s in
     let value : g ≡ pure c = constant_value k storages scope unset s e c parts.stands (knows_fewer k scope unset s known.knows) is in
     let same : run k.kinds guarded t ≡ run k.kinds (process.If' e p guarded q rest) s =
     sym (chosen_some g.word (run k.kinds guarded t) (run k.kinds rest t) (rw value (not_zero c some))) in
-    does_less k.arrays old new _ _ _ _ (one storages scope unset t place parts.some (knows_flagged k scope g.flag s known))
-    (λ m matches. flag_same k storages scope unset s g.flag m (ap (λ v. v.flag) value) matches)
-    (λ m end matches after. (
-      matches_state k storages scope _ (run k.kinds guarded t) (run k.kinds (process.If' e p guarded q rest) s) end same
-          (matches_fewer k storages scope _ (unset_after (first_use (process.If' e p guarded q rest)) unset) (run k.kinds guarded t) end parts.after_some after.0),
-      after.1,
-    ))
+    chosen_runs k old new storages scope unset (unset_after (first_use guarded) unset) (unset_after (first_use (process.If' e p guarded q rest)) unset) s
+    g.flag (run k.kinds guarded t) (run k.kinds (process.If' e p guarded q rest) s) (ap (λ v. v.flag) value) same parts.after_some
+    (one storages scope unset t place parts.some (knows_flagged k scope g.flag s known) going)
 
 -- ---- code for where Areg is not 0, and for where it is
 
--- What a number in Areg leads to: where it is not 0 to the first code, with Areg popped, and else to the second.
-pub record Chosen (Before2 Before3 : Machine → Type 0) (After2 After3 After4 : Machine → Machine → Type 0) (m middle : Machine) : Type 0 where
+-- What a number in Areg leads to: where it is not 0 to the first code, with Areg popped, and else to the second; and what
+-- the state is that they make.
+pub record Chosen (t2 t3 t : Store) (Before2 Before3 : Machine → Type 0) (After2 After3 After4 : Machine → Machine → Type 0) (m middle : Machine) : Type 0 where
   pub word : ℕ
   pub areg : middle.areg ≡ number word
+  pub sent : middle.sent ≡ m.sent
+  pub made_some : (n : ℕ) → word ≡ suc n → t2 ≡ t
+  pub made_none : word ≡ 0 → t3 ≡ t
   pub some : (n : ℕ) → word ≡ suc n → (p : ℕ) → Before2 (at_place p (pop middle))
   pub after_some : (n : ℕ) → word ≡ suc n → (p q : ℕ) (end : Machine) → After2 (at_place p (pop middle)) end → After4 m (at_place q end)
   pub none : word ≡ 0 → (p : ℕ) → Before3 (at_place p middle)
@@ -177,22 +183,22 @@ jumps : (to p : ℕ) (m : Machine) → performed (JumpTo to) (at_place p m) ≡ 
 unfolding performed
 jumps to p m = refl
 
-pub does_choose : (arrays : List ℕ) (old between some none new_code : Lines) (source : ℕ)
+pub ends_choose : (arrays : List ℕ) (old between some none new_code : Lines) (source : ℕ) (t2 t3 t : Store)
     (Before : Machine → Type 0) (After : Machine → Machine → Type 0) (Before2 Before3 : Machine → Type 0) (After2 After3 After4 : Machine → Machine → Type 0)
     → new_code ≡ chosen_lines between source some none
     → Does arrays old between Before After
-    → Does arrays (none_at (place_behind between + 1)) some Before2 After2
-    → Does arrays (none_at (place_behind some + 1)) none Before3 After3
-    → ((m middle : Machine) → Before m → After m middle → Chosen Before2 Before3 After2 After3 After4 m middle)
-    → Does arrays old new_code Before After4
-does_choose arrays old between some none new_code source Before After Before2 Before3 After2 After3 After4 is first second third chooses = record {
+    → DoesOrEnds arrays (none_at (place_behind between + 1)) some t2 Before2 After2
+    → DoesOrEnds arrays (none_at (place_behind some + 1)) none t3 Before3 After3
+    → ((m middle : Machine) → Before m → After m middle → Chosen t2 t3 t Before2 Before3 After2 After3 After4 m middle)
+    → DoesOrEnds arrays old new_code t Before After4
+ends_choose arrays old between some none new_code source t2 t3 t Before After Before2 Before3 After2 After3 After4 is first second third chooses = record {
   base = ap (λ l. l.base) is ∙ first.base;
   more = (first.more ++ (cj ∷ some.lines)) ++ (jump ∷ none.lines);
   lines = ap (λ l. l.lines) is ∙ append_assoc (chosen.lines) (jump ∷ []) none.lines
       ∙ ap (λ ls. ls ++ (jump ∷ none.lines)) (append_assoc between.lines (cj ∷ []) some.lines
       ∙ ap (λ ls. ls ++ (cj ∷ some.lines)) first.lines ∙ append_assoc old.lines first.more (cj ∷ some.lines))
       ∙ append_assoc old.lines (first.more ++ (cj ∷ some.lines)) (jump ∷ none.lines);
-  arrives = λ m before said.
+  leaves = λ m before said.
       let has = has_chosen m before in
       let has_between : HasLines between m = has_first between chosen (cj ∷ some.lines) m refl (append_assoc between.lines (cj ∷ []) some.lines) has in
       let a = first.arrives m (record { place = before.place; lines = has_between; served = before.served; running = before.running }) said in
@@ -233,55 +239,141 @@ does_choose arrays old between some none new_code source Before After Before2 Be
           length-append chosen.lines (jump ∷ []),
         )
 
-    by_word : (m : Machine) → IsBefore arrays old new_code m → (a : Arrives between m After) → (b : Chosen Before2 Before3 After2 After3 After4 m a.end)
-        → (n : ℕ) → b.word ≡ n → Arrives new_code m After4
+    -- over the jump behind the first code
+    jumped : (o : Option (List ℕ)) (u : Store) (m next : Machine) → IsBefore arrays old new_code m → Leads m next → next.code ≡ m.code → next.sizes ≡ m.sizes
+        → next.sent ≡ m.sent → ((q : ℕ) (end : Machine) → After2 next end → After4 m (at_place q end)) → Leaves o u some next After2
+        → Leaves o u new_code m After4
+    jumped (Some result) u m next before way same_code same_sizes sent after c = stops_behind u m next way sent c
+    jumped None u m next before way same_code same_sizes sent after c =
+        let there : slice_get c.end.code c.end.place ≡ Some jump =
+        ap (λ l. slice_get l c.end.place) (c.same_code ∙ same_code) ∙ ap (slice_get m.code) (c.place ∙ sym behind_some)
+        ∙ jump_stands chosen none new_code jump m is before.lines in
+        record {
+          end = at_place (place_behind new_code) c.end;
+          way = leads_then way
+              (leads_then c.way (onward c.end (at_place (place_behind new_code) c.end) (at_place (place_behind new_code) c.end)
+              (step_is c.end jump c.running there ∙ jumps (place_behind none) (c.end.place + 1) c.end ∙ ap (λ p. Some (at_place p c.end)) behind) (nowhere _)));
+          place = refl;
+          running = c.running;
+          same_code = c.same_code ∙ same_code;
+          same_sizes = c.same_sizes ∙ same_sizes;
+          after = after (place_behind new_code) c.end c.after;
+        }
+
+    by_word : (m : Machine) → IsBefore arrays old new_code m → (a : Arrives between m After) → (b : Chosen t2 t3 t Before2 Before3 After2 After3 After4 m a.end)
+        → (n : ℕ) → b.word ≡ n → Leaves t.ended t new_code m After4
     by_word m before a b zero w =
         let areg : a.end.areg ≡ number 0 = b.areg ∙ ap number w in
         let at : slice_get a.end.code a.end.place ≡ Some cj =
         ap (λ c. slice_get c a.end.place) a.same_code ∙ ap (slice_get m.code) a.place ∙ jump_stands between some chosen cj m refl (has_chosen m before) in
-        let c = third.arrives (at_place (place_behind some + 1) a.end) (record {
+        let next = at_place (place_behind some + 1) a.end in
+        let c = third.leaves next (record {
           place = omega (arith);
           lines = λ i h. ap (λ c. slice_get c (none.base + i)) a.same_code
               ∙ has_behind chosen none new_code jump m is (third.base ∙ ap (λ p. p + 1) (sym behind_some)) before.lines i h;
           served = λ i other h. rw a.same_sizes (before.served i other (ap (λ c. slice_get c i) (sym a.same_code) ∙ h));
           running = a.running;
         }) (b.none w (place_behind some + 1)) in
-        record {
-          end = c.end;
-          way = leads_then a.way (onward a.end (at_place (place_behind some + 1) a.end) c.end
-              (step_is a.end cj a.running at ∙ cj_jumps (place_behind some + 1) (a.end.place + 1) a.end areg) c.way);
-          place = c.place ∙ behind;
-          running = c.running;
-          same_code = c.same_code ∙ a.same_code;
-          same_sizes = c.same_sizes ∙ a.same_sizes;
-          after = b.after_none w (place_behind some + 1) c.end c.after;
-        }
+        subst (λ u. Leaves u.ended u new_code m After4) (b.made_none w)
+        (leaves_behind t3.ended t3 none new_code m next After3 After4 behind
+        (leads_then a.way (onward a.end next next
+        (step_is a.end cj a.running at ∙ cj_jumps (place_behind some + 1) (a.end.place + 1) a.end areg) (nowhere next)))
+        a.same_code a.same_sizes b.sent (λ end code sizes after. b.after_none w (place_behind some + 1) end after) c)
     by_word m before a b (suc n) w =
         let areg : a.end.areg ≡ number (suc n) = b.areg ∙ ap number w in
         let at : slice_get a.end.code a.end.place ≡ Some cj =
         ap (λ c. slice_get c a.end.place) a.same_code ∙ ap (slice_get m.code) a.place ∙ jump_stands between some chosen cj m refl (has_chosen m before) in
         let p = a.end.place + 1 in
-        let c = second.arrives (at_place p (pop a.end)) (record {
+        let next = at_place p (pop a.end) in
+        let c = second.leaves next (record {
           place = omega (arith, a.place);
           lines = λ i h. ap (λ c. slice_get c (some.base + i)) a.same_code ∙ has_behind between some chosen cj m refl second.base (has_chosen m before) i h;
           served = λ i other h. rw a.same_sizes (before.served i other (ap (λ c. slice_get c i) (sym a.same_code) ∙ h));
           running = a.running;
         }) (b.some n w p) in
-        let there : slice_get c.end.code c.end.place ≡ Some jump =
-        ap (λ l. slice_get l c.end.place) (c.same_code ∙ a.same_code) ∙ ap (slice_get m.code) (c.place ∙ sym behind_some)
-        ∙ jump_stands chosen none new_code jump m is before.lines in
-        record {
-          end = at_place (place_behind new_code) c.end;
-          way = leads_then a.way (onward a.end (at_place p (pop a.end)) (at_place (place_behind new_code) c.end)
-              (step_is a.end cj a.running at ∙ cj_passes (place_behind some + 1) p n a.end areg)
-              (leads_then c.way (onward c.end (at_place (place_behind new_code) c.end) (at_place (place_behind new_code) c.end)
-              (step_is c.end jump c.running there ∙ jumps (place_behind none) (c.end.place + 1) c.end ∙ ap (λ p. Some (at_place p c.end)) behind) (nowhere _))));
+        subst (λ u. Leaves u.ended u new_code m After4) (b.made_some n w)
+        (jumped t2.ended t2 m next before
+        (leads_then a.way (onward a.end next next (step_is a.end cj a.running at ∙ cj_passes (place_behind some + 1) p n a.end areg) (nowhere next)))
+        a.same_code a.same_sizes b.sent (λ q end after. b.after_some n w p q end after) c)
+
+-- code for where Areg is not 0
+pub record Branched (t2 t : Store) (Before2 : Machine → Type 0) (After2 After3 : Machine → Machine → Type 0) (behind : ℕ) (m middle : Machine) : Type 0 where
+  pub word : ℕ
+  pub areg : middle.areg ≡ number word
+  pub sent : middle.sent ≡ m.sent
+  pub made : (n : ℕ) → word ≡ suc n → t2 ≡ t
+  pub going : word ≡ 0 → t.ended ≡ None
+  pub zero : word ≡ 0 → After3 m (at_place behind middle)
+  pub before : (n : ℕ) → word ≡ suc n → (p : ℕ) → Before2 (at_place p (pop middle))
+  pub after : (n : ℕ) → word ≡ suc n → (p : ℕ) (end : Machine) → After2 (at_place p (pop middle)) end → After3 m end
+
+pub ends_branch : (arrays : List ℕ) (old between more new_code : Lines) (source : ℕ) (t2 t : Store)
+    (Before : Machine → Type 0) (After : Machine → Machine → Type 0) (Before2 : Machine → Type 0) (After2 After3 : Machine → Machine → Type 0)
+    → new_code ≡ joined (followed_by between (line_of source (CjTo (place_behind more)) ∷ [])) more
+    → Does arrays old between Before After
+    → DoesOrEnds arrays (none_at (place_behind between + 1)) more t2 Before2 After2
+    → ((m middle : Machine) → Before m → After m middle → Branched t2 t Before2 After2 After3 (place_behind new_code) m middle)
+    → DoesOrEnds arrays old new_code t Before After3
+ends_branch arrays old between more new_code source t2 t Before After Before2 After2 After3 is first second branches = record {
+  base = ap (λ l. l.base) is ∙ first.base;
+  more = first.more ++ (line ∷ more.lines);
+  lines = ap (λ l. l.lines) is ∙ append_assoc between.lines (line ∷ []) more.lines
+      ∙ ap (λ ls. ls ++ (line ∷ more.lines)) first.lines ∙ append_assoc old.lines first.more (line ∷ more.lines);
+  leaves = λ m before said.
+      let has_between : HasLines between m = has_first between new_code (line ∷ more.lines) m (ap (λ l. l.base) is)
+      (ap (λ l. l.lines) is ∙ append_assoc between.lines (line ∷ []) more.lines) before.lines in
+      let a = first.arrives m (record { place = before.place; lines = has_between; served = before.served; running = before.running }) said in
+      let b = branches m a.end said a.after in by_word m before a b b.word refl;
+}
+  where
+    line : CodeLine
+    line = line_of source (CjTo (place_behind more))
+
+    behind : place_behind more ≡ place_behind new_code
+    behind =
+        omega (
+          arith,
+          second.base,
+          ap (λ l. l.base) is,
+          ap (λ l. length l.lines) is,
+          length-append (between.lines ++ line ∷ []) more.lines,
+          length-append between.lines (line ∷ []),
+        )
+
+    by_word : (m : Machine) → IsBefore arrays old new_code m → (a : Arrives between m After)
+        → (b : Branched t2 t Before2 After2 After3 (place_behind new_code) m a.end)
+        → (n : ℕ) → b.word ≡ n → Leaves t.ended t new_code m After3
+    by_word m before a b zero w =
+        let areg : a.end.areg ≡ number 0 = b.areg ∙ ap number w in
+        let at : slice_get a.end.code a.end.place ≡ Some line =
+        ap (λ c. slice_get c a.end.place) a.same_code ∙ ap (slice_get m.code) a.place ∙ jump_stands between more new_code line m is before.lines in
+        let arrives : Arrives new_code m After3 = record {
+          end = at_place (place_behind new_code) a.end;
+          way = leads_then a.way (onward a.end (at_place (place_behind new_code) a.end) (at_place (place_behind new_code) a.end)
+              (step_is a.end line a.running at ∙ cj_jumps (place_behind more) (a.end.place + 1) a.end areg ∙ ap (λ p. Some (at_place p a.end)) behind) (nowhere _));
           place = refl;
-          running = c.running;
-          same_code = c.same_code ∙ a.same_code;
-          same_sizes = c.same_sizes ∙ a.same_sizes;
-          after = b.after_some n w p (place_behind new_code) c.end c.after;
-        }
+          running = a.running;
+          same_code = a.same_code;
+          same_sizes = a.same_sizes;
+          after = b.zero w;
+        } in
+        subst (λ o. Leaves o t new_code m After3) (sym (b.going w)) arrives
+    by_word m before a b (suc n) w =
+        let areg : a.end.areg ≡ number (suc n) = b.areg ∙ ap number w in
+        let at : slice_get a.end.code a.end.place ≡ Some line =
+        ap (λ c. slice_get c a.end.place) a.same_code ∙ ap (slice_get m.code) a.place ∙ jump_stands between more new_code line m is before.lines in
+        let p = a.end.place + 1 in
+        let next = at_place p (pop a.end) in
+        let c = second.leaves next (record {
+          place = omega (arith, a.place);
+          lines = λ i h. ap (λ c. slice_get c (more.base + i)) a.same_code ∙ has_behind between more new_code line m is second.base before.lines i h;
+          served = λ i other h. rw a.same_sizes (before.served i other (ap (λ c. slice_get c i) (sym a.same_code) ∙ h));
+          running = a.running;
+        }) (b.before n w p) in
+        subst (λ u. Leaves u.ended u new_code m After3) (b.made n w)
+        (leaves_behind t2.ended t2 more new_code m next After2 After3 behind
+        (leads_then a.way (onward a.end next next (step_is a.end line a.running at ∙ cj_passes (place_behind more) p n a.end areg) (nowhere next)))
+        a.same_code a.same_sizes b.sent (λ end code sizes after. b.after n w p end after) c)
 
 -- ---- IF by a condition
 
@@ -322,19 +414,20 @@ pub choose_executes : (k : Knowledge) (old between some none new_code : Lines) (
     → Executes k (none_at (place_behind some + 1)) none rest
     → new_code ≡ chosen_lines between source some none
     → Chooses k old new_code e guarded rest
-choose_executes k old between some none new_code source e guarded rest decides one two is p q storages scope unset s place may known =
+choose_executes k old between some none new_code source e guarded rest decides one two is p q storages scope unset s place may known going =
     let whole = process.If' e p guarded q rest in
     let parts = may_choose k storages scope unset e p guarded q rest may in
     let g = value_of e s in
     let t = flagged g.flag s in
     let known2 = knows_flagged k scope g.flag s known in
-    does_choose k.arrays old between some none new_code source (Matches k storages scope unset s) _ (Matches k storages scope unset t) (Matches k storages scope unset t)
-    _ _ (λ m end. Matches k storages scope (unset_after (first_use whole) unset) (run k.kinds whole s) end × LeavesCounts scope m end) is
+    ends_choose k.arrays old between some none new_code source (run k.kinds guarded t) (run k.kinds rest t) (run k.kinds whole s)
+    (Matches k storages scope unset s) _ (Matches k storages scope unset t) (Matches k storages scope unset t)
+    _ _ (IsBehind k storages scope (unset_after (first_use whole) unset) (run k.kinds whole s)) is
     (does_kept k.arrays old between (Matches k storages scope unset s) (Decided g scope 0)
     (does_less k.arrays old between _ _ (Matches k storages scope unset s) (Decided g scope 0)
     (decides storages scope unset s place.place parts.stands (omega arith) (omega arith) (knows_fewer k scope unset s known.knows))
     (λ m matches. matches.agrees) (λ m end matches after. after)))
-    (one storages scope unset t place parts.some known2) (two storages scope unset t place parts.none known2)
+    (one storages scope unset t place parts.some known2 going) (two storages scope unset t place parts.none known2 going)
     (λ m middle matches after.
     let d = after.0 in
     let there = matches_decided k storages scope unset s g m middle matches d after.1 after.2 in
@@ -342,6 +435,9 @@ choose_executes k old between some none new_code source e guarded rest decides o
     record {
       word = d.word;
       areg = d.areg;
+      sent = counts.sent;
+      made_some = λ n w. sym (chosen_some g.word (run k.kinds guarded t) (run k.kinds rest t) (word_more d.word g.word n d.same w));
+      made_none = λ w. sym (chosen_none g.word (run k.kinds guarded t) (run k.kinds rest t) (word_zero d.word g.word d.same w));
       some = λ n w p. matches_popped k storages scope unset t p middle there;
       after_some = λ n w p q end after2. (
         matches_moved k storages scope (unset_after (first_use whole) unset) (run k.kinds whole s) q end
@@ -457,7 +553,7 @@ pub branch_executes : (k : Knowledge) (old between more new_code : Lines) (sourc
     → Decides k old between e 3 0 → Executes k (none_at (place_behind between + 1)) more guarded
     → new_code ≡ joined (followed_by between (line_of source (CjTo (place_behind more)) ∷ [])) more
     → Chooses k old new_code e guarded rest
-branch_executes k old between more new_code source e guarded rest skips decides one is p q storages scope unset s place may known =
+branch_executes k old between more new_code source e guarded rest skips decides one is p q storages scope unset s place may known going =
     let whole = process.If' e p guarded q rest in
     let parts = may_choose k storages scope unset e p guarded q rest may in
     let g = value_of e s in
@@ -466,13 +562,13 @@ branch_executes k old between more new_code source e guarded rest skips decides 
     let fewer : (y : ℕ) → unset_after (first_use whole) unset y ≡ false → unset y ≡ false =
     λ y h. skip_unset k scope unset _ rest parts.none skips y (parts.after_none y h) in
     let stays = skip_runs k storages scope rest t parts.none.sound known2 skips in
-    does_branch k.arrays old between more new_code source (Matches k storages scope unset s) _ (Matches k storages scope unset t)
-    _ (λ m end. Matches k storages scope (unset_after (first_use whole) unset) (run k.kinds whole s) end × LeavesCounts scope m end) is
+    ends_branch k.arrays old between more new_code source (run k.kinds guarded t) (run k.kinds whole s) (Matches k storages scope unset s) _ (Matches k storages scope unset t)
+    _ (IsBehind k storages scope (unset_after (first_use whole) unset) (run k.kinds whole s)) is
     (does_kept k.arrays old between (Matches k storages scope unset s) (Decided g scope 0)
     (does_less k.arrays old between _ _ (Matches k storages scope unset s) (Decided g scope 0)
     (decides storages scope unset s place.place parts.stands (omega arith) (omega arith) (knows_fewer k scope unset s known.knows))
     (λ m matches. matches.agrees) (λ m end matches after. after)))
-    (one storages scope unset t place parts.some known2)
+    (one storages scope unset t place parts.some known2 going)
     (λ m middle matches after.
     let d = after.0 in
     let there = matches_decided k storages scope unset s g m middle matches d after.1 after.2 in
@@ -480,6 +576,9 @@ branch_executes k old between more new_code source e guarded rest skips decides 
     record {
       word = d.word;
       areg = d.areg;
+      sent = counts.sent;
+      made = λ n w. sym (chosen_some g.word (run k.kinds guarded t) (run k.kinds rest t) (word_more d.word g.word n d.same w));
+      going = λ w. ap (λ u. u.ended) (chosen_none g.word (run k.kinds guarded t) (run k.kinds rest t) (word_zero d.word g.word d.same w) ∙ stays) ∙ going;
       zero = λ w. (
         matches_moved k storages scope (unset_after (first_use whole) unset) (run k.kinds whole s) (place_behind new_code) middle
             (matches_state k storages scope (unset_after (first_use whole) unset) t (run k.kinds whole s) middle
@@ -502,32 +601,6 @@ branch_executes k old between more new_code source e guarded rest skips decides 
 
 -- ---- code that is made apart, for the place where it then stands
 
-pub does_joined : (arrays : List ℕ) (old more : Lines) (Before : Machine → Type 0) (After : Machine → Machine → Type 0)
-    → Does arrays (none_at (place_behind old)) more Before After → Does arrays old (joined old more) Before After
-does_joined arrays old more Before After does = record {
-  base = refl;
-  more = more.lines;
-  lines = refl;
-  arrives = λ m before said.
-      let a = does.arrives m (record {
-        place = before.place ∙ omega arith;
-        lines = λ i h.
-            let within : length old.lines + i < length (old.lines ++ more.lines) = omega (arith, h, length-append old.lines more.lines) in
-            ap (slice_get m.code) (omega (arith, does.base)) ∙ before.lines (length old.lines + i) within ∙ get_behind old.lines more.lines i;
-        served = before.served;
-        running = before.running;
-      }) said in
-      record {
-        end = a.end;
-        way = a.way;
-        place = a.place ∙ omega (arith, does.base, length-append old.lines more.lines);
-        running = a.running;
-        same_code = a.same_code;
-        same_sizes = a.same_sizes;
-        after = a.after;
-      };
-}
-
 pub executes_joined : (k : Knowledge) (old more : Lines) (p : Process) → Executes k (none_at (place_behind old)) more p → Executes k old (joined old more) p
-executes_joined k old more p inner storages scope unset s place may known =
-    does_joined k.arrays old more _ _ (inner storages scope unset s place may known)
+executes_joined k old more p inner storages scope unset s place may known going =
+    ends_joined k.arrays old more (run k.kinds p s) _ _ (inner storages scope unset s place may known going)

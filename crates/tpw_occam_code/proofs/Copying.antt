@@ -30,6 +30,7 @@ use Rattle.tpw_occam_code.proofs.Moving.{written, length_bytes_at, index_bytes_a
 use Rattle.tpw_occam_expressions.proofs.Computing.{bytes_same}
 use Rattle.tpw_occam_symbolic.proofs.Sizes.{and_first, and_second}
 use Rattle.tpw_occam_code.proofs.Knowing.{matches_fewer}
+use Rattle.tpw_occam_code.proofs.Ending.{does_going}
 
 -- ---- sizes
 
@@ -195,7 +196,7 @@ third_of false q r h = absurd (let e : ◌≡◌ {A = Bool} false true = h in cc
 
 pub copies : (k : Knowledge) (old new : Lines) (to from words : ℕ) → (slice_index k.arrays to ≤ 2048 → 4 * words ≡ word_bytes (slice_index k.arrays to))
     → (words ≤ 512 → Moves old new (Array from) (Array to) 0 (4 * words)) → Executes k old new (process.Copy to from)
-copies k old new to from words whole move storages scope unset s place may knows =
+copies k old new to from words whole move storages scope unset s place may knows going =
     let parts = third_of (is_written storages scope to) (list_any (is_array from) scope) _ may.sound in
     let to_there = and_first (list_any (is_array to) scope) _ parts.0 in
     let small = place.place.most to to_there in
@@ -203,7 +204,8 @@ copies k old new to from words whole move storages scope unset s place may knows
     let same : slice_index k.arrays to ≡ slice_index k.arrays from =
     storage_size k storages scope to place ∙ eqb-true _ _ parts.2 ∙ sym (storage_size k storages scope from place) in
     let long = array_long k scope s from knows in
-    does_within k.arrays old new _ _ _ _ (move (omega (arith, all, small)) k.arrays)
+    does_going k.arrays old new (with_array to (array_of s from) s) _ _ going
+    (does_within k.arrays old new _ _ _ _ (move (omega (arith, all, small)) k.arrays)
     (λ m matches. (matches.agrees.constants, (λ step served. omega (arith, all, same, served)), (λ step served. omega (arith, all, served))))
     (λ m end code sizes matches writes.
     let copied = bytes_at m.blocks (Array from) 0 (4 * words) in
@@ -225,14 +227,15 @@ copies k old new to from words whole move storages scope unset s place may knows
           (array_there k scope s to knows (is_within k.arrays to (place.place.least to to_there))) matches taken code sizes
           (λ x h. h) (λ b h other. h) (λ b h. h) (λ x e. sym (and-true (unset x)) ∙ e),
       taken_leaves scope to _ m end taken,
-    ))
+    )))
 
 same_array : (s : Store) (a : ℕ) → with_array a (array_of s a) s ≡ s
 same_array s a = ap (λ arrays. record s { arrays = arrays }) (set-get_or s.arrays a [])
 
 pub copies_nothing : (k : Knowledge) (code : Lines) (a : ℕ) → Executes k code code (process.Copy a a)
-copies_nothing k code a storages scope unset s place may knows =
-    does_less k.arrays code code _ _ _ _ (does_nothing k.arrays code) (λ m matches. tt)
+copies_nothing k code a storages scope unset s place may knows going =
+    does_going k.arrays code code (with_array a (array_of s a) s) _ _ going
+    (does_less k.arrays code code _ _ _ _ (does_nothing k.arrays code) (λ m matches. tt)
     (λ m end matches is. (
       rw (same_array s a) (rw is (matches_fewer k storages scope unset _ s m (λ x e. sym (and-true (unset x)) ∙ e) matches)),
       record {
@@ -240,4 +243,4 @@ copies_nothing k code a storages scope unset s place may knows =
         to_come = ap (λ (e : Machine). e.to_come) is;
         sent = ap (λ (e : Machine). e.sent) is;
       },
-    ))
+    )))

@@ -2,6 +2,7 @@ pub mod Moving
 pub mod Copying
 pub mod Sending
 pub mod Knowing
+pub mod Ending
 pub mod Executing
 pub mod Choosing
 pub mod Storing

@@ -16,7 +16,7 @@ use Rattle.tpw_occam_core.specs.declared.scope.Entry.{Entry}
 use Rattle.tpw_occam_core.specs.declared.scope.Entry.TheVariants as entry
 use Rattle.tpw_occam_core.specs.declared.process.Process.{Process}
 use Rattle.tpw_occam_core.specs.declared.process.Process.TheVariants as process
-use Rattle.tpw_occam_core.specs.Meaning.{Store, with_value, run, turns}
+use Rattle.tpw_occam_core.specs.Meaning.{Store, with_value, run, turns, unless_ended}
 use Rattle.tpw_occam_core.specs.Sound.{is_variable, is_new_name, is_sound_process, are_turns}
 use Rattle.tpw_occam_expressions.specs.declared.emitter.Fact.{Fact}
 use Rattle.tpw_occam_expressions.specs.declared.range.Range.{Range}
@@ -32,8 +32,9 @@ use Rattle.tpw_occam_expressions.specs.Ranges.{Contains}
 use Rattle.tpw_occam_symbolic.specs.Symbolic.{Machine, address, distance, Leads, nowhere, onward, performed, effect, at_place, with_blocks, push}
 use Rattle.tpw_occam_symbolic.specs.Leading.{Does, IsBefore, Arrives, HasLines, HasWord}
 use Rattle.tpw_occam_expressions.specs.Agreement.{Knowledge, with_fact, fact_at, counted_fact, constant_fact, FitsFact, LeavesItems}
-use Rattle.tpw_occam_code.specs.Executing.{Follows, Remains, IsProcessPlace, MayRun, KnowsState, Matches, LeavesCounts, Executes, Repeats, Begins, first_use, is_nothing, unset_after}
-use Rattle.tpw_occam_symbolic.proofs.Leading.{does_less, does_nothing, step_is, leads_then, has_first, does_kept}
+use Rattle.tpw_occam_code.specs.Executing.{Follows, Remains, IsProcessPlace, MayRun, KnowsState, Matches, LeavesCounts, Stops, HasEnded, Leaves, DoesOrEnds, IsBehind, Executes, Repeats, Begins, first_use, is_nothing, unset_after}
+use Rattle.tpw_occam_symbolic.proofs.Leading.{does_less, does_nothing, step_is, leads_then, has_first}
+use Rattle.tpw_occam_code.proofs.Ending.{does_going, ends_less, leaves_behind}
 use Rattle.tpw_occam_symbolic.proofs.Simulation.{is_item-self}
 use Rattle.tpw_occam_expressions.proofs.Keeping.{other_item, word_written}
 use Rattle.tpw_occam_expressions.proofs.Naming.{variable_differs, slice_same, constant_fits, new_name}
@@ -146,6 +147,25 @@ lend_last m i head areg breg size count =
     let left : low_word (signed (word_at m.blocks i 4) -ℤ pos 1) ≡ 0 = ap (λ w. low_word (signed w -ℤ pos 1)) count ∙ left_is 0 (omega arith) in
     lend_works m i head areg breg size ∙ rw left refl
 
+-- ---- turns that are left alone
+
+turn_made : (body : Store → Store) (x start n : ℕ) (s : Store) → (turns body x start n s).ended ≡ None
+    → body (with_value x (index_of start n) (turns body x start n s)) ≡ turns body x start (suc n) s
+turn_made body x start n s going =
+    let t = turns body x start n s in
+    let next = body (with_value x (index_of start n) t) in
+    ap (λ o. unless_ended o next t) (sym going)
+
+turns_stay : (body : Store → Store) (x start n more count : ℕ) (s : Store) (result : List ℕ) → (turns body x start n s).ended ≡ Some result
+    → more + n ≡ count → turns body x start count s ≡ turns body x start n s
+turns_stay body x start n zero count s result ended all =
+    let same : count ≡ n = omega (arith, all) in ap (λ c. turns body x start c s) same
+turns_stay body x start n (suc more) zero s result ended all = absurd (omega (arith, all))
+turns_stay body x start n (suc more) (suc count) s result ended all =
+    let before = turns_stay body x start n more count s result ended (omega (arith, all)) in
+    let t = turns body x start count s in
+    ap (λ o. unless_ended o (body (with_value x (index_of start count) t)) t) (ap (λ t. t.ended) before ∙ ended) ∙ before
+
 -- ---- turns
 
 abbrev pub within_loop : List Entry → ℕ → List Entry
@@ -212,24 +232,28 @@ module _ (k : Knowledge) (storages : List Storage) (scope : List Entry) (unset :
       (record { small = low_word_lt (pos start +ℤ pos n); source = contains; known = contains; constant = λ c is. cc }) known
 
   -- what a turn leaves
-  turn_follows : (n : ℕ) → n < count → KnowsState k scope (turns (run k.kinds body) x start n s)
+  turn_follows : (n : ℕ) → n < count → KnowsState k scope (turns (run k.kinds body) x start n s) → (turns (run k.kinds body) x start n s).ended ≡ None
       → Follows (counted k x range) (within_loop scope x) (within_turn k body x start n s) (turns (run k.kinds body) x start (suc n) s)
-  turn_follows n below known =
-      loop.remains storages (within_loop scope x) (within_turn k body x start n s)
-      (place_taken k storages scope (entry.Value x) x (counted_fact range) takes loop.place) loop.may.sound (turn_known n below known)
+  turn_follows n below known going =
+      subst (Follows (counted k x range) (within_loop scope x) (within_turn k body x start n s)) (turn_made (run k.kinds body) x start n s going)
+      (loop.remains storages (within_loop scope x) (within_turn k body x start n s)
+      (place_taken k storages scope (entry.Value x) x (counted_fact range) takes loop.place) loop.may.sound (turn_known n below known))
 
-  turn_knows : (n : ℕ) → n < count → KnowsState k scope (turns (run k.kinds body) x start n s) → KnowsState k scope (turns (run k.kinds body) x start (suc n) s)
-  turn_knows n below known =
-      knows_outside k scope (entry.Value x) x (counted_fact range) (turns (run k.kinds body) x start (suc n) s) takes (turn_follows n below known).knows
+  turn_knows : (n : ℕ) → n < count → KnowsState k scope (turns (run k.kinds body) x start n s) → (turns (run k.kinds body) x start n s).ended ≡ None
+      → KnowsState k scope (turns (run k.kinds body) x start (suc n) s)
+  turn_knows n below known going =
+      knows_outside k scope (entry.Value x) x (counted_fact range) (turns (run k.kinds body) x start (suc n) s) takes (turn_follows n below known going).knows
 
   -- the body of a turn
-  turn_does : (n : ℕ) → n < count → KnowsState k scope (turns (run k.kinds body) x start n s)
-      → Does k.arrays begun bodied (Matches (counted k x range) storages (within_loop scope x) unset (within_turn k body x start n s))
-      (λ m end. Matches (counted k x range) storages (within_loop scope x) (unset_after (first_use body) unset) (turns (run k.kinds body) x start (suc n) s) end
-      × LeavesCounts (within_loop scope x) m end)
-  turn_does n below known =
-      loop.executes storages (within_loop scope x) unset (within_turn k body x start n s)
-      (place_taken k storages scope (entry.Value x) x (counted_fact range) takes loop.place) loop.may (turn_known n below known)
+  turn_does : (n : ℕ) → n < count → KnowsState k scope (turns (run k.kinds body) x start n s) → (turns (run k.kinds body) x start n s).ended ≡ None
+      → DoesOrEnds k.arrays begun bodied (turns (run k.kinds body) x start (suc n) s)
+      (Matches (counted k x range) storages (within_loop scope x) unset (within_turn k body x start n s))
+      (IsBehind (counted k x range) storages (within_loop scope x) (unset_after (first_use body) unset) (turns (run k.kinds body) x start (suc n) s))
+  turn_does n below known going =
+      subst (λ u. DoesOrEnds k.arrays begun bodied u (Matches (counted k x range) storages (within_loop scope x) unset (within_turn k body x start n s))
+      (IsBehind (counted k x range) storages (within_loop scope x) (unset_after (first_use body) unset) u)) (turn_made (run k.kinds body) x start n s going)
+      (loop.executes storages (within_loop scope x) unset (within_turn k body x start n s)
+      (place_taken k storages scope (entry.Value x) x (counted_fact range) takes loop.place) loop.may (turn_known n below known) going)
 
   -- a machine behind the body of a turn
   record Bodied (n left : ℕ) (m end : Machine) : Type 0 where
@@ -243,10 +267,11 @@ module _ (k : Knowledge) (storages : List Storage) (scope : List Entry) (unset :
   small_count n left all = omega (arith, all, loop.few)
 
   turn_bodied : (n left : ℕ) → n + suc left ≡ count → KnowsState k scope (turns (run k.kinds body) x start n s)
-      → Does k.arrays begun bodied (AtTurn k storages scope unset x start body s n left) (Bodied n left)
-  turn_bodied n left all known =
+      → (turns (run k.kinds body) x start n s).ended ≡ None
+      → DoesOrEnds k.arrays begun bodied (turns (run k.kinds body) x start (suc n) s) (AtTurn k storages scope unset x start body s n left) (Bodied n left)
+  turn_bodied n left all known going =
       let below : n < count = omega (arith, all) in
-      let follows = turn_follows n below known in
+      let follows = turn_follows n below known going in
       let there = declared_last scope (entry.Value x) x (value_declares x) in
       let within : x < length k.kinds = ltb-true x _ (and_first _ _ loop.new) in
       let after_set : unset_after (first_use body) unset x ≡ false = ap (λ u. u && is_nothing (first_use body x)) loop.set in
@@ -255,21 +280,21 @@ module _ (k : Knowledge) (storages : List Storage) (scope : List Entry) (unset :
       ∙ slice_same (turns (run k.kinds body) x start n s).values x (index_of start n) 0 (omega (arith, known.knows.count, within)) in
       let none : (fact_at (counted k x range) x).constant ≡ None =
       ap (λ (f : Fact). f.constant) (fact_new k scope (entry.Value x) x (counted_fact range) takes loop.place.place.facts) in
-      does_less k.arrays begun bodied _ _ (AtTurn k storages scope unset x start body s n left) _
-      (does_kept k.arrays begun bodied _ _ (turn_does n below known))
+      ends_less k.arrays begun bodied (turns (run k.kinds body) x start (suc n) s) _ _ (AtTurn k storages scope unset x start body s n left) _
+      (turn_does n below known going)
       (λ m at. matches_taken k storages scope (entry.Value x) x (index_of start n) (counted_fact range) unset unset
       (turns (run k.kinds body) x start n s) m takes loop.place.place.facts known.knows.count (λ y h. h) (λ set no. at.index) at.matches)
-      (λ m end at after.
+      (λ m end code sizes at after.
       let word : HasWord (item.Variable x) (index_of start n) end =
-      subst (λ v. HasWord (item.Variable x) v end) value (after.0.0.agrees.words x there after_set none) in
+      subst (λ v. HasWord (item.Variable x) v end) value (after.0.agrees.words x there after_set none) in
       record {
         matches = matches_outside k storages scope (entry.Value x) x (counted_fact range) (unset_after (first_use body) unset) (unset_after (first_use body) unset)
-            (turns (run k.kinds body) x start (suc n) s) m end takes (λ y h g. g) at.matches.room after.1 after.2 after.0.0;
+            (turns (run k.kinds body) x start (suc n) s) m end takes (λ y h g. g) at.matches.room code sizes after.0;
         index = word_is end.blocks (item.Variable x) 0 (index_of start n) (low_word_lt (pos start +ℤ pos n)) word;
         held = word_is end.blocks (item.Variable x) 4 (suc left) (small_count n left all)
-            (bytes_from end.blocks m.blocks (item.Variable x) 4 4 (λ i. after.0.1.counts x i there) ∙ at.count);
-        size = subst (λ z. 8 ≤ z (item.Variable x)) (sym after.2) at.size;
-        counts = counts_outside scope (entry.Value x) m end after.0.1;
+            (bytes_from end.blocks m.blocks (item.Variable x) 4 4 (λ i. after.1.counts x i there) ∙ at.count);
+        size = subst (λ z. 8 ≤ z (item.Variable x)) (sym sizes) at.size;
+        counts = counts_outside scope (entry.Value x) m end after.1;
       })
 
   -- ---- the end of a turn
@@ -365,8 +390,8 @@ module _ (k : Knowledge) (storages : List Storage) (scope : List Entry) (unset :
 
   -- ---- all turns
 
-  abbrev AfterLoop : Machine → Machine → Type 0
-  AfterLoop m end = Matches k storages scope (unset_after (first_use body) unset) (turns (run k.kinds body) x start count s) end × LeavesCounts scope m end
+  abbrev AfterTurns : ℕ → Machine → Machine → Type 0
+  AfterTurns n m end = IsBehind k storages scope (unset_after (first_use body) unset) (turns (run k.kinds body) x start n s) m end
 
   has_bodied : (m : Machine) → HasLines new_code m → HasLines bodied m
   has_bodied m has = has_first bodied new_code (turn_lines begun bodied source x) m loop.base loop.lines has
@@ -374,51 +399,79 @@ module _ (k : Knowledge) (storages : List Storage) (scope : List Entry) (unset :
   behind_all : place_behind new_code ≡ place_behind bodied + 3
   behind_all = omega (arith, loop.base, ap length loop.lines, length-append bodied.lines (turn_lines begun bodied source x))
 
-  loop_arrives : (left n : ℕ) → n + suc left ≡ count → KnowsState k scope (turns (run k.kinds body) x start n s)
-      → (m : Machine) → IsBefore k.arrays begun new_code m → AtTurn k storages scope unset x start body s n left m → Arrives new_code m AfterLoop
-  loop_arrives zero n all known m before at =
-      let a = (turn_bodied n 0 all known).arrives m
+  -- where turns are left that are not made
+  turns_left : (n left : ℕ) (m : Machine) (result : List ℕ) → left + n ≡ count → (turns (run k.kinds body) x start n s).ended ≡ Some result
+      → Stops m (HasEnded (turns (run k.kinds body) x start n s) m)
+      → Leaves (turns (run k.kinds body) x start count s).ended (turns (run k.kinds body) x start count s) new_code m (AfterTurns count)
+  turns_left n left m result all ended stops =
+      let t = turns (run k.kinds body) x start n s in
+      let same : t ≡ turns (run k.kinds body) x start count s =
+      sym (turns_stay (run k.kinds body) x start n left count s result ended all) in
+      subst (λ u. Leaves u.ended u new_code m (AfterTurns count)) same (subst (λ o. Leaves o t new_code m (AfterTurns count)) (sym ended) stops)
+
+  loop_leaves : (left n : ℕ) → n + suc left ≡ count → KnowsState k scope (turns (run k.kinds body) x start n s)
+      → (turns (run k.kinds body) x start n s).ended ≡ None
+      → (m : Machine) → IsBefore k.arrays begun new_code m → AtTurn k storages scope unset x start body s n left m
+      → Leaves (turns (run k.kinds body) x start count s).ended (turns (run k.kinds body) x start count s) new_code m (AfterTurns count)
+  loop_leaves zero n all known going m before at =
+      let t = turns (run k.kinds body) x start (suc n) s in
+      let a = (turn_bodied n 0 all known going).leaves m
       (record { place = before.place; lines = has_bodied m before.lines; served = before.served; running = before.running }) at in
-      let e = a.end in
-      let has : HasLines new_code e = λ i h. ap (λ c. slice_get c (new_code.base + i)) a.same_code ∙ before.lines i h in
-      let works : effect Lend (before_lend e) ≡ Some (last e) =
-      lend_last (before_lend e) (item.Variable x) (place_behind begun) (lend_areg e a.place) refl a.after.size a.after.held in
-      let done : suc n ≡ count = omega (arith, all) in
-      record {
-        end = last e;
-        way = leads_then {end = last e} a.way (ends e (last e) a.place a.running has works);
-        place = omega (arith, a.place, behind_all);
-        running = a.running;
-        same_code = a.same_code;
-        same_sizes = a.same_sizes;
-        after = subst (λ c. Matches k storages scope (unset_after (first_use body) unset) (turns (run k.kinds body) x start c s) (last e) × LeavesCounts scope m (last e)) done
-            (last_matches n m e a.after);
-      }
-  loop_arrives (suc left) n all known m before at =
-      let a = (turn_bodied n (suc left) all known).arrives m
+      by_end t.ended refl a
+    where
+      by_end : (o : Option (List ℕ)) → (turns (run k.kinds body) x start (suc n) s).ended ≡ o
+          → Leaves o (turns (run k.kinds body) x start (suc n) s) bodied m (Bodied n 0)
+          → Leaves (turns (run k.kinds body) x start count s).ended (turns (run k.kinds body) x start count s) new_code m (AfterTurns count)
+      by_end (Some result) ended stops = turns_left (suc n) 0 m result (omega (arith, all)) ended stops
+      by_end None goes a =
+          let e = a.end in
+          let has : HasLines new_code e = λ i h. ap (λ c. slice_get c (new_code.base + i)) a.same_code ∙ before.lines i h in
+          let works : effect Lend (before_lend e) ≡ Some (last e) =
+          lend_last (before_lend e) (item.Variable x) (place_behind begun) (lend_areg e a.place) refl a.after.size a.after.held in
+          let done : suc n ≡ count = omega (arith, all) in
+          let arrives : Arrives new_code m (AfterTurns (suc n)) = record {
+            end = last e;
+            way = leads_then {end = last e} a.way (ends e (last e) a.place a.running has works);
+            place = omega (arith, a.place, behind_all);
+            running = a.running;
+            same_code = a.same_code;
+            same_sizes = a.same_sizes;
+            after = last_matches n m e a.after;
+          } in
+          subst (λ c. Leaves (turns (run k.kinds body) x start c s).ended (turns (run k.kinds body) x start c s) new_code m (AfterTurns c)) done
+          (subst (λ o. Leaves o (turns (run k.kinds body) x start (suc n) s) new_code m (AfterTurns (suc n))) (sym goes) arrives)
+  loop_leaves (suc left) n all known going m before at =
+      let t = turns (run k.kinds body) x start (suc n) s in
+      let a = (turn_bodied n (suc left) all known going).leaves m
       (record { place = before.place; lines = has_bodied m before.lines; served = before.served; running = before.running }) at in
-      let e = a.end in
-      let next : Machine = again n left e in
-      let has : HasLines new_code e = λ i h. ap (λ c. slice_get c (new_code.base + i)) a.same_code ∙ before.lines i h in
-      let b = loop_arrives left (suc n) (omega (arith, all)) (turn_knows n (omega (arith, all)) known) next
-      (record {
-        place = refl;
-        lines = has;
-        served = λ i line h. rw a.same_sizes (before.served i line (ap (λ c. slice_get c i) (sym a.same_code) ∙ h));
-        running = a.running;
-      }) (again_at n left m e a.after) in
-      record {
-        end = b.end;
-        way = leads_then {end = b.end} a.way (leads_then {end = b.end} (ends e next a.place a.running has (again_works n left m e all a.place a.after)) b.way);
-        place = b.place;
-        running = b.running;
-        same_code = b.same_code ∙ a.same_code;
-        same_sizes = b.same_sizes ∙ a.same_sizes;
-        after = (
-          b.after.0,
-          counts_then scope m next b.end (counts_then scope m e next a.after.counts (counts_of_items scope 0 e next (again_leaves n left e))) b.after.1,
-        );
-      }
+      by_end t.ended refl (loop_leaves left (suc n) (omega (arith, all)) (turn_knows n (omega (arith, all)) known going)) a
+    where
+      by_end : (o : Option (List ℕ)) → (turns (run k.kinds body) x start (suc n) s).ended ≡ o
+          → ((turns (run k.kinds body) x start (suc n) s).ended ≡ None
+          → (next : Machine) → IsBefore k.arrays begun new_code next → AtTurn k storages scope unset x start body s (suc n) left next
+          → Leaves (turns (run k.kinds body) x start count s).ended (turns (run k.kinds body) x start count s) new_code next (AfterTurns count))
+          → Leaves o (turns (run k.kinds body) x start (suc n) s) bodied m (Bodied n (suc left))
+          → Leaves (turns (run k.kinds body) x start count s).ended (turns (run k.kinds body) x start count s) new_code m (AfterTurns count)
+      by_end (Some result) ended more stops = turns_left (suc n) (suc left) m result (omega (arith, all)) ended stops
+      by_end None goes more a =
+          let e = a.end in
+          let next : Machine = again n left e in
+          let has : HasLines new_code e = λ i h. ap (λ c. slice_get c (new_code.base + i)) a.same_code ∙ before.lines i h in
+          let u = turns (run k.kinds body) x start count s in
+          leaves_behind u.ended u new_code new_code m next (AfterTurns count) (AfterTurns count) refl
+          (leads_then {end = next} a.way (ends e next a.place a.running has (again_works n left m e all a.place a.after)))
+          a.same_code a.same_sizes a.after.counts.sent
+          (λ end code sizes after. (
+            after.0,
+            counts_then scope m next end (counts_then scope m e next a.after.counts (counts_of_items scope 0 e next (again_leaves n left e))) after.1,
+          ))
+          (more goes next
+          (record {
+            place = refl;
+            lines = has;
+            served = λ i line h. rw a.same_sizes (before.served i line (ap (λ c. slice_get c i) (sym a.same_code) ∙ h));
+            running = a.running;
+          }) (again_at n left m e a.after))
 
 -- ---- loops
 
@@ -427,19 +480,20 @@ some_none e = cc
 
 pub repeat_none : (k : Knowledge) (code : Lines) (x start count : ℕ) (body : Process) → count ≡ 0 → Repeats k code code x start count body
 repeat_none k code x start count body none = subst (λ c. Repeats k code code x start c body) (sym none)
-    (λ p storages scope unset s place may known.
-    does_less k.arrays code code _ _ _ _ (does_nothing k.arrays code) (λ m said. tt)
+    (λ p storages scope unset s place may known going.
+    does_going k.arrays code code s _ _ going
+    (does_less k.arrays code code _ _ _ _ (does_nothing k.arrays code) (λ m said. tt)
     (λ m end matches is. (
       matches_fewer k storages scope unset (unset_after (first_use (process.Repeat' x start 0 p body)) unset) s end (λ y h. and_true (unset y) h)
           (subst (Matches k storages scope unset s) (sym is) matches),
       record { counts = λ x i there. ap (λ z. z.blocks (item.Variable x) (4 + i)) is; to_come = ap (λ z. z.to_come) is; sent = ap (λ z. z.sent) is },
-    )))
+    ))))
 
 -- one turn: the index is a constant
 pub repeat_once : (k : Knowledge) (old new_code : Lines) (x start count : ℕ) (body : Process) → count ≡ 1 → start < 2 ^ 32
     → Executes (with_fact x (constant_fact start) k) old new_code body → Repeats k old new_code x start count body
 repeat_once k old new_code x start count body one small within = subst (λ c. Repeats k old new_code x start c body) (sym one)
-    (λ p storages scope unset s place may known.
+    (λ p storages scope unset s place may known going.
     let e = entry.Value x in
     let wide = scope ++ e ∷ [] in
     let fact = constant_fact start in
@@ -451,17 +505,18 @@ repeat_once k old new_code x start count body one small within = subst (λ c. Re
       assigned = may.assigned;
       declared = λ y h. in_longer (is_variable y) scope e (may.declared y h);
     } in
-    does_less k.arrays old new_code _ _ (Matches k storages scope unset s) _
-    (does_kept k.arrays old new_code _ _
+    subst (λ u. DoesOrEnds k.arrays old new_code u (Matches k storages scope unset s)
+    (IsBehind k storages scope (unset_after (first_use (process.Repeat' x start 1 p body)) unset) u)) (turn_made (run k.kinds body) x start 0 s going)
+    (ends_less k.arrays old new_code (run k.kinds body (with_value x w s)) _ _ (Matches k storages scope unset s) _
     (within storages wide unset (with_value x w s) (place_taken k storages scope e x fact takes place) may2
-    (knows_taken k scope e x w fact s takes place.place.facts (subst (FitsFact fact) (sym (index_first start small)) (constant_fits start small)) known)))
+    (knows_taken k scope e x w fact s takes place.place.facts (subst (FitsFact fact) (sym (index_first start small)) (constant_fits start small)) known) going)
     (λ m matches. matches_taken k storages scope e x w fact unset unset s m takes place.place.facts known.knows.count (λ y h. h)
     (λ set none. absurd (some_none none)) matches)
-    (λ m end matches after. (
+    (λ m end code sizes matches after. (
       matches_outside k storages scope e x fact (unset_after (first_use body) unset) (unset_after (first_use (process.Repeat' x start 1 p body)) unset)
-          (run k.kinds body (with_value x w s)) m end takes (λ y there h. h) matches.room after.1 after.2 after.0.0,
-      counts_outside scope e m end after.0.1,
-    )))
+          (run k.kinds body (with_value x w s)) m end takes (λ y there h. h) matches.room code sizes after.0,
+      counts_outside scope e m end after.1,
+    ))))
 
 not_unset : (k : Knowledge) (scope : List Entry) (unset : ℕ → Bool) (x : ℕ) → IsTrue (is_new_name (length k.kinds) scope x)
     → (unset x ≡ true → IsTrue (list_any (is_variable x) scope)) → unset x ≡ false
@@ -495,7 +550,7 @@ pub repeat_executes : (k : Knowledge) (old begun bodied new_code : Lines) (sourc
     → Begins old begun x start (suc left) → Remains (counted k x range) body → Executes (counted k x range) begun bodied body
     → new_code.base ≡ bodied.base → new_code.lines ≡ bodied.lines ++ turn_lines begun bodied source x
     → Repeats k old new_code x start (suc left) body
-repeat_executes k old begun bodied new_code source x start left range body small contains begins remains within base lines p storages scope unset s place may known =
+repeat_executes k old begun bodied new_code source x start left range body small contains begins remains within base lines p storages scope unset s place may known going =
     let count = suc left in
     let wide = within_loop scope x in
     let sound = may.sound in
@@ -523,7 +578,7 @@ repeat_executes k old begun bodied new_code source x start left range body small
       executes = within;
     } in
     let b = begins k.arrays in
-    let w = turn_does k storages scope unset x start count range body begun bodied new_code source s loop 0 (omega arith) known in
+    let w = turn_does k storages scope unset x start count range body begun bodied new_code source s loop 0 (omega arith) known going in
     let rest = w.more ++ turn_lines begun bodied source x in
     let all : new_code.lines ≡ begun.lines ++ rest =
     lines ∙ ap (λ ls. ls ++ turn_lines begun bodied source x) w.lines ∙ append_assoc begun.lines w.more (turn_lines begun bodied source x) in
@@ -531,7 +586,7 @@ repeat_executes k old begun bodied new_code source x start left range body small
       base = base ∙ w.base ∙ b.base;
       more = b.more ++ rest;
       lines = all ∙ ap (λ ls. ls ++ rest) b.lines ∙ append_assoc old.lines b.more rest;
-      arrives = λ m before matches.
+      leaves = λ m before matches.
           let a = b.arrives m (record {
             place = before.place;
             lines = has_first begun new_code rest m (base ∙ w.base) all before.lines;
@@ -556,27 +611,21 @@ repeat_executes k old begun bodied new_code source x start left range body small
             count = ap (λ z. bytes_at z.blocks (item.Variable x) 4 4) at ∙ count_written (item.Variable x) count (with_word (item.Variable x) 0 start m.blocks);
             size = subst (λ (z : Item → ℕ). 8 ≤ z (item.Variable x)) (sym a.same_sizes) a.after.1;
           } in
-          let c = loop_arrives k storages scope unset x start count range body begun bodied new_code source s loop left 0 (omega arith) known a.end
+          let c = loop_leaves k storages scope unset x start count range body begun bodied new_code source s loop left 0 (omega arith) known going a.end
           (record {
             place = a.place;
             lines = λ i h. ap (λ c. slice_get c (new_code.base + i)) a.same_code ∙ before.lines i h;
             served = λ i line h. rw a.same_sizes (before.served i line (ap (λ c. slice_get c i) (sym a.same_code) ∙ h));
             running = a.running;
           }) start_at in
-          record {
-            end = c.end;
-            way = leads_then {end = c.end} a.way c.way;
-            place = c.place;
-            running = c.running;
-            same_code = c.same_code ∙ a.same_code;
-            same_sizes = c.same_sizes ∙ a.same_sizes;
-            after = (
-              matches_fewer k storages scope (unset_after (first_use body) unset) (unset_after (first_use (process.Repeat' x start count p body)) unset)
-                  (turns (run k.kinds body) x start count s) c.end
-                  (λ y h. ap (λ f. unset y && is_nothing f) (sym (same_first y)) ∙ h) c.after.0,
-              counts_then scope m a.end c.end (counts_of_items scope 0 m a.end leaves) c.after.1,
-            );
-          };
+          let u = turns (run k.kinds body) x start count s in
+          leaves_behind u.ended u new_code new_code m a.end (IsBehind k storages scope (unset_after (first_use body) unset) u)
+          (IsBehind k storages scope (unset_after (first_use (process.Repeat' x start count p body)) unset) u) refl a.way a.same_code a.same_sizes leaves.sent
+          (λ end code sizes after. (
+            matches_fewer k storages scope (unset_after (first_use body) unset) (unset_after (first_use (process.Repeat' x start count p body)) unset)
+                u end (λ y h. ap (λ f. unset y && is_nothing f) (sym (same_first y)) ∙ h) after.0,
+            counts_then scope m a.end end (counts_of_items scope 0 m a.end leaves) after.1,
+          )) c;
     }
 
 loop_end_is : (begun bodied : Lines) (source x : ℕ) (ended : Turns) → ended.index ≡ x → ended.source ≡ source → ended.head ≡ place_behind begun

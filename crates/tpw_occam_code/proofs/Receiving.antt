@@ -26,9 +26,11 @@ use Rattle.tpw_occam_symbolic.specs.Blocks.{Blocks, is_item, with_bytes, bytes_a
 use Rattle.tpw_occam_symbolic.specs.Symbolic.{Machine, number, address, push, with_blocks, at_place, performed, effect, nowhere, onward}
 use Rattle.tpw_occam_symbolic.specs.Leading.{Serves, HasConstants, HasArray, HasWord, Makes}
 use Rattle.tpw_occam_expressions.specs.Agreement.{Knowledge, fact_at}
-use Rattle.tpw_occam_code.specs.Executing.{Matches, none_unset}
+use Rattle.tpw_occam_code.specs.Executing.{Matches, Finishes, none_unset}
 use Rattle.tpw_occam_symbolic.specs.Leading.{cleared_bytes}
-use Rattle.tpw_occam_code.specs.Starting.{IsInput, Inputs, Receives, Outputs, Sends}
+use Rattle.tpw_occam_code.specs.declared.messages.Channel.TheVariants.{Result}
+use Rattle.tpw_occam_code.specs.Sending.{SendsMessage}
+use Rattle.tpw_occam_code.specs.Starting.{IsInput, Inputs, Receives}
 use Rattle.tpw_occam_symbolic.proofs.Simulation.{is_item-self}
 use Rattle.tpw_occam_expressions.proofs.Keeping.{other_item}
 use Rattle.tpw_occam_expressions.proofs.Computing.{bytes_same, word_same}
@@ -237,11 +239,11 @@ receives_array k old new a bytes is inputs storages scope s packet stands there 
 abbrev stopped_at : ℕ → Machine → Machine
 stopped_at place m = record (at_place place m) { stopped = true }
 
-pub sends : (k : Knowledge) (old between new : Lines) (source : ℕ) (message : Message) → Outputs k old between message
-    → new ≡ followed_by between (line_of source (Plain Stopp) ∷ []) → Sends k old new message
+pub finishes : (k : Knowledge) (old between new : Lines) (source : ℕ) (message : Message) → SendsMessage k old between Result message
+    → new ≡ followed_by between (line_of source (Plain Stopp) ∷ []) → Finishes k old new message
 unfolding performed effect
-sends k old between new source message outputs is storages scope s stands sound knows =
-    let does = outputs storages scope s stands sound knows in
+finishes k old between new source message sends is storages scope unset s place may known going =
+    let does = sends storages scope unset s place may known in
     let line = line_of source (Plain Stopp) in
     let base : new.base ≡ between.base = ap (λ l. l.base) is in
     let lines : new.lines ≡ between.lines ++ line ∷ [] = ap (λ l. l.lines) is in
@@ -250,7 +252,7 @@ sends k old between new source message outputs is storages scope s stands sound 
       base = base ∙ does.base;
       more = does.more ++ line ∷ [];
       lines = lines ∙ ap (λ ls. ls ++ line ∷ []) does.lines ∙ append_assoc old.lines does.more (line ∷ []);
-      stops = λ m before matches.
+      leaves = λ m before matches.
           let a = does.arrives m record {
             place = before.place;
             lines = has_first between new (line ∷ []) m base lines before.lines;
@@ -265,6 +267,6 @@ sends k old between new source message outputs is storages scope s stands sound 
             last = stopped_at (a.end.place + 1) a.end;
             way = leads_then a.way (onward a.end (stopped_at (a.end.place + 1) a.end) (stopped_at (a.end.place + 1) a.end) (step_is a.end line a.running at) (nowhere _));
             stopped = refl;
-            after = record { sent = a.after.sent; flag = a.after.flag; traced = a.after.traced };
+            after = record { sent = a.after.sent; flag = a.after.matches.flag; traced = a.after.traced ∙ matches.traced };
           };
     }

@@ -24,7 +24,7 @@ use Rattle.tpw_occam_core.specs.declared.process.Process.{Process}
 use Rattle.tpw_occam_core.specs.declared.process.Process.TheVariants as process
 use Rattle.tpw_occam_core.specs.Arithmetic.{pure, subscript}
 use Rattle.tpw_occam_core.specs.Arrays.{element, kept, written, with_element}
-use Rattle.tpw_occam_core.specs.Meaning.{Store, value_of, both, either, with_value, with_array, array_of, kind_of, flagged, run, chosen, turns, subscript_of, stored, assigned, traced}
+use Rattle.tpw_occam_core.specs.Meaning.{Store, value_of, both, either, with_value, with_array, array_of, kind_of, flagged, run, chosen, turns, subscript_of, stored, assigned, traced, finished, unless_ended}
 use Rattle.tpw_occam_core.specs.Sound.{is_name, is_variable, is_array, is_new_name, is_new_array, is_written, bytes_of, storage_of, is_sound_expression, is_sound_target, is_sound_assignment, is_sound_process, are_turns}
 use Rattle.tpw_occam_expressions.specs.declared.emitter.Fact.{Fact}
 use Rattle.tpw_occam_expressions.specs.declared.range.Range.{Range}
@@ -271,6 +271,10 @@ follows_assigned k stores scope (a ∷ more) s place sound known =
 
 -- ---- processes
 
+unless_holds : (P : Store → Type 0) (o : Option (List ℕ)) (next here : Store) → P next → P here → P (unless_ended o next here)
+unless_holds P None next here one two = one
+unless_holds P (Some result) next here one two = two
+
 pub assign_remains : (k : Knowledge) (list : List Assignment)
     → (storages : List Storage) (scope : List Entry) (s : Store) → IsProcessPlace k storages scope
     → IsTrue (list_all (is_sound_assignment (length k.kinds) storages scope) list) → KnowsState k scope s → Follows k scope s (assigned k.kinds list s)
@@ -284,6 +288,9 @@ stop_remains k storages scope s place sound known = follows_flags k scope s s (f
 
 pub trace_remains : (k : Knowledge) (m : Message) → Remains k (process.Trace m)
 trace_remains k m storages scope s place sound known = follows_flags k scope s s (traced m s) refl refl (follows_same k scope s known)
+
+pub finish_remains : (k : Knowledge) (m : Message) → Remains k (process.Finish m)
+finish_remains k m storages scope s place sound known = follows_flags k scope s s (finished m s) refl refl (follows_same k scope s known)
 
 bytes_at_storage : (stores : List Storage) (a : ℕ) → slice_index (map bytes_of stores) a ≡ bytes_of (storage_of stores a)
 bytes_at_storage [] a = refl
@@ -305,8 +312,11 @@ pub sequence_remains : (k : Knowledge) (p : Place) (first : Process) (q : Place)
     → Remains k (process.Sequence' p first q second)
 sequence_remains k p first q second one two storages scope s place sound known =
     let f = one storages scope s place (and_first _ _ sound) known in
-    follows_then k scope s (run k.kinds first s) (run k.kinds second (run k.kinds first s)) f
-    (two storages scope (run k.kinds first s) place (and_second (is_sound_process (length k.kinds) storages scope first) _ sound) f.knows)
+    let t = run k.kinds first s in
+    unless_holds (Follows k scope s) t.ended (run k.kinds second t) t
+    (follows_then k scope s t (run k.kinds second t) f
+    (two storages scope t place (and_second (is_sound_process (length k.kinds) storages scope first) _ sound) f.knows))
+    f
 
 pub variable_remains : (k : Knowledge) (x : ℕ) (p : Place) (body : Process) → Remains (with_fact x (fact_of_kind (kind_of k.kinds x)) k) body
     → Remains k (process.Variable' x p body)
@@ -419,10 +429,13 @@ turns_follow k stores scope x start count fact body s place new sound fits withi
     let takes = value_takes k scope x fact new in
     let t = turns (run k.kinds body) x start n s in
     let before = turns_follow k stores scope x start count fact body s place new sound fits within known n (omega (arith, less)) in
-    follows_then k scope s t (turns (run k.kinds body) x start (suc n) s) before
-    (follows_outside k scope (entry.Value x) x (index_of start n) fact t (with_value x (index_of start n) t) (turns (run k.kinds body) x start (suc n) s) takes refl
+    let turn = run k.kinds body (with_value x (index_of start n) t) in
+    unless_holds (Follows k scope s) t.ended turn t
+    (follows_then k scope s t turn before
+    (follows_outside k scope (entry.Value x) x (index_of start n) fact t (with_value x (index_of start n) t) turn takes refl
     (within stores (scope ++ entry.Value x ∷ []) (with_value x (index_of start n) t) (place_taken k stores scope (entry.Value x) x fact takes place) sound
-    (knows_taken k scope (entry.Value x) x (index_of start n) fact t takes place.place.facts (fits n (omega (arith, less))) before.knows)))
+    (knows_taken k scope (entry.Value x) x (index_of start n) fact t takes place.place.facts (fits n (omega (arith, less))) before.knows))))
+    before
 
 pub once_remains : (k : Knowledge) (x start count : ℕ) (body : Process) → count ≡ 1 → start < 2 ^ 32 → Remains (with_fact x (constant_fact start) k) body
     → RepeatsKnown k x start count body

@@ -33,7 +33,6 @@ use Rattle.tpw_occam_symbolic.specs.Leading.{HasStep}
 use Rattle.tpw_occam_code.specs.Moving.{Provides}
 use Rattle.tpw_occam_code.specs.Sending.{sent_with, traced_with, HasSent, SendsBytes, KeepsValue, HasSentMessage, SendsMessage, HasRoom, address_of}
 use Rattle.tpw_occam_code.specs.Executing.{Traces}
-use Rattle.tpw_occam_code.specs.Starting.{Outputs}
 use Rattle.tpw_occam_symbolic.proofs.Leading.{does_placed, does_within, does_step, does_both, does_less, does_nothing}
 use Rattle.tpw_occam_expressions.proofs.Computing.{agrees_after, leaves_then, in_scope, set_name}
 use Rattle.tpw_occam_expressions.proofs.Keeping.{does_save}
@@ -329,15 +328,3 @@ traces k old new message sends storages scope unset s place may knows =
 pub has_none : {A : Type 0} (o : Option A) → is_some o ≡ false → o ≡ None
 has_none None h = refl
 has_none (Some x) h = absurd (let e : ◌≡◌ {A = Bool} true false = h in cc)
-
--- a result
-pub outputs : (k : Knowledge) (old new : Lines) (message : Message) → SendsMessage k old new Result message → Outputs k old new message
-outputs k old new message sends storages scope s place sound knows =
-    does_less k.arrays old new _ _ _ _
-    (sends storages scope none_unset s place (record {
-      sound = sound;
-      assigned = λ x e. absurd (let not : ◌≡◌ {A = Bool} false true = e in cc);
-      declared = λ x e. absurd (let not : ◌≡◌ {A = Bool} false true = e in cc);
-    }) knows)
-    (λ m matches. matches)
-    (λ m end matches sent. record { sent = sent.sent; flag = sent.matches.flag; traced = sent.traced ∙ matches.traced })

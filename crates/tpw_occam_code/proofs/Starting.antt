@@ -12,7 +12,7 @@ use Rattle.tpw_asm.specs.declared.program.Program.{Program}
 use Rattle.tpw_asm.specs.Layout.{addresses_from}
 use Rattle.tpw_asm.specs.Assembly.{IsAssembly}
 use Rattle.tpw_occam_core.specs.declared.worker.Worker.{Worker}
-use Rattle.tpw_occam_core.specs.Meaning.{meaning, meant, most_traced, first, after, bytes_of}
+use Rattle.tpw_occam_core.specs.Meaning.{meaning, meant, most_traced, first, at_end, result_of}
 use Rattle.tpw_occam_core.specs.Sound.{is_sound, are_declared}
 use Rattle.tpw_occam_symbolic.specs.declared.items.Item.TheVariants.{Variable, Constant}
 use Rattle.tpw_occam_symbolic.specs.declared.items.Placed.{Placed}
@@ -24,7 +24,8 @@ use Rattle.tpw_occam_symbolic.specs.Program.{IsPacket, GivesMeaning, Means}
 use Rattle.tpw_occam_symbolic.proofs.SimulationStart.{Gives}
 use Rattle.tpw_occam_symbolic.proofs.Sizes.{sound_declared}
 use Rattle.tpw_occam_symbolic.proofs.Beginning.{all_get, index_zeros, first_machine, machine_of, built_carries}
-use Rattle.tpw_occam_code.specs.Starting.{Begins, IsSent, Works}
+use Rattle.tpw_occam_code.specs.Executing.{HasEnded}
+use Rattle.tpw_occam_code.specs.Starting.{Begins, Works}
 
 -- ---- the first machine
 
@@ -63,18 +64,18 @@ first_begins w code placed program addresses wptr packet declared base built = r
 
 -- ---- runs
 
-gives_meaning : (w : Worker) (packet : List ℕ) (run : Run) (first last : Machine) → first.sent ≡ [] → IsSent w.send (after w packet) first last → Gives run last
+gives_meaning : (w : Worker) (packet : List ℕ) (run : Run) (first last : Machine) → first.sent ≡ [] → HasEnded (at_end w packet) first last → Gives run last
     → GivesMeaning run (meaning w packet)
 unfolding meaning
-gives_meaning w packet run first last nothing sent gives = by_test (nat_lt most_traced (length (after w packet).traced)) refl
+gives_meaning w packet run first last nothing sent gives = by_test (nat_lt most_traced (length (at_end w packet).traced)) refl
   where
-    by_test : (b : Bool) → nat_lt most_traced (length (after w packet).traced) ≡ b
-        → GivesMeaning run (if b then None else Some (meant w.send (after w packet)))
+    by_test : (b : Bool) → nat_lt most_traced (length (at_end w packet).traced) ≡ b
+        → GivesMeaning run (if b then None else Some (meant (at_end w packet)))
     by_test true e =
-        let more = ltb-true most_traced (length (after w packet).traced) e in
+        let more = ltb-true most_traced (length (at_end w packet).traced) e in
         subst (λ t. most_traced < length t) (sym (gives.trace ∙ sent.traced)) more
     by_test false e = (
-      gives.result ∙ sent.sent ∙ ap (λ s. s ++ bytes_of w.send (after w packet)) nothing,
+      gives.result ∙ sent.sent ∙ ap (λ s. s ++ result_of (at_end w packet).ended) nothing,
       gives.error ∙ sent.flag,
       gives.trace ∙ sent.traced,
     )

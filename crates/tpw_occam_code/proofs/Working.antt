@@ -17,21 +17,20 @@ use Rattle.tpw_occam_core.specs.declared.worker.Place.TheVariants as place
 use Rattle.tpw_occam_core.specs.declared.worker.Worker.{Worker}
 use Rattle.tpw_occam_core.specs.declared.process.Process.{Process}
 use Rattle.tpw_occam_core.specs.Arrays.{element}
-use Rattle.tpw_occam_core.specs.Meaning.{Store, first, first_bytes, received, after, run, kind_of, bytes_of}
-use Rattle.tpw_occam_core.specs.Sound.{is_sound, is_sound_process, is_sound_place, are_declared, is_word, is_sized, globals, is_variable, is_name, is_array, bytes_of as size_of}
+use Rattle.tpw_occam_core.specs.Meaning.{Store, first, first_bytes, received, after, at_end, finished, run, kind_of}
+use Rattle.tpw_occam_core.specs.Sound.{is_sound, is_sound_process, is_sound_message, is_sound_place, are_declared, is_word, is_sized, globals, is_variable, is_name, is_array, bytes_of as size_of}
 use Rattle.tpw_occam_symbolic.specs.Program.{place_bytes}
 use Rattle.tpw_occam_symbolic.specs.Code.{Lines, none_at}
 use Rattle.tpw_occam_symbolic.specs.Symbolic.{Machine}
-use Rattle.tpw_occam_symbolic.specs.Leading.{Does}
 use Rattle.tpw_occam_expressions.specs.Agreement.{Knowledge, fact_at, fact_of_kind, any_word, FitsFact}
-use Rattle.tpw_occam_code.specs.Executing.{IsProcessPlace, MayRun, KnowsState, Matches, Executes, first_use, none_unset}
+use Rattle.tpw_occam_code.specs.Executing.{IsProcessPlace, MayRun, KnowsState, Matches, Stops, HasEnded, DoesOrEnds, Finishes, Executes, first_in_message, first_use, none_unset}
 use Rattle.tpw_occam_expressions.specs.Agreement.{knowledge_of}
-use Rattle.tpw_occam_code.specs.Starting.{FitsPlace, IsInScope, Receives, DoesLast, Sends, Begins, IsSent, Stops, Works}
+use Rattle.tpw_occam_code.specs.Starting.{FitsPlace, IsInScope, Receives, Begins, Works}
 use Rattle.tpw_occam_expressions.proofs.Ranges.{full_contains}
 use Rattle.tpw_occam_symbolic.proofs.Beginning.{index_zeros}
 use Rattle.tpw_occam_symbolic.proofs.Sizes.{size_at, sound_declared, sound_message}
 use Rattle.tpw_occam_symbolic.proofs.Sizes.{and_first, and_second}
-use Rattle.tpw_occam_symbolic.proofs.Leading.{leads_then, has_first, does_both}
+use Rattle.tpw_occam_code.proofs.Ending.{does_then, ends_both, has_stopped, ends_at_last}
 
 -- what is known of a state is known of what a process makes of it
 abbrev pub KnowsAfter : Knowledge → Process → Type 0
@@ -251,9 +250,16 @@ zeros_fit storages p = record {
   bytes = λ i d h. rw (get_or-replicate (place_bytes storages p) i 0 d (omega (arith, h, length-replicate {A = ℕ} (place_bytes storages p) 0))) (omega arith);
 }
 
+received_stays : (p : Place) (packet : List ℕ) (s : Store) → (received p packet s).ended ≡ s.ended
+received_stays (place.Variable x) packet s = refl
+received_stays (place.Array a) packet s = refl
+
+some_none : {result : List ℕ} → ◌≡◌ {A = Option (List ℕ)} (Some result) None → ⊥
+some_none e = cc
+
 module _ (w : Worker) (one two three : Lines) (remains : KnowsAfter (knowledge_of w) w.body) (sound : IsTrue (is_sound w))
     (receives : Receives (knowledge_of w) (none_at 0) one w.receive) (executes : Executes (knowledge_of w) one two w.body)
-    (sends : Sends (knowledge_of w) two three w.send) where
+    (finishes : Finishes (knowledge_of w) two three w.send) where
   stands : IsProcessPlace (knowledge_of w) w.arrays.items (globals w)
   stands = first_place w (sound_declared w sound)
 
@@ -263,59 +269,48 @@ module _ (w : Worker) (one two three : Lines) (remains : KnowsAfter (knowledge_o
   runs : MayRun (globals w) none_unset (is_sound_process (length w.variables.items) w.arrays.items (globals w) w.body) (first_use w.body)
   runs = record { sound = body; assigned = λ x unset. absurd (false_true unset); declared = λ x unset. absurd (false_true unset) }
 
+  sends : MayRun (globals w) none_unset (is_sound_message (length w.variables.items) w.arrays.items (globals w) w.send) (first_in_message w.send)
+  sends = record { sound = sound_message w sound; assigned = λ x unset. absurd (false_true unset); declared = λ x unset. absurd (false_true unset) }
+
   module _ (packet : List ℕ) (fits : FitsPlace w.arrays.items w.receive packet) where
+    going : (received w.receive packet (first w)).ended ≡ None
+    going = received_stays w.receive packet (first w)
+
     knows_before : KnowsState (knowledge_of w) (globals w) (received w.receive packet (first w))
     knows_before = received_knows (knowledge_of w) w.arrays.items (globals w) w.receive packet (first w) stands (in_scope w sound) fits (first_knows w (has_bytes w (sound_declared w sound)))
 
     knows_after : KnowsState (knowledge_of w) (globals w) (after w packet)
     knows_after = remains w.arrays.items (globals w) (received w.receive packet (first w)) stands body knows_before
 
-    -- the code before the result
-    does : Does (knowledge_of w).arrays (none_at 0) two
+    -- the code before the last message
+    does : DoesOrEnds (knowledge_of w).arrays (none_at 0) two (after w packet)
         (λ m. Matches (knowledge_of w) w.arrays.items (globals w) none_unset (first w) m × (m.to_come ≡ packet))
         (λ m end. Matches (knowledge_of w) w.arrays.items (globals w) none_unset (after w packet) end × (end.sent ≡ m.sent))
     does =
-        does_both (knowledge_of w).arrays (none_at 0) one two _ _ _ _ _
+        does_then (knowledge_of w).arrays (none_at 0) one two (after w packet) _ _ _ _ _
         (receives w.arrays.items (globals w) (first w) packet stands (in_scope w sound) fits (first_knows w (has_bytes w (sound_declared w sound))))
-        (executes w.arrays.items (globals w) none_unset (received w.receive packet (first w)) stands runs knows_before)
-        (λ m middle said after. after.0)
-        (λ m middle end said after then. (then.0, then.1.sent ∙ after.1))
+        (executes w.arrays.items (globals w) none_unset (received w.receive packet (first w)) stands runs knows_before going)
+        (λ m middle said after code sizes. after.0)
+        (λ m middle said after. after.1)
+        (λ m middle end said after then code sizes. (then.0, then.1.sent ∙ after.1))
 
-    sent : DoesLast (knowledge_of w).arrays two three (Matches (knowledge_of w) w.arrays.items (globals w) none_unset (after w packet))
-        (IsSent w.send (after w packet))
-    sent = sends w.arrays.items (globals w) (after w packet) stands (sound_message w sound) knows_after
+    -- .. and with it
+    works : DoesOrEnds (knowledge_of w).arrays (none_at 0) three (at_end w packet)
+        (λ m. Matches (knowledge_of w) w.arrays.items (globals w) none_unset (first w) m × (m.to_come ≡ packet)) (λ m end. Unit {0})
+    works =
+        let lines = finishes w.arrays.items (globals w) none_unset (received w.receive packet (first w)) stands sends knows_before going in
+        ends_both (knowledge_of w).arrays (none_at 0) two three (after w packet) (finished w.send (after w packet)) _ _ _ _ (λ u m end. Unit {0}) does
+        (λ going. finishes w.arrays.items (globals w) none_unset (after w packet) stands sends knows_after going)
+        lines.base lines.more lines.lines (λ m middle said after. after.0) (λ m middle said after. after.1) (λ m middle end said after then. tt)
 
-    stops : (m : Machine) → Begins w three packet m → Stops m (IsSent w.send (after w packet) m)
+    stops : (m : Machine) → Begins w three packet m → Stops m (HasEnded (at_end w packet) m)
     stops m begins =
-        let last = sent in
-        let a = does.arrives m record {
-          place = begins.before.place;
-          lines = has_first two three last.more m last.base last.lines begins.before.lines;
-          served = begins.before.served;
-          running = begins.before.running;
-        } (begins.matches, begins.to_come) in
-        let b = last.stops a.end record {
-          place = a.place;
-          lines = λ i h. ap (λ c. slice_get c (three.base + i)) a.same_code ∙ begins.before.lines i h;
-          served = λ i line h. rw a.same_sizes (begins.before.served i line (ap (λ c. slice_get c i) (sym a.same_code) ∙ h));
-          running = a.running;
-        } a.after.0 in
-        record {
-          last = b.last;
-          way = leads_then a.way b.way;
-          stopped = b.stopped;
-          after = record {
-            sent = b.after.sent ∙ ap (λ t. t ++ bytes_of w.send (after w packet)) a.after.1;
-            flag = b.after.flag;
-            traced = b.after.traced;
-          };
-        }
+        has_stopped (at_end w packet) three m (λ m end. Unit {0})
+        (ends_at_last (after w packet).ended (after w packet) (finished w.send (after w packet)) refl some_none)
+        (works.leaves m begins.before (begins.matches, begins.to_come))
 
   pub code_works : Works w three
   code_works = record {
-    base =
-        let packet = replicate (place_bytes w.arrays.items w.receive) 0 in
-        let fits = zeros_fit w.arrays.items w.receive in
-        (sent packet fits).base ∙ (does packet fits).base;
+    base = (works (replicate (place_bytes w.arrays.items w.receive) 0) (zeros_fit w.arrays.items w.receive)).base;
     stops = λ packet fits m begins. stops packet fits m begins;
   }

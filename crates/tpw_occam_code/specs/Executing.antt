@@ -14,7 +14,7 @@ use Rattle.tpw_occam_core.specs.declared.process.Message.{Message}
 use Rattle.tpw_occam_core.specs.declared.process.Message.TheVariants as message
 use Rattle.tpw_occam_core.specs.declared.process.Process.{Process}
 use Rattle.tpw_occam_core.specs.declared.process.Process.TheVariants as process
-use Rattle.tpw_occam_core.specs.Meaning.{Store, array_of, with_array, kind_of, assigned, traced, run}
+use Rattle.tpw_occam_core.specs.Meaning.{Store, array_of, with_array, kind_of, assigned, traced, finished, result_of, run}
 use Rattle.tpw_occam_core.specs.Sound.{is_variable, is_name, is_new_array, is_sized, is_sound_assignment}
 use Rattle.tpw_occam_core.specs.Sound.{is_sound_message}
 use Rattle.tpw_occam_core.specs.Sound.{is_sound_process}
@@ -26,8 +26,8 @@ use Rattle.tpw_occam_symbolic.specs.declared.code.Step.TheVariants.{Pointer}
 use Rattle.tpw_occam_symbolic.specs.declared.code.CodeLine.{CodeLine}
 use Rattle.tpw_occam_symbolic.specs.Code.{Lines, place_behind}
 use Rattle.tpw_occam_symbolic.specs.Blocks.{with_word}
-use Rattle.tpw_occam_symbolic.specs.Symbolic.{Machine, number, push, pop, with_blocks, at_place}
-use Rattle.tpw_occam_symbolic.specs.Leading.{Does, Makes, HasConstants, cleared_bytes}
+use Rattle.tpw_occam_symbolic.specs.Symbolic.{Machine, Leads, number, push, pop, with_blocks, at_place}
+use Rattle.tpw_occam_symbolic.specs.Leading.{IsBefore, Arrives, Does, Makes, HasConstants, cleared_bytes}
 use Rattle.tpw_occam_expressions.specs.Agreement.{Knowledge, fact_at, fact_of_kind, constant_in, Knows, Agrees}
 use Rattle.tpw_occam_expressions.specs.Computing.{IsPlace, reads}
 
@@ -83,6 +83,7 @@ first_use (process.Variable' y p body) x = first_use body x
 first_use (process.Value' y e p body) x = then_first (first_in e x) (first_use body x)
 first_use (process.Array' a p body) x = first_use body x
 first_use (process.Trace m) x = first_in_message m x
+first_use (process.Finish m) x = first_in_message m x
 first_use (process.At' line p body) x = first_use body x
 
 abbrev pub is_nothing : First → Bool
@@ -135,6 +136,35 @@ pub record LeavesCounts (scope : List Entry) (m end : Machine) : Type 0 where
   pub to_come : end.to_come ≡ m.to_come
   pub sent : end.sent ≡ m.sent
 
+-- ---- ends
+
+-- A machine gets to one that has stopped.
+pub record Stops (m : Machine) (After : Machine → Type 0) : Type 0 where
+  pub last : Machine
+  pub way : Leads m last
+  pub stopped : IsTrue last.stopped
+  pub after : After last
+
+-- A machine has sent what a state has, with its flag and its traces.
+pub record HasEnded (t : Store) (m last : Machine) : Type 0 where
+  pub sent : last.sent ≡ m.sent ++ result_of t.ended
+  pub flag : last.error ≡ t.flag
+  pub traced : last.traced ≡ t.traced
+
+-- Control gets to the place behind code; or to a stop, where a result is sent.
+abbrev pub Leaves : Option (List ℕ) → Store → Lines → Machine → (Machine → Machine → Type 0) → Type 0
+Leaves None t code m After = Arrives code m After
+Leaves (Some result) t code m After = Stops m (HasEnded t m)
+
+-- Code was lengthened, and the new lines lead each machine of which something is said before to one of which something
+-- is said after; or to a stop, where the state that they make has ended.
+pub record DoesOrEnds (arrays : List ℕ) (old new : Lines) (t : Store) (Before : Machine → Type 0)
+    (After : Machine → Machine → Type 0) : Type 0 where
+  pub base : new.base ≡ old.base
+  pub more : List CodeLine
+  pub lines : new.lines ≡ old.lines ++ more
+  pub leaves : (m : Machine) → IsBefore arrays old new m → Before m → Leaves t.ended t new m After
+
 -- ---- processes
 
 -- the state in which an array is zeros
@@ -170,10 +200,27 @@ Clears k old new a =
     → Does k.arrays old new (Matches k storages scope unset s)
     (λ m end. Matches k storages (scope ++ entry.Array a ∷ []) unset (cleared a s) end × LeavesCounts scope m end)
 
+-- a machine behind the code of a process
+abbrev pub IsBehind : Knowledge → List Storage → List Entry → (ℕ → Bool) → Store → Machine → Machine → Type 0
+IsBehind k storages scope unset t m end = Matches k storages scope unset t end × LeavesCounts scope m end
+
+-- .. of what may end the worker: the code of a result, ..
+abbrev pub RunsTo : Knowledge → (old new : Lines) → (ℕ → List Storage → List Entry → Bool) → (ℕ → First)
+    → (Store → Store) → Type 0
+RunsTo k old new sound first made =
+    (storages : List Storage) (scope : List Entry) (unset : ℕ → Bool) (s : Store) → IsProcessPlace k storages scope
+    → MayRun scope unset (sound (length k.kinds) storages scope) first → KnowsState k scope s → s.ended ≡ None
+    → DoesOrEnds k.arrays old new (made s) (Matches k storages scope unset s)
+    (IsBehind k storages scope (unset_after first unset) (made s))
+
+abbrev pub Finishes : Knowledge → (old new : Lines) → Message → Type 0
+Finishes k old new m =
+    RunsTo k old new (λ count storages scope. is_sound_message count storages scope m) (first_in_message m) (finished m)
+
 -- .. and of a process
 abbrev pub Executes : Knowledge → (old new : Lines) → Process → Type 0
 Executes k old new p =
-    ExecutesTo k old new (λ count storages scope. is_sound_process count storages scope p) (first_use p) (run k.kinds p)
+    RunsTo k old new (λ count storages scope. is_sound_process count storages scope p) (first_use p) (run k.kinds p)
 
 -- ---- parts
 

@@ -7,9 +7,8 @@ use Rattle.tpw_occam_core.specs.declared.worker.Place.{Place}
 use Rattle.tpw_occam_core.specs.declared.worker.Place.TheVariants as place
 use Rattle.tpw_occam_core.specs.declared.worker.Worker.{Worker}
 use Rattle.tpw_occam_core.specs.declared.scope.Entry.{Entry}
-use Rattle.tpw_occam_core.specs.declared.process.Message.{Message}
-use Rattle.tpw_occam_core.specs.Meaning.{Store, kind_of, first, received, after, bytes_of, flag_of}
-use Rattle.tpw_occam_core.specs.Sound.{globals, is_variable, is_array, is_word, is_sound_message}
+use Rattle.tpw_occam_core.specs.Meaning.{Store, kind_of, first, received, at_end}
+use Rattle.tpw_occam_core.specs.Sound.{globals, is_variable, is_array, is_word}
 use Rattle.tpw_occam_symbolic.specs.declared.items.Item.{Item}
 use Rattle.tpw_occam_symbolic.specs.declared.code.Step.TheVariants.{Pointer}
 use Rattle.tpw_occam_symbolic.specs.declared.code.CodeLine.{CodeLine}
@@ -19,7 +18,7 @@ use Rattle.tpw_occam_symbolic.specs.Blocks.{with_bytes}
 use Rattle.tpw_occam_symbolic.specs.Symbolic.{Machine, Leads}
 use Rattle.tpw_occam_symbolic.specs.Leading.{Serves, HasConstants, IsBefore, Does}
 use Rattle.tpw_occam_expressions.specs.Agreement.{Knowledge, knowledge_of}
-use Rattle.tpw_occam_code.specs.Executing.{IsProcessPlace, KnowsState, Matches, none_unset}
+use Rattle.tpw_occam_code.specs.Executing.{IsProcessPlace, KnowsState, Matches, Stops, HasEnded, none_unset}
 
 -- ---- packets
 
@@ -57,40 +56,6 @@ Inputs old new item bytes =
     (arrays : List ℕ) → ((sizes : Item → ℕ) → Serves arrays sizes (Pointer item 0) → bytes ≤ sizes item)
     → Does arrays old new (λ m. HasConstants m × (length m.to_come ≡ bytes)) (IsInput item)
 
--- A message has gone out on link 0.
-pub record IsSent (message : Message) (s : Store) (m end : Machine) : Type 0 where
-  pub sent : end.sent ≡ m.sent ++ bytes_of message s
-  pub flag : end.error ≡ (s.flag || flag_of message s)
-  pub traced : end.traced ≡ s.traced
-
-abbrev pub Outputs : Knowledge → (old new : Lines) → Message → Type 0
-Outputs k old new message =
-    (storages : List Storage) (scope : List Entry) (s : Store) → IsProcessPlace k storages scope
-    → IsTrue (is_sound_message (length k.kinds) storages scope message) → KnowsState k scope s
-    → Does k.arrays old new (Matches k storages scope none_unset s) (IsSent message s)
-
--- A machine gets to one that has stopped.
-pub record Stops (m : Machine) (After : Machine → Type 0) : Type 0 where
-  pub last : Machine
-  pub way : Leads m last
-  pub stopped : IsTrue last.stopped
-  pub after : After last
-
--- Code was lengthened, and the new lines lead each machine of which something is said before to one that has stopped.
-pub record DoesLast (arrays : List ℕ) (old new : Lines) (Before : Machine → Type 0) (After : Machine → Machine → Type 0)
-    : Type 0 where
-  pub base : new.base ≡ old.base
-  pub more : List CodeLine
-  pub lines : new.lines ≡ old.lines ++ more
-  pub stops : (m : Machine) → IsBefore arrays old new m → Before m → Stops m (After m)
-
--- the code of the result: it is sent, and control stops
-abbrev pub Sends : Knowledge → (old new : Lines) → Message → Type 0
-Sends k old new message =
-    (storages : List Storage) (scope : List Entry) (s : Store) → IsProcessPlace k storages scope
-    → IsTrue (is_sound_message (length k.kinds) storages scope message) → KnowsState k scope s
-    → DoesLast k.arrays old new (Matches k storages scope none_unset s) (IsSent message s)
-
 -- ---- workers
 
 -- A machine before the first line of a worker's code, with a packet to come.
@@ -100,8 +65,8 @@ pub record Begins (w : Worker) (code : Lines) (packet : List ℕ) (m : Machine) 
   pub to_come : m.to_come ≡ packet
   pub sent : m.sent ≡ []
 
--- The code of a worker makes of a packet what the worker does.
+-- The code of a worker sends of a packet what the worker makes of it, and stops.
 pub record Works (w : Worker) (code : Lines) : Type 0 where
   pub base : code.base ≡ 0
   pub stops : (packet : List ℕ) → FitsPlace w.arrays.items w.receive packet → (m : Machine) → Begins w code packet m
-      → Stops m (IsSent w.send (after w packet) m)
+      → Stops m (HasEnded (at_end w packet) m)

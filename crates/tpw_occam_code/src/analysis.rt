@@ -253,7 +253,7 @@ pub(crate) fn first_use(p: &Process, x: usize) -> First
         Process::Variable { name: _, body } | Process::Array { name: _, body } => {
             first_use(body, x)
         }
-        Process::Trace(m) => in_message(m, x),
+        Process::Trace(m) | Process::Finish(m) => in_message(m, x),
         Process::At { line: _, body } => first_use(body, x),
     }
 }

@@ -1,10 +1,10 @@
 //! Code of messages.
 
 ghost use Rattle.std.specs.Prelude.{◌≡◌, IfOk, OnOk};
-ghost use Rattle.tpw_occam_code.specs.Executing.{Traces};
+ghost use Rattle.tpw_occam_code.specs.Executing.{Traces, Finishes};
 ghost use Rattle.tpw_occam_code.specs.Sending.{HasRoom, KeepsValue, SendsBytes, SendsMessage, address_of};
 ghost use Rattle.tpw_occam_symbolic.specs.Flowing.{Ends};
-ghost use Rattle.tpw_occam_code.specs.Starting.{Inputs, Receives, Sends};
+ghost use Rattle.tpw_occam_code.specs.Starting.{Inputs, Receives};
 
 use tp_decode::Instr;
 use tpw_occam_core::{Expression, Message, Place};
@@ -140,7 +140,8 @@ pub(crate) fn send(
     m: &Message,
     line: u32,
 ) -> Result<(), CodeFault>
-    ensures sends { OnOk result (Sends emitter.old code.old code.new m.now) }
+    ensures knowledge { OnOk result (emitter.new ≡ emitter.old) }
+    ensures finishes { OnOk result (Finishes emitter.old code.old code.new m.now) }
     ensures ends { OnOk result (Ends code.new) }
 {
     output(emitter, code, m, Channel::Result, line)?;

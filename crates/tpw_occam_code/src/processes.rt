@@ -16,7 +16,7 @@ ghost use Rattle.tpw_occam_code.specs.Moving.{ClearsWords, Moves};
 
 use crate::analysis::{First, first_use};
 use crate::assignments::assignments;
-use crate::messages::trace;
+use crate::messages::{send, trace};
 use tp_decode::Instr;
 use tpw_occam_core::{Expression, Process};
 use tpw_occam_expressions::{Allocation, Emitter, Range, constant, counted, fact_of};
@@ -162,6 +162,7 @@ pub(crate) fn process(
             process(emitter, code, body, line)
         }
         Process::Trace(m) => trace(emitter, code, m, line),
+        Process::Finish(m) => send(emitter, code, m, line),
         Process::At { line, body } => process(emitter, code, body, *line),
     }
 }

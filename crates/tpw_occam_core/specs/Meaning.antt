@@ -29,12 +29,14 @@ use Rattle.tpw_occam_core.specs.Arrays.{size, element, kept, with_element}
 
 -- ---- states
 
--- the words of variables and the bytes of arrays, by their numbers, the error flag, and the bytes traced so far
+-- the words of variables and the bytes of arrays, by their numbers, the error flag, the bytes traced so far, and the
+-- result, once it is sent
 pub record Store : Type 0 where
   pub values : List ℕ
   pub arrays : List (List ℕ)
   pub flag : Bool
   pub traced : List ℕ
+  pub ended : Option (List ℕ)
 
 abbrev pub array_of : Store → ℕ → List ℕ
 array_of s a = slice_index_or s.arrays a []
@@ -119,12 +121,22 @@ flag_of (message.Array a) s = false
 abbrev pub traced : Message → Store → Store
 traced m s = record (flagged (flag_of m s) s) { traced = s.traced ++ bytes_of m s }
 
+abbrev pub finished : Message → Store → Store
+finished m s = record (flagged (flag_of m s) s) { ended = Some (bytes_of m s) }
+
 -- ---- processes
+
+-- what follows leaves a state alone that has sent its result
+abbrev pub unless_ended : Option (List ℕ) → (next here : Store) → Store
+unless_ended None next here = next
+unless_ended (Some result) next here = here
 
 -- the state after this many turns, of which the index is `start` in the first
 abbrev pub turns : (Store → Store) → ℕ → ℕ → ℕ → Store → Store
 turns body x start zero s = s
-turns body x start (suc n) s = body (with_value x (low_word (pos start +ℤ pos n)) (turns body x start n s))
+turns body x start (suc n) s =
+    let t = turns body x start n s in
+    unless_ended t.ended (body (with_value x (low_word (pos start +ℤ pos n)) t)) t
 
 abbrev pub chosen : ℕ → Store → Store → Store
 chosen zero guarded rest = rest
@@ -136,7 +148,8 @@ run kinds process.Skip s = s
 run kinds process.Stop s = flagged true s
 run kinds (process.Assign list) s = assigned kinds list.items s
 run kinds (process.Copy to from) s = with_array to (array_of s from) s
-run kinds (process.Sequence' p first q second) s = run kinds second (run kinds first s)
+run kinds (process.Sequence' p first q second) s =
+    let t = run kinds first s in unless_ended t.ended (run kinds second t) t
 run kinds (process.Repeat' x start count p body) s = turns (run kinds body) x start count s
 run kinds (process.If' e p guarded q rest) s =
     let g = value_of e s in
@@ -147,6 +160,7 @@ run kinds (process.Value' x e p body) s =
     let v = value_of e s in run kinds body (with_value x v.word (flagged v.flag s))
 run kinds (process.Array' a p body) s = run kinds body (with_array a (replicate (length (array_of s a)) 0) s)
 run kinds (process.Trace m) s = traced m s
+run kinds (process.Finish m) s = finished m s
 run kinds (process.At' line p body) s = run kinds body s
 
 -- ---- workers
@@ -162,6 +176,7 @@ first w = record {
   arrays = map first_bytes w.arrays.items;
   flag = false;
   traced = [];
+  ended = None;
 }
 
 abbrev pub received : Place → List ℕ → Store → Store
@@ -171,6 +186,10 @@ received (place.Array a) packet s = with_array a packet s
 -- the state after a worker's process
 abbrev pub after : Worker → List ℕ → Store
 after w packet = run w.variables.items w.body (received w.receive packet (first w))
+
+-- .. and with its last message, which goes out where no other has
+abbrev pub at_end : Worker → List ℕ → Store
+at_end w packet = let s = after w packet in unless_ended s.ended (finished w.send s) s
 
 -- what a packet gives
 pub record Meant : Type 0 where
@@ -182,11 +201,16 @@ pub record Meant : Type 0 where
 abbrev pub most_traced : ℕ
 most_traced = 256
 
-abbrev pub meant : Message → Store → Meant
-meant m s = record { result = bytes_of m s; flag = s.flag || flag_of m s; traced = s.traced }
+-- what a state has sent
+abbrev pub result_of : Option (List ℕ) → List ℕ
+result_of None = []
+result_of (Some result) = result
+
+abbrev pub meant : Store → Meant
+meant s = record { result = result_of s.ended; flag = s.flag; traced = s.traced }
 
 -- what a worker makes of a packet: nothing where it has traced too much
 unfoldable pub meaning : Worker → List ℕ → Option Meant
 meaning w packet =
-    if nat_lt most_traced (length (after w packet).traced) then None
-    else Some (meant w.send (after w packet))
+    if nat_lt most_traced (length (at_end w packet).traced) then None
+    else Some (meant (at_end w packet))

@@ -160,6 +160,7 @@ is_sound_process count storages scope (process.Value' x e p body) =
 is_sound_process count storages scope (process.Array' a p body) =
     is_new_array storages scope a && is_sound_process count storages (scope ++ entry.Array a ∷ []) body
 is_sound_process count storages scope (process.Trace m) = is_sound_message count storages scope m
+is_sound_process count storages scope (process.Finish m) = is_sound_message count storages scope m
 is_sound_process count storages scope (process.At' line p body) = is_sound_process count storages scope body
 
 -- ---- workers

@@ -70,6 +70,8 @@ pub enum Process {
         body: Box<Process>,
     },
     Trace(Message),
+    /// The result is sent, and the worker ends.
+    Finish(Message),
     /// A process, and the line of the text that it stands in. The line means nothing.
     At {
         line: u32,
@@ -83,7 +85,7 @@ impl Drop for Process {
         match self {
             Process::Skip | Process::Stop | Process::Copy { to: _, from: _ } => {}
             Process::Assign(_list) => {}
-            Process::Trace(_message) => {}
+            Process::Trace(_message) | Process::Finish(_message) => {}
             Process::Sequence(_first, _second) => {}
             Process::If {
                 guard: _guard,

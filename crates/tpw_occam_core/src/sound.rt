@@ -193,6 +193,7 @@ fn is_sound_process(env: &mut Environment<'_>, p: &Process) -> Result<bool, Allo
             env.is_new_array(*name) && is_sound_within(env, Entry::Array(*name), body)?,
         ),
         Process::Trace(m) => is_sound_message(env, m),
+        Process::Finish(m) => is_sound_message(env, m),
         Process::At { line: _, body } => is_sound_process(env, body),
     }
 }

@@ -130,8 +130,6 @@ pub enum FaultKind<'a> {
     Receive,
     /// `!` to the packet's channel.
     SendsPacket,
-    /// `!` to the result's channel that is not last in the worker.
-    Send,
     /// An argument that is not the traces' channel.
     NoTraces,
     /// There is no worker.
@@ -389,7 +387,6 @@ fn text_of(kind: FaultKind<'_>) -> &'static str {
             "a channel carries INT, [n]INT or [n]BYTE, of 4 to 256 bytes, four or a multiple of it",
         FaultKind::Receive => "? stands once, for the packet, first in the worker's SEQ",
         FaultKind::SendsPacket => "the packet's channel is received from by ?",
-        FaultKind::Send => "! to the result's channel stands once, last in the worker's SEQ",
         FaultKind::NoTraces => "the traces' channel alone is passed to a PROC",
         FaultKind::NoWorker => "the worker's PROC is wanted, as the last declaration of the text",
         FaultKind::WorkerParameters => {

@@ -1,5 +1,5 @@
 -- The state that a memory holds. What it has no room for is 0, or empty.
-use Rattle.std.specs.Prelude.{ℕ, List, [], map, slice_index, slice_index_or}
+use Rattle.std.specs.Prelude.{ℕ, List, [], map, slice_index, slice_index_or, Option, Some, None}
 use Rattle.std.specs.declared.vec.Vec.{Vec}
 use Rattle.std.specs.declared.alloc.Global.{Global}
 use Rattle.tpw_occam_meaning.specs.States.{State, with_cell}
@@ -11,6 +11,10 @@ use Rattle.tpw_occam_interpreter.specs.declared.memory.Cells.TheVariants.{Of, Wi
 abbrev pub row : List (Vec ℕ Global) → ℕ → List ℕ
 row arrays a = slice_index_or (map (λ v. v.items) arrays) a []
 
+abbrev pub sent_in : Option (Vec ℕ Global) → Option (List ℕ)
+sent_in None = None
+sent_in (Some bytes) = Some bytes.items
+
 abbrev pub state_of : Memory → State
 state_of m = record {
   cells = λ x. slice_index m.cells.items x;
@@ -18,7 +22,7 @@ state_of m = record {
   flag = m.flag;
   packet = m.packet.items;
   traced = m.traced.items;
-  result = m.result.items;
+  result = sent_in m.result;
 }
 
 abbrev pub state_in : Cells → State

@@ -15,7 +15,8 @@ pub struct Memory {
     pub flag: bool,
     pub packet: Vec<u8>,
     pub traced: Vec<u8>,
-    pub result: Vec<u8>,
+    /// Once it is sent.
+    pub result: Option<Vec<u8>>,
     /// The line of the text that is at work; 0 in front of the first process that has one.
     pub line: u32,
     /// The line in which the flag was set first.

@@ -217,6 +217,9 @@ pub(crate) fn run<W: Watch>(
         Process::Copy { to, from } => copy(alloc, memory, watch, *to, from)?,
         Process::Sequence(first, second) => {
             run(alloc, memory, watch, first)?;
+            if memory.is_ended() {
+                return Ok(());
+            }
             run(alloc, memory, watch, second)?;
         }
         Process::Repeat {
@@ -227,6 +230,9 @@ pub(crate) fn run<W: Watch>(
             body,
         } => {
             for turn in 0..*count {
+                if memory.is_ended() {
+                    return Ok(());
+                }
                 let index = start.wrapping_add(turn);
                 memory.write(*cell, index)?;
                 watch.bind(*name, index);

@@ -4,7 +4,8 @@ ghost use Rattle.std.specs.Prelude.{◌≡◌, IfOk};
 ghost use Rattle.tpw_occam_meaning.specs.States.{first};
 ghost use Rattle.tpw_occam_meaning.specs.Texts.{meant};
 ghost use Rattle.tpw_occam_scoped.specs.Meaning as scoped;
-ghost use Rattle.tpw_occam_interpreter.specs.Memories.{state_of};
+ghost use Rattle.tpw_occam_core.specs.Meaning.{result_of};
+ghost use Rattle.tpw_occam_interpreter.specs.Memories.{sent_in, state_of};
 ghost use Rattle.tpw_occam_interpreter.specs.Workers.{IsGiven};
 
 use crate::expressions::value;
@@ -35,7 +36,7 @@ pub fn begin(alloc: Global, packet: &[u8]) -> Result<Memory, AllocError>
         flag: false,
         packet: Vec::from_slice(alloc, packet)?,
         traced: Vec::new(alloc),
-        result: Vec::new(alloc),
+        result: None,
         line: 0,
         flag_line: None,
     })
@@ -48,15 +49,25 @@ pub fn value_in(memory: &Memory, e: &Expression) -> Answer
     value(&Cells::Of(memory), &mut Unwatched, e)
 }
 
+/// What has been sent.
+fn sent(alloc: Global, bytes: Option<Vec<u8>>) -> Vec<u8>
+    ensures { result.items ≡ result_of (sent_in bytes) }
+{
+    match bytes {
+        Some(bytes) => bytes,
+        None => Vec::new(alloc),
+    }
+}
+
 /// The result in the end: nothing where more is traced than may be.
-fn outcome(memory: Memory) -> Option<Given>
+fn outcome(alloc: Global, memory: Memory) -> Option<Given>
     ensures { IsGiven (meant (state_of memory)) result }
 {
     if memory.traced.len() > MAX_TRACED {
         return None;
     }
     Some(Given {
-        result: memory.result,
+        result: sent(alloc, memory.result),
         flag: memory.flag,
         traced: memory.traced,
         flag_line: memory.flag_line,
@@ -76,7 +87,7 @@ pub fn run_watched<W: Watch>(
     let ran = run(alloc, &mut memory, watch, p);
     come_to(&mut memory, watch, 0)?;
     match ran {
-        Ok(()) => Ok(outcome(memory)),
+        Ok(()) => Ok(outcome(alloc, memory)),
         Err(Halt::Lost) => Ok(None),
         Err(Halt::Memory) => Err(WatchFault::Memory),
         Err(Halt::Unwatched(fault)) => Err(fault),

@@ -1,6 +1,7 @@
 //! Writes to a memory, which grows where it has no room.
 
 ghost use Rattle.std.specs.Prelude.{◌≡◌, ◌<◌, ℕ, ◌==◌, replicate, vec_len, slice_index, if◌then◌else◌, OnOk};
+ghost use Rattle.std.specs.Option.{is_some};
 ghost use Rattle.tpw_occam_core.specs.Arrays.{with_element};
 ghost use Rattle.tpw_occam_meaning.specs.States as state;
 ghost use Rattle.tpw_occam_interpreter.specs.Memories.{state_of, row};
@@ -146,6 +147,16 @@ impl Memory {
     pub(crate) fn send(&mut self, bytes: Vec<u8>)
         ensures { state_of self.new ≡ state.with_result bytes.items (state_of self.old) }
     {
-        self.result = bytes;
+        self.result = Some(bytes);
+    }
+
+    /// Whether the result is sent.
+    pub(crate) fn is_ended(&self) -> bool
+        ensures { result ≡ is_some (state_of self.now).result }
+    {
+        match self.result {
+            Some(_) => true,
+            None => false,
+        }
     }
 }

@@ -3,7 +3,7 @@ use Rattle.std.specs.Prelude.{ℕ, ◌+◌, true, false, ◌==◌, if◌then◌e
 use Rattle.std.specs.List.{list_any}
 use Rattle.tpw_occam_meaning.specs.Maybe.{and_then}
 use Rattle.tpw_occam_meaning.specs.Names.{Word, Constant, Kept, word_in}
-use Rattle.tpw_occam_meaning.specs.States.{State, with_cell, with_array, flagged, stored, turns, chosen}
+use Rattle.tpw_occam_meaning.specs.States.{State, with_cell, with_array, flagged, stored, going_on, turns, chosen}
 use Rattle.tpw_occam_meaning.specs.Values.{Value, Known, at}
 
 -- what a process does to the state, where it is well formed
@@ -16,8 +16,9 @@ skipped = Some (λ s. s)
 abbrev pub stopped : Effect
 stopped = Some (flagged true)
 
+-- one behind the other, where the first does not end the worker
 abbrev pub followed_by : Effect → Effect → Effect
-followed_by first second = and_then first (λ f. and_then second (λ g. Some (λ s. g (f s))))
+followed_by first second = and_then first (λ f. and_then second (λ g. Some (λ s. going_on g (f s))))
 
 -- what is behind a guard, where it is TRUE, and else the rest
 abbrev pub guarded_by : Value → Effect → Effect → Effect

@@ -49,3 +49,12 @@ received (Several kind n) e names d =
 
 abbrev pub sending : Message → Effect
 sending message = Some (λ s. with_result (message.bytes s) (flagged (message.flag s) s))
+
+-- where a message may go: to the traces, or to the result, which ends the worker
+abbrev pub way_of : Entry → Option (Protocol × (Message → Effect))
+way_of (Is (Carrier Traces protocol)) = Some (protocol, tracing)
+way_of (Is (Carrier Output protocol)) = Some (protocol, sending)
+way_of other = None
+
+abbrev pub sent : Entry → Expression → Names → ℕ → Effect
+sent channel e names d = and_then (way_of channel) (λ way. and_then (message_of way.0 e names d) way.1)

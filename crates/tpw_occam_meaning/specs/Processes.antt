@@ -21,10 +21,10 @@ use Rattle.tpw_occam_meaning.specs.Assignments.{assignment, whole_target}
 use Rattle.tpw_occam_meaning.specs.Calls.{called}
 use Rattle.tpw_occam_meaning.specs.Declarations.{value_declared, variables, arrays, naming, retyped, procedure, function}
 use Rattle.tpw_occam_meaning.specs.Effects.{Effect, skipped, stopped, followed_by, guarded_by, selected_by, repeated, given}
-use Rattle.tpw_occam_meaning.specs.Messages.{carried, message_of, tracing}
+use Rattle.tpw_occam_meaning.specs.Messages.{sent}
 use Rattle.tpw_occam_meaning.specs.Expressions.{value_of, constant, type_of}
 use Rattle.tpw_occam_meaning.specs.Maybe.{and_then, where_true}
-use Rattle.tpw_occam_meaning.specs.Names.{Word, Kept, Traces, Fixed, Is, Names, found, with_name}
+use Rattle.tpw_occam_meaning.specs.Names.{Word, Kept, Fixed, Is, Names, found, with_name}
 use Rattle.tpw_occam_meaning.specs.Types.{shape_of, by_sizes}
 
 -- ---- CASE
@@ -72,8 +72,7 @@ abbrev mutual
       selected list of word (otherwise list names n) names n)))))
   run (process.Call name arguments span) names d = called (found name names) arguments names d
   run (process.Receive channel target span) names d = None
-  run (process.Send channel e span) names d =
-      and_then (carried Traces (found channel names)) (λ protocol. and_then (message_of protocol e names d) tracing)
+  run (process.Send channel e span) names d = sent (found channel names) e names d
   run (process.Declared' p declaration q rest) names d = declared declaration (run rest) names d
   run process.Wrong names d = None
 

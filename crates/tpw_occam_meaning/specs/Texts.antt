@@ -1,7 +1,7 @@
 -- What a text means: of a packet its worker makes a result, an error flag and traces, or the packet is lost for its
 -- traces.
 use Rattle.std.specs.Prelude.{◌≡◌, ℕ, ◌==◌, nat_lt, if◌then◌else◌, Option, Some, None, List, [], ◌∷◌, length}
-use Rattle.tpw_occam_core.specs.Meaning.{Meant, most_traced}
+use Rattle.tpw_occam_core.specs.Meaning.{Meant, most_traced, result_of}
 use Rattle.tpw_occam_meaning.specs.declared.types.Parameters.{Parameters}
 use Rattle.tpw_occam_meaning.specs.declared.tree.Declaration.TheVariants as declaration
 use Rattle.tpw_occam_meaning.specs.declared.tree.Declarations.{Declarations}
@@ -62,7 +62,7 @@ text_effect declarations.End names d = None
 abbrev pub meant : State → Option Meant
 meant s =
     if nat_lt most_traced (length s.traced) then None
-    else Some (record { result = s.result; flag = s.flag; traced = s.traced })
+    else Some (record { result = result_of s.result; flag = s.flag; traced = s.traced })
 
 -- what a text makes of a packet; nothing is meant by one that is ill-formed
 unfoldable pub meaning_of_text : Source → Option (List ℕ → Option Meant)

@@ -93,6 +93,7 @@ module _ (tables : Tables) where
     count = length-set t.arrays n bytes ∙ holds.count;
     flag = holds.flag;
     traced = holds.traced;
+    ended = holds.ended;
   }
     where
       here : is_this a (array_in tables n) ≡ true
@@ -140,6 +141,7 @@ module _ (tables : Tables) where
       count = length-set t.arrays n bytes ∙ holds.count;
       flag = holds.flag;
       traced = holds.traced;
+      ended = holds.ended;
     }
       where
         by_array : (b m : ℕ) → array_of tables (Array' n p scope) b ≡ Some m → (test : Bool) → nat_eq b a ≡ test
@@ -168,6 +170,7 @@ module _ (tables : Tables) where
       count = holds.count;
       flag = holds.flag;
       traced = holds.traced;
+      ended = holds.ended;
     }
       where
         outer : (b m : ℕ) → array_of tables scope b ≡ Some m → array_of tables (Array' n p scope) b ≡ Some m

@@ -1,6 +1,6 @@
 -- Processes: what each does with a worker's state that has a scoped core's.
 use Rattle.std.proofs.Common.{◌≡◌, ◌∙◌, ℕ, zero, suc, ◌+◌, ◌*◌, ◌%◌, ◌^◌, ◌||◌, Bool, true, None, List, [], ◌∷◌, length, slice_set, refl, ap}
-use Rattle.std.proofs.Common.{length-set}
+use Rattle.std.proofs.Common.{length-set, Option, Some, sym, subst}
 use Rattle.std.specs.Borrow.{Bor}
 use Rattle.std.specs.Int.{w32, to_le_bytes}
 use Rattle.tpw_occam_core.specs.declared.kind.Kind.{Kind}
@@ -40,7 +40,18 @@ module _ (tables : Tables) where
     count = holds.count;
     flag = ap (λ before. before || flag) holds.flag;
     traced = holds.traced;
+    ended = holds.ended;
   }
+
+  -- what is done next, or what is left alone
+  pub holds_unless : (scope : Scope) (o o' : Option (List ℕ)) (s next : State) (t next' : Store) → o' ≡ o → Holds tables scope next next' → Holds tables scope s t
+      → Holds tables scope (scoped.unless_ended o next s) (core.unless_ended o' next' t)
+  holds_unless scope o o' s next t next' same one two =
+      subst (λ (k : Option (List ℕ)). Holds tables scope (scoped.unless_ended o next s) (core.unless_ended k next' t)) (sym same) (by_end o)
+    where
+      by_end : (o : Option (List ℕ)) → Holds tables scope (scoped.unless_ended o next s) (core.unless_ended o next' t)
+      by_end None = one
+      by_end (Some result) = two
 
   module _ (scope : Scope) (p : Bor (Unit {0})) (x n : ℕ) (lies : is_this x (cell_in tables n) ≡ true) (new : variable_of tables scope x ≡ None)
       (f : State → State) (g : Store → Store)
@@ -56,8 +67,11 @@ module _ (tables : Tables) where
         → Holds tables scope (scoped.turns f x start count s) (core.turns g n start count t)
     done_turns s t start zero holds = holds
     done_turns s t start (suc count) holds =
-        done_within (scoped.turns f x start count s) (core.turns g n start count t) ((start + count) % 2 ^ 32)
-        (done_turns s t start count holds)
+        let u = scoped.turns f x start count s in
+        let v = core.turns g n start count t in
+        let word = (start + count) % 2 ^ 32 in
+        let before = done_turns s t start count holds in
+        holds_unless scope u.result v.ended u (f (with_cell x word u)) v (g (with_value n word v)) before.ended (done_within u v word before) before
 
   -- what is behind a guard, or the rest
   pub done_chosen : (scope : Scope) (s : State) (t : Store) (word : ℕ) (f g : State → State) (f' g' : Store → Store)

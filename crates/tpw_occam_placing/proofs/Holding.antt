@@ -53,6 +53,7 @@ module _ (tables : Tables) where
     count = holds.count;
     flag = holds.flag;
     traced = holds.traced;
+    ended = holds.ended;
   }
     where
       less : n < length t.values
@@ -90,6 +91,7 @@ module _ (tables : Tables) where
       count = holds.count;
       flag = holds.flag;
       traced = holds.traced;
+      ended = holds.ended;
     }
       where
         less : n < length t.values
@@ -133,6 +135,7 @@ module _ (tables : Tables) where
       count = holds.count;
       flag = holds.flag;
       traced = holds.traced;
+      ended = holds.ended;
     }
       where
         outer : (y m : ℕ) → variable_of tables scope y ≡ Some m → variable_of tables (Variable' n p scope) y ≡ Some m

@@ -29,7 +29,7 @@ use Rattle.tpw_occam_placing.specs.declared.scope.Scope.TheVariants.{Variable', 
 use Rattle.tpw_occam_placing.specs.Placing.{is_this, cell_in, array_in, storage_at, variable_of, array_of as array_at, Holds, IsPlaced, IsAssignment, IsDone}
 use Rattle.tpw_occam_placing.proofs.Arrays.{holds_array_stored}
 use Rattle.tpw_occam_placing.proofs.Assigning.{done_assigned}
-use Rattle.tpw_occam_placing.proofs.Doing.{done_within, done_turns}
+use Rattle.tpw_occam_placing.proofs.Doing.{holds_unless, done_within, done_turns}
 use Rattle.tpw_occam_placing.proofs.Made.{done_by, done_value, done_guarded, done_array}
 
 module _ (tables : Tables) (scope : Scope) (p : ScopedProcess) where
@@ -51,14 +51,20 @@ module _ (tables : Tables) (scope : Scope) (p : ScopedProcess) where
 
   pub sequence_done : (first second : Box ScopedProcess Global) (first' second' : ScopedProcess) (one two made : Process)
       → p ≡ process.Sequence first second → first' ≡ first.value → second' ≡ second.value → IsDone tables scope first' one
-      → IsDone tables scope second' two → ((kinds : List Kind) (t : Store) → core.run kinds made t ≡ core.run kinds two (core.run kinds one t))
+      → IsDone tables scope second' two → ((kinds : List Kind) (t : Store) → core.run kinds made t
+      ≡ core.unless_ended (core.run kinds one t).ended (core.run kinds two (core.run kinds one t)) (core.run kinds one t))
       → IsDone tables scope p made
   sequence_done first second first' second' one two made is first-is second-is before behind run-is =
-      done_by tables scope p made (λ s. scoped.run second' (scoped.run first' s))
-      (λ t. core.run tables.kinds.items two (core.run tables.kinds.items one t))
-      (λ s. ap (λ (k : ScopedProcess). scoped.run k s) is ∙ (λ i. scoped.run (sym second-is i) (scoped.run (sym first-is i) s)))
+      done_by tables scope p made (λ s. state.going_on (scoped.run second') (scoped.run first' s))
+      (λ t. core.unless_ended (core.run tables.kinds.items one t).ended (core.run tables.kinds.items two (core.run tables.kinds.items one t))
+      (core.run tables.kinds.items one t))
+      (λ s. ap (λ (k : ScopedProcess). scoped.run k s) is ∙ (λ i. state.going_on (scoped.run (sym second-is i)) (scoped.run (sym first-is i) s)))
       (run-is tables.kinds.items)
-      (λ s t holds. behind (scoped.run first' s) (core.run tables.kinds.items one t) (before s t holds))
+      (λ s t holds.
+      let u = scoped.run first' s in
+      let v = core.run tables.kinds.items one t in
+      let middle = before s t holds in
+      holds_unless tables scope u.result v.ended u (scoped.run second' u) v (core.run tables.kinds.items two v) middle.ended (behind u v middle) middle)
 
   pub choice_done : (e : Scoped) (guarded rest : Box ScopedProcess Global) (guarded' rest' : ScopedProcess) (guard : Expression) (one two made : Process)
       → p ≡ process.If e guarded rest → guarded' ≡ guarded.value → rest' ≡ rest.value → IsPlaced tables scope e guard

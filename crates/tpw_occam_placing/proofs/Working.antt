@@ -23,7 +23,7 @@ use Rattle.tp_words.specs.Words.{complement}
 use Rattle.tp_words.specs.Numbers.{truth}
 use Rattle.tpw_occam_core.specs.Arithmetic.{pure, subscript, low_byte, applied}
 use Rattle.tpw_occam_core.specs.Arrays.{element}
-use Rattle.tpw_occam_core.specs.Meaning.{Store, with_value, with_array, first_bytes, most_traced, received, bind, both, either, element_at}
+use Rattle.tpw_occam_core.specs.Meaning.{Store, with_value, with_array, first_bytes, most_traced, result_of, received, bind, both, either, element_at}
 use Rattle.tpw_occam_core.specs.Meaning as core
 use Rattle.tpw_occam_core.specs.Sound.{bytes_of, is_table}
 use Rattle.tpw_occam_terms.specs.declared.span.Span.{Span}
@@ -42,7 +42,7 @@ use Rattle.tpw_occam_placing.specs.declared.tables.Tables.{Tables}
 use Rattle.tpw_occam_placing.specs.declared.scope.Scope.{Scope}
 use Rattle.tpw_occam_placing.specs.declared.scope.Scope.TheVariants.{Empty, Variable', Array'}
 use Rattle.tpw_occam_placing.specs.Placing.{is_this, cell_in, storage_at, array_in, variable_of, array_of, Holds, IsTarget, IsMessage, IsDone}
-use Rattle.tpw_occam_placing.specs.Working.{Apart, first_of, given, IsFinished, IsReceived, IsFresh, IsBegun}
+use Rattle.tpw_occam_placing.specs.Working.{Apart, first_of, given_in, given, IsFinished, IsReceived, IsFresh, IsBegun}
 use Rattle.tpw_occam_placing.proofs.Holding.{one_place, within, found_there, holds_stored, holds_within}
 use Rattle.tpw_occam_placing.proofs.Arrays.{no_table, holds_array_stored, holds_array_within}
 use Rattle.tpw_occam_placing.proofs.Doing.{holds_flagged}
@@ -103,6 +103,10 @@ set_apart (y ∷ l) zero (suc j) a b h = refl
 set_apart (y ∷ l) (suc i) zero a b h = refl
 set_apart (y ∷ l) (suc i) (suc j) a b h = ap (λ (m : List ℕ). y ∷ m) (set_apart l i j a b (λ e. h (ap suc e)))
 
+received_stays : (receive : Place) (packet : List ℕ) (t : Store) → (received receive packet t).ended ≡ t.ended
+received_stays (place.Variable m) packet t = refl
+received_stays (place.Array a) packet t = refl
+
 -- a variable takes a word before the packet comes, or after
 set_first : (receive : Place) (packet : List ℕ) (t : Store) (n word : ℕ) (flag : Bool) → Apart receive n
     → received receive packet (with_value n word (core.flagged flag t)) ≡ with_value n word (core.flagged flag (received receive packet t))
@@ -123,6 +127,7 @@ module _ (tables : Tables) where
     count = length-map tables.storages.items first_bytes ∙ storages;
     flag = refl;
     traced = refl;
+    ended = refl;
   }
 
   -- nothing but zeros and tables
@@ -196,6 +201,7 @@ module _ (tables : Tables) where
     count = holds.count;
     flag = holds.flag;
     traced = holds.traced;
+    ended = holds.ended;
   }
     where
       aside : (y m : ℕ) → variable_of tables scope y ≡ Some m → m ≢ n
@@ -220,6 +226,7 @@ module _ (tables : Tables) where
           count = h.count;
           flag = h.flag ∙ or_false s.flag;
           traced = h.traced;
+          ended = h.ended;
         }
 
     pub element_received : (to : ScopedTarget) (x n : ℕ) (made : Target) (body : Process) → is_this x (cell_in tables n) ≡ true
@@ -258,8 +265,29 @@ module _ (tables : Tables) where
 
     -- ---- results
 
+    -- what has been sent
+    given_held : (s : State) (t : Store) → Holds tables scope s t → meant s ≡ given_in t
+    given_held s t holds =
+        λ i. if nat_lt most_traced (length (sym holds.traced i)) then None
+        else Some (record { result = result_of (sym holds.ended i); flag = sym holds.flag i; traced = sym holds.traced i })
+
+    -- what is given behind a process that leads to these states
+    given_behind : (second : Scoped) (two : Process) (send : Message) → IsFinished tables scope second two send
+        → (s : State) (t : Store) → Holds tables scope s t
+        → meant (state.going_on (scoped.run second) s) ≡ given send (core.unless_ended t.ended (core.run tables.kinds.items two t) t)
+    given_behind second two send rest s t holds =
+        by_end s.result refl
+        ∙ ap (λ (o : Option (List ℕ)). given send (core.unless_ended o (core.run tables.kinds.items two t) t)) (sym holds.ended)
+      where
+        by_end : (o : Option (List ℕ)) → s.result ≡ o
+            → meant (state.unless_ended o (scoped.run second s) s) ≡ given send (core.unless_ended o (core.run tables.kinds.items two t) t)
+        by_end None going = rest s t holds going
+        by_end (Some result) ended =
+            given_held s t holds
+            ∙ ap (λ (o : Option (List ℕ)). given_in (core.unless_ended o (core.finished send t) t)) (sym (holds.ended ∙ ended))
+
     pub sent : (m : ScopedMessage) (send : Message) → p ≡ process.Send m → IsMessage tables scope m send → IsFinished tables scope p Skip send
-    sent m send is placed s t holds =
+    sent m send is placed s t holds going =
         ap (λ (k : Scoped). meant (scoped.run k s)) is
         ∙ (λ i. if nat_lt most_traced (length (sym holds.traced i)) then None
         else Some (record {
@@ -267,29 +295,33 @@ module _ (tables : Tables) where
           flag = sym holds.flag i || sym (placed.flag s t holds) i;
           traced = sym holds.traced i;
         }))
+        ∙ ap (λ (o : Option (List ℕ)). given_in (core.unless_ended o (core.finished send t) t)) (sym (holds.ended ∙ going))
 
     pub finished_within : (line : ℕ) (inner : Box Scoped Global) (inner' : Scoped) (body : Process) (send : Message) → p ≡ process.At line inner
         → inner' ≡ inner.value → IsFinished tables scope inner' body send → IsFinished tables scope p body send
-    finished_within line inner inner' body send is inner-is done s t holds =
-        ap (λ (k : Scoped). meant (scoped.run k s)) is ∙ (λ i. meant (scoped.run (sym inner-is i) s)) ∙ done s t holds
+    finished_within line inner inner' body send is inner-is done s t holds going =
+        ap (λ (k : Scoped). meant (scoped.run k s)) is ∙ (λ i. meant (scoped.run (sym inner-is i) s)) ∙ done s t holds going
 
     module _ (first second : Box Scoped Global) (first' second' : Scoped) (one two made : Process) (send send' : Message)
         (is : p ≡ process.Sequence first second) (first-is : first' ≡ first.value) (second-is : second' ≡ second.value)
         (rest : IsFinished tables scope second' two send) (send-is : send' ≡ send)
-        (run-is : (kinds : List Kind) (t : Store) → core.run kinds made t ≡ core.run kinds two (core.run kinds one t)) where
+        (run-is : (kinds : List Kind) (t : Store) → core.run kinds made t
+        ≡ core.unless_ended (core.run kinds one t).ended (core.run kinds two (core.run kinds one t)) (core.run kinds one t)) where
       pub finished_behind : IsDone tables scope first' one → IsFinished tables scope p made send'
-      finished_behind done s t holds =
-          ap (λ (k : Scoped). meant (scoped.run k s)) is ∙ (λ i. meant (scoped.run (sym second-is i) (scoped.run (sym first-is i) s)))
-          ∙ rest (scoped.run first' s) (core.run tables.kinds.items one t) (done s t holds)
+      finished_behind done s t holds going =
+          ap (λ (k : Scoped). meant (scoped.run k s)) is
+          ∙ (λ i. meant (state.going_on (scoped.run (sym second-is i)) (scoped.run (sym first-is i) s)))
+          ∙ given_behind second' two send rest (scoped.run first' s) (core.run tables.kinds.items one t) (done s t holds)
           ∙ (λ i. given (sym send-is i) (sym (run-is tables.kinds.items t) i))
 
       pub begun_with : (known : State) (receive receive' : Place) → receive' ≡ receive → IsReceived tables scope first' receive one
           → IsBegun tables scope known p receive' made send'
       begun_with known receive receive' same done =
-          subst (λ (k : Place). IsBegun tables scope known p k made send') (sym same) (λ s t holds fresh cells arrays takes.
+          subst (λ (k : Place). IsBegun tables scope known p k made send') (sym same) (λ s t holds fresh going cells arrays takes.
           let u = received receive s.packet t in
-          ap (λ (k : Scoped). meant (scoped.run k s)) is ∙ (λ i. meant (scoped.run (sym second-is i) (scoped.run (sym first-is i) s)))
-          ∙ rest (scoped.run first' s) (core.run tables.kinds.items one u) (done s t holds takes)
+          ap (λ (k : Scoped). meant (scoped.run k s)) is
+          ∙ (λ i. meant (state.going_on (scoped.run (sym second-is i)) (scoped.run (sym first-is i) s)))
+          ∙ given_behind second' two send rest (scoped.run first' s) (core.run tables.kinds.items one u) (done s t holds takes)
           ∙ (λ i. given (sym send-is i) (sym (run-is tables.kinds.items u) i)))
 
     -- ---- declarations
@@ -298,20 +330,20 @@ module _ (tables : Tables) where
         (inner-is : inner' ≡ inner.value) where
       pub begun_within : (line : ℕ) → p ≡ process.At line inner → IsBegun tables scope known inner' receive body send
           → IsBegun tables scope known p receive body send
-      begun_within line is begun s t holds fresh cells arrays takes =
+      begun_within line is begun s t holds fresh going cells arrays takes =
           ap (λ (k : Scoped). meant (scoped.run k s)) is ∙ (λ i. meant (scoped.run (sym inner-is i) s))
-          ∙ begun s t holds fresh cells arrays takes
+          ∙ begun s t holds fresh going cells arrays takes
 
       pub begun_variable : {name : Span} (q : Bor (Unit {0})) (x n : ℕ) (kind : Kind) → p ≡ process.Variable name x kind inner → is_this x (cell_in tables n) ≡ true
           → variable_of tables scope x ≡ None → after ≡ state.with_cell x 0 known
           → IsBegun tables (Variable' n q scope) after inner' receive body send → IsBegun tables scope known p receive body send
-      begun_variable q x n kind is lies new after-is begun s t holds fresh cells arrays takes =
+      begun_variable q x n kind is lies new after-is begun s t holds fresh going cells arrays takes =
           ap (λ (k : Scoped). meant (scoped.run k s)) is ∙ (λ i. meant (scoped.run (sym inner-is i) (state.with_cell x 0 s)))
           ∙ begun (state.with_cell x 0 s) t
           (subst (λ (u : Store). Holds tables (Variable' n q scope) (state.with_cell x 0 s) u) (zero_kept scope t x n lies new fresh)
           (holds_within tables scope s t x n q 0 lies new holds))
           (subst (λ (u : Store). IsFresh tables (Variable' n q scope) u) (unflagged t ∙ zero_kept scope t x n lies new fresh)
-          (fresh_within scope q x n lies new t 0 false fresh))
+          (fresh_within scope q x n lies new t 0 false fresh)) going
           (ap (λ (k : State). k.cells) after-is ∙ ap (λ (c : ℕ → ℕ). λ y. if y == x then 0 else c y) cells)
           (ap (λ (k : State). k.arrays) after-is ∙ arrays) takes
         where
@@ -321,13 +353,13 @@ module _ (tables : Tables) where
       pub begun_array : {name : Span} (q : Bor (Unit {0})) (a n bytes : ℕ) → p ≡ process.Array name a bytes inner → is_this a (array_in tables n) ≡ true
           → array_of tables scope a ≡ None → bytes_of (storage_at tables n) ≡ bytes → after ≡ state.with_array a (replicate bytes 0) known
           → IsBegun tables (Array' n q scope) after inner' receive body send → IsBegun tables scope known p receive body send
-      begun_array q a n bytes is lies new long after-is begun s t holds fresh cells arrays takes =
+      begun_array q a n bytes is lies new long after-is begun s t holds fresh going cells arrays takes =
           ap (λ (k : Scoped). meant (scoped.run k s)) is ∙ (λ i. meant (scoped.run (sym inner-is i) (state.with_array a (replicate bytes 0) s)))
           ∙ begun (state.with_array a (replicate bytes 0) s) t
           (subst (λ (u : Store). Holds tables (Array' n q scope) (state.with_array a (replicate bytes 0) s) u) (zeros_kept scope t a n bytes lies long fresh)
           (holds_array_within tables scope s t a n q (replicate bytes 0) lies new
           (length-replicate {A = ℕ} bytes 0 ∙ sym long) holds))
-          (fresh_array scope q n t fresh)
+          (fresh_array scope q n t fresh) going
           (ap (λ (k : State). k.cells) after-is ∙ cells)
           (ap (λ (k : State). k.arrays) after-is ∙ ap (λ (c : ℕ → List ℕ). λ b. if b == a then replicate bytes 0 else c b) arrays) takes
 
@@ -335,21 +367,21 @@ module _ (tables : Tables) where
           → p ≡ process.Value name x e inner
           → is_this x (cell_in tables n) ≡ true → variable_of tables scope x ≡ None → answer ≡ scoped.value_of e known
           → after ≡ state.with_cell x answer.word known → Apart receive n
-          → ((t : Store) → core.run tables.kinds.items made t
+          → ((t : Store) → t.ended ≡ None → core.run tables.kinds.items made t
           ≡ core.run tables.kinds.items body (with_value n answer.word (core.flagged answer.flag t)))
           → IsBegun tables (Variable' n q scope) after inner' receive body send → IsBegun tables scope known p receive made send
-      begun_value q x n e answer made is lies new valued after-is away run-is begun s t holds fresh cells arrays takes =
+      begun_value q x n e answer made is lies new valued after-is away run-is begun s t holds fresh going cells arrays takes =
           let same : scoped.value_of e s ≡ answer = sym (valued ∙ value_by e known s cells arrays) in
           ap (λ (k : Scoped). meant (scoped.run k s)) is
           ∙ (λ i. meant (scoped.run (sym inner-is i) (state.stored x (same i) s)))
           ∙ begun (state.stored x answer s) (with_value n answer.word (core.flagged answer.flag t))
           (holds_within tables scope (state.flagged answer.flag s) (core.flagged answer.flag t) x n q answer.word lies new
           (holds_flagged tables scope s t answer.flag holds))
-          (fresh_within scope q x n lies new t answer.word answer.flag fresh)
+          (fresh_within scope q x n lies new t answer.word answer.flag fresh) going
           (ap (λ (k : State). k.cells) after-is ∙ ap (λ (c : ℕ → ℕ). λ y. if y == x then answer.word else c y) cells)
           (ap (λ (k : State). k.arrays) after-is ∙ arrays) takes
           ∙ ap (λ (u : Store). given send (core.run tables.kinds.items body u)) (set_first receive s.packet t n answer.word answer.flag away)
-          ∙ ap (given send) (sym (run-is (received receive s.packet t)))
+          ∙ ap (given send) (sym (run-is (received receive s.packet t) (received_stays receive s.packet t ∙ holds.ended ∙ going)))
 
   -- another place, process and message that are the same
   pub begun_same : (scope : Scope) (known : State) (p : Scoped) (receive receive' : Place) (body body' : Process) (send send' : Message)
@@ -360,7 +392,16 @@ module _ (tables : Tables) where
       (subst (λ (k : Process). IsBegun tables scope known p receive k send') (sym body-is)
       (subst (λ (k : Message). IsBegun tables scope known p receive body k) (sym send-is) begun))
 
--- four facts of what is returned
+-- two facts of what is returned, three and four
+pub both_ok : {A E : Type 0} (r : Result A E) (P Q G : A → Type 0) → ((a : A) → P a → Q a → G a) → IfOk r P → IfOk r Q → IfOk r G
+both_ok (Ok a) P Q G together p q = together a p q
+both_ok (Err e) P Q G together p q = tt
+
+pub three_ok : {A E : Type 0} (r : Result A E) (P Q R G : A → Type 0) → ((a : A) → P a → Q a → R a → G a)
+    → IfOk r P → IfOk r Q → IfOk r R → IfOk r G
+three_ok (Ok a) P Q R G together p q r = together a p q r
+three_ok (Err e) P Q R G together p q r = tt
+
 pub all_ok : {A E : Type 0} (r : Result A E) (P Q R S G : A → Type 0) → ((a : A) → P a → Q a → R a → S a → G a)
     → IfOk r P → IfOk r Q → IfOk r R → IfOk r S → IfOk r G
 all_ok (Ok a) P Q R S G together p q r s = together a p q r s

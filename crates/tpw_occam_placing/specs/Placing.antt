@@ -65,6 +65,7 @@ pub record Holds (tables : Tables) (scope : Scope) (s : State) (t : Store) : Typ
   pub count : length t.arrays ≡ length tables.arrays.items
   pub flag : t.flag ≡ s.flag
   pub traced : t.traced ≡ s.traced
+  pub ended : t.ended ≡ s.result
 
 -- a state in which each of these cells has the word of another
 abbrev pub seen : Aliases → State → State

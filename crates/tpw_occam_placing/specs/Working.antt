@@ -28,16 +28,22 @@ first_of tables = record {
   arrays = map first_bytes tables.storages.items;
   flag = false;
   traced = [];
+  ended = None;
 }
 
 -- what is given in a state: nothing where too much is traced
-abbrev pub given : Message → Store → Option Meant
-given send t = if nat_lt most_traced (length t.traced) then None else Some (core.meant send t)
+abbrev pub given_in : Store → Option Meant
+given_in t = if nat_lt most_traced (length t.traced) then None else Some (core.meant t)
 
--- from each state, what a scoped core gives that sends the result
+-- .. with a last message, which goes out where no other has
+abbrev pub given : Message → Store → Option Meant
+given send t = given_in (core.unless_ended t.ended (core.finished send t) t)
+
+-- from each state in which the result is not sent, what a scoped core gives that sends it
 abbrev pub IsFinished : Tables → Scope → Scoped → Process → Message → Type 0
 IsFinished tables scope p body send =
-    (s : State) (t : Store) → Holds tables scope s t → meant (scoped.run p s) ≡ given send (core.run tables.kinds.items body t)
+    (s : State) (t : Store) → Holds tables scope s t → s.result ≡ None
+    → meant (scoped.run p s) ≡ given send (core.run tables.kinds.items body t)
 
 -- a worker has the packet where a scoped core has it
 abbrev pub IsReceived : Tables → Scope → Scoped → Place → Process → Type 0
@@ -58,6 +64,6 @@ Apart (place.Array a) n = Unit
 -- From a state in front of the packet, what a scoped core gives that receives the packet. Cells and arrays are known.
 abbrev pub IsBegun : Tables → Scope → State → Scoped → Place → Process → Message → Type 0
 IsBegun tables scope known p receive body send =
-    (s : State) (t : Store) → Holds tables scope s t → IsFresh tables scope t → known.cells ≡ s.cells → known.arrays ≡ s.arrays
+    (s : State) (t : Store) → Holds tables scope s t → IsFresh tables scope t → s.result ≡ None → known.cells ≡ s.cells → known.arrays ≡ s.arrays
     → Takes tables.storages.items receive s.packet
     → meant (scoped.run p s) ≡ given send (core.run tables.kinds.items body (received receive s.packet t))

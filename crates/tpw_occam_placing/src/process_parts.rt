@@ -3,7 +3,7 @@
 ghost use Rattle.std.specs.Prelude.{◌≡◌, IfOk, List, length, replicate};
 ghost use Rattle.tpw_occam_core.specs.declared.kind.Kind.{Kind};
 ghost use Rattle.tpw_occam_core.specs.Meaning.{Store, value_of, run, turns, chosen, flagged, with_value, with_array};
-ghost use Rattle.tpw_occam_core.specs.Meaning.{array_of};
+ghost use Rattle.tpw_occam_core.specs.Meaning.{array_of, unless_ended};
 
 use std::alloc::{AllocError, Global};
 use tpw_occam_core::{Expression, Process};
@@ -14,7 +14,8 @@ pub(crate) fn sequence(
     first: Process,
     second: Process,
 ) -> Result<Process, AllocError>
-    ensures { IfOk result (λ p. (kinds : List Kind) (t : Store) → run kinds p t ≡ run kinds second (run kinds first t)) }
+    ensures { IfOk result (λ p. (kinds : List Kind) (t : Store) → run kinds p t
+        ≡ unless_ended (run kinds first t).ended (run kinds second (run kinds first t)) (run kinds first t)) }
 {
     Ok(Process::Sequence(Box::new(alloc, first)?, Box::new(alloc, second)?))
 }

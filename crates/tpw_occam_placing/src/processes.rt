@@ -12,7 +12,7 @@ use std::alloc::Global;
 use tpw_occam_core::{Kind, Process};
 use tpw_occam_scoped::Process as Scoped;
 
-/// The process of a worker that a scoped one becomes. None receives the packet or sends the result.
+/// The process of a worker that a scoped one becomes. None receives the packet.
 pub fn process(
     alloc: Global,
     tables: &Tables,
@@ -110,8 +110,7 @@ pub fn process(
             let body = process(alloc, tables, scope, body, room - 1)?;
             Ok(parts::at(alloc, *line, body)?)
         }
-        Scoped::ReceiveWord(_) | Scoped::ReceiveArray(_) | Scoped::Send(_) => {
-            Err(Fault::Misplaced)
-        }
+        Scoped::Send(m) => Ok(Process::Finish(message(alloc, tables, scope, m, room)?)),
+        Scoped::ReceiveWord(_) | Scoped::ReceiveArray(_) => Err(Fault::Misplaced),
     }
 }

@@ -1,9 +1,9 @@
 //! Whole workers.
 
-ghost use Rattle.std.specs.Prelude.{◌≡◌, List, ℕ, false, IfOk, IsTrue, slice_index};
+ghost use Rattle.std.specs.Prelude.{◌≡◌, List, ℕ, false, None, IfOk, IsTrue, slice_index};
 ghost use Rattle.tpw_occam_core.specs.declared.kind.Kind.{Kind};
 ghost use Rattle.tpw_occam_core.specs.Meaning as core;
-ghost use Rattle.tpw_occam_core.specs.Meaning.{Store, meaning, flagged, stored, subscript_of, with_value};
+ghost use Rattle.tpw_occam_core.specs.Meaning.{Store, meaning, flagged, stored, subscript_of, with_value, unless_ended};
 ghost use Rattle.tpw_occam_interpreter.specs.Memories.{state_of};
 ghost use Rattle.tpw_occam_scoped.specs.declared.process.Process.TheVariants.{ReceiveWord};
 ghost use Rattle.tpw_occam_scoped.specs.Meaning as scoped;
@@ -133,8 +133,8 @@ fn received(
 
 /// A step in front of others.
 fn stepped(alloc: Global, first: Process, rest: Steps) -> Result<Steps, Fault>
-    ensures body { IfOk result (λ r. (kinds : List Kind) (t : Store) →
-        core.run kinds r.body t ≡ core.run kinds rest.body (core.run kinds first t)) }
+    ensures body { IfOk result (λ r. (kinds : List Kind) (t : Store) → core.run kinds r.body t ≡ unless_ended
+        (core.run kinds first t).ended (core.run kinds rest.body (core.run kinds first t)) (core.run kinds first t)) }
     ensures send { IfOk result (λ r. r.send ≡ rest.send) }
 {
     Ok(Steps {
@@ -186,8 +186,9 @@ fn with_spare(alloc: Global, spare: Option<usize>) -> Result<Vec<usize>, Fault> 
 /// The packet, and what is behind it.
 fn joined(alloc: Global, received: Packet, finished: Steps) -> Result<Parts, Fault>
     ensures receive { IfOk result (λ b. b.receive ≡ received.place) }
-    ensures body { IfOk result (λ b. (kinds : List Kind) (t : Store) →
-        core.run kinds b.body t ≡ core.run kinds finished.body (core.run kinds received.body t)) }
+    ensures body { IfOk result (λ b. (kinds : List Kind) (t : Store) → core.run kinds b.body t ≡ unless_ended
+        (core.run kinds received.body t).ended (core.run kinds finished.body (core.run kinds received.body t))
+        (core.run kinds received.body t)) }
     ensures send { IfOk result (λ b. b.send ≡ finished.send) }
 {
     let variables = with_spare(alloc, received.spare)?;
@@ -248,7 +249,7 @@ fn set(alloc: Global, tables: &Tables, n: usize, word: u32) -> Result<Process, F
 
 /// A variable takes a word, and where the word sets the flag that is set first.
 fn set_answer(alloc: Global, tables: &Tables, n: usize, answer: Answer) -> Result<Process, Fault>
-    ensures { IfOk result (λ p. (t : Store) →
+    ensures { IfOk result (λ p. (t : Store) → t.ended ≡ None →
         core.run tables.now.kinds.items p t ≡ with_value n answer.word (flagged answer.flag t)) }
 {
     let set = set(alloc, tables, n, answer.word)?;
@@ -269,7 +270,7 @@ fn computed(
 ) -> Result<Parts, Fault>
     ensures receive { IfOk result (λ b. b.receive ≡ begun.receive) }
     ensures apart { IfOk result (λ b. Apart begun.receive n) }
-    ensures body { IfOk result (λ b. (t : Store) → core.run tables.now.kinds.items b.body t
+    ensures body { IfOk result (λ b. (t : Store) → t.ended ≡ None → core.run tables.now.kinds.items b.body t
         ≡ core.run tables.now.kinds.items begun.body (with_value n answer.word (flagged answer.flag t))) }
     ensures send { IfOk result (λ b. b.send ≡ begun.send) }
 {

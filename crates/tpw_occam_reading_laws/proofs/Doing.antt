@@ -31,7 +31,7 @@ use Rattle.tpw_occam_meaning.specs.Declarations.{value_declared, variables, arra
 use Rattle.tpw_occam_meaning.specs.Effects.{Effect, within_variable, within_array}
 use Rattle.tpw_occam_meaning.specs.Expressions.{value_of, type_of, constant}
 use Rattle.tpw_occam_meaning.specs.Maybe.{and_then, where_true}
-use Rattle.tpw_occam_meaning.specs.Messages.{carried, message_of}
+use Rattle.tpw_occam_meaning.specs.Messages.{carried, message_of, way_of}
 use Rattle.tpw_occam_meaning.specs.Names.{Word, Kept, Channel, Protocol, Traces, Fixed, Variable, Whole, Form, Entry, Is, Procedure, Function, Names, found, with_name, taking}
 use Rattle.tpw_occam_meaning.specs.Processes.{run, all_run, first_true, selected, otherwise, declared, all_constants, are_distinct, constants_of, elses}
 use Rattle.tpw_occam_meaning.specs.Types.{shape_of, forms_of, is_value, bytes_of}
@@ -43,7 +43,7 @@ use Rattle.tpw_occam_reading_laws.proofs.Wellformed.{value_needs}
 use Rattle.tpw_occam_reading_laws.proofs.Order.{Below, below_refl, below_eq, below_then, found_below, NamesBelow}
 use Rattle.tpw_occam_reading_laws.proofs.Meanings.{value_below, type_same, constant_below}
 use Rattle.tpw_occam_reading_laws.proofs.TypeMeanings.{shape_below, forms_below}
-use Rattle.tpw_occam_reading_laws.proofs.Statements.{assignment_below, called_below, carried_same, message_below, is_table_same, table_below, type_of_value_below, retyped_below}
+use Rattle.tpw_occam_reading_laws.proofs.Statements.{assignment_below, called_below, carried_same, way_same, message_below, is_table_same, table_below, type_of_value_below, retyped_below}
 use Rattle.tpw_occam_reading_laws.proofs.Sameness.{SameDeclaration, Same, SameSteps, SameChoices, SameCases}
 use Rattle.tpw_occam_reading_laws.proofs.Faultless.{run_needs}
 use Rattle.tpw_occam_reading_laws.proofs.ProcessReadings.{one_process}
@@ -81,6 +81,10 @@ pub agree_carried : (channel : Channel) (a b : Name) → a.text.now ≡ b.text.n
 agree_carried channel a b h m n j =
     agree_between (below_eq (carried_same channel a m j.upper j.left)) (below_eq (carried_same channel b n j.upper j.right))
     (ap (λ z. carried channel (found (name_of z) j.upper)) h)
+
+agree_way : (a b : Name) → a.text.now ≡ b.text.now → (m n : Names) → Joined m n → Agree (way_of (found a m)) (way_of (found b n))
+agree_way a b h m n j =
+    agree_between (below_eq (way_same a m j.upper j.left)) (below_eq (way_same b n j.upper j.right)) (ap (λ z. way_of (found (name_of z) j.upper)) h)
 
 pub agree_message : (protocol : Protocol) (e f : Expression) → plain e ≡ plain f → (m n : Names) (d : ℕ) → Joined m n
     → Agree (message_of protocol e m d) (message_of protocol f n d)
@@ -295,7 +299,7 @@ mutual
   agree_run (process.Receive x e s) (process.Receive y f t) h = record { at = λ m n j d. agree_left_none }
   agree_run (process.Send x e s) (process.Send y f t) h = record {
     at = λ m n j d.
-        agree_then (agree_carried Traces x y h.0 m n j) (λ protocol. agree_then (agree_message protocol e f h.1 m n d j) (λ message. agree_refl));
+        agree_then (agree_way x y h.0 m n j) (λ way. agree_then (agree_message way.0 e f h.1 m n d j) (λ message. agree_refl));
   }
   agree_run (process.Declared' p a r x) (process.Declared' q b t y) h =
       let rest = agree_run x y h.1 in

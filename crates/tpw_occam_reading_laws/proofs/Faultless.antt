@@ -27,7 +27,7 @@ use Rattle.tpw_occam_meaning.specs.Declarations.{value_declared, variables, arra
 use Rattle.tpw_occam_meaning.specs.Effects.{Effect, given}
 use Rattle.tpw_occam_meaning.specs.Expressions.{type_of, value_of}
 use Rattle.tpw_occam_meaning.specs.Maybe.{and_then, where_true}
-use Rattle.tpw_occam_meaning.specs.Messages.{carried}
+use Rattle.tpw_occam_meaning.specs.Messages.{way_of}
 use Rattle.tpw_occam_meaning.specs.Names.{Word, Traces, Fixed, Is, Names, found, with_name}
 use Rattle.tpw_occam_meaning.specs.Processes.{run, all_run, first_true, selected, otherwise, declared, all_constants, constants_of, elses}
 use Rattle.tpw_occam_meaning.specs.Types.{by_sizes}
@@ -129,7 +129,7 @@ mutual
   run_needs (process.Call name arguments span) m d = called_needs (found name m) arguments m d
   run_needs (process.Receive channel target span) m d = needs_none
   run_needs (process.Send channel e span) m d =
-      needs_then (carried Traces (found channel m)) (λ protocol. needs_first _ (message_needs protocol e m d))
+      needs_then (way_of (found channel m)) (λ way. needs_first _ (message_needs way.0 e m d))
   run_needs (process.Declared' p x q rest) m d = declared_needs x (run rest) m d (λ m d. run_needs rest m d)
   run_needs process.Wrong m d = needs_none
 

@@ -15,6 +15,7 @@ use Rattle.tpw_occam_meaning.specs.declared.tree.Processes.{Processes}
 use Rattle.tpw_occam_meaning.specs.declared.tree.Processes.TheVariants as processes
 use Rattle.tpw_occam_meaning.specs.declared.tree.Source.{Source}
 use Rattle.tpw_occam_meaning.specs.Effects.{Effect, followed_by}
+use Rattle.tpw_occam_meaning.specs.States.{going_on}
 use Rattle.tpw_occam_meaning.specs.Maybe.{and_then}
 use Rattle.tpw_occam_meaning.specs.Messages.{received, carried}
 use Rattle.tpw_occam_meaning.specs.Names.{Names, Packet, Output, found}
@@ -36,7 +37,7 @@ use Rattle.tpw_occam_reading_laws.proofs.Doing.{agree_forms, agree_carried, agre
 -- ---- workers are well formed
 
 step_needs : {F G : Type 0} (o p : Effect) → Needs F o → Needs G p → Needs (F × G) (followed_by o p)
-step_needs o p n m = needs_both n (λ f. needs_first (λ g. Some (λ s. g (f s))) m)
+step_needs o p n m = needs_both n (λ f. needs_first (λ g. Some (λ s. going_on g (f s))) m)
 
 finished_needs : (x : Processes) (m : Names) (d : ℕ) → Needs (StepsWhole x) (finished x m d)
 finished_needs processes.End m d = needs_none

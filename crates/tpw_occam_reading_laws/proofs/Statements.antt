@@ -14,7 +14,7 @@ use Rattle.tpw_occam_meaning.specs.Declarations.{is_table, type_in_table, shape_
 use Rattle.tpw_occam_meaning.specs.Effects.{Effect, given}
 use Rattle.tpw_occam_meaning.specs.Expressions.{view_in}
 use Rattle.tpw_occam_meaning.specs.Maybe.{and_then, where_true}
-use Rattle.tpw_occam_meaning.specs.Messages.{message_of, carried, received}
+use Rattle.tpw_occam_meaning.specs.Messages.{message_of, carried, way_of, received}
 use Rattle.tpw_occam_meaning.specs.Names.{Word, Constant, Kept, View, Place, Form, OfValue, OfVariable, OfArray, OfChannel, Protocol, OneWord, Several, Channel, Traces, Fixed, Whole, Carrier, Element}
 use Rattle.tpw_occam_meaning.specs.Names.{Body, behind, Entry, Is, Procedure, Function, Nothing, Names, found}
 use Rattle.tpw_occam_meaning.specs.States.{State}
@@ -174,6 +174,10 @@ carried_same channel name m n h =
     of_function : (channel : Channel) (of : Primitive) (forms : List Form) (b c : Body Value) → carried channel (Function of forms b) ≡ carried channel (Function of forms c)
     of_function Traces of forms b c = refl
     of_function other of forms b c = refl
+
+pub way_same : (name : Name) (m n : Names) → NamesBelow m n → way_of (found (name_of name.text.now) n) ≡ way_of (found name m)
+way_same name m n h =
+    same_lookup way_of (λ forms b c. refl) (λ of forms b c. refl) (found name m) (found (name_of name.text.now) n) (found_below name m n h)
 
 traces_same : (e : Expression) (m n : Names) → NamesBelow m n → traces_of (plain e) n ≡ traces_of e m
 traces_same (tree.Name name) m n h = carried_same Traces name m n h

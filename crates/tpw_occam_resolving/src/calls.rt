@@ -122,7 +122,7 @@ pub(crate) fn same_protocol(one: Protocol, other: Protocol) -> bool
 }
 
 /// The protocol of the traces' channel, where a name is that.
-pub(crate) fn traces(scope: &Scope<'_, '_, '_>, name: Name<'_>) -> Result<Protocol, Fault>
+fn traces(scope: &Scope<'_, '_, '_>, name: Name<'_>) -> Result<Protocol, Fault>
     ensures { IfOk result (λ p.
         messages.carried Traces (found name.entry (names_of scope.now)) ≡ Some (protocol_of p)) }
 {

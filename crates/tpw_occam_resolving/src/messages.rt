@@ -2,17 +2,15 @@
 
 ghost use Rattle.std.specs.Prelude.{◌≡◌, ℕ, Some, IfOk};
 ghost use Rattle.tpw_occam_meaning.specs.Messages as text;
-ghost use Rattle.tpw_occam_meaning.specs.Maybe.{and_then};
-ghost use Rattle.tpw_occam_meaning.specs.Names.{Traces, found};
+ghost use Rattle.tpw_occam_meaning.specs.Names.{found};
 ghost use Rattle.tpw_occam_names.specs.Scopes.{names_of, protocol_of};
 ghost use Rattle.tpw_occam_scoped.specs.Made.{effect_of, message_made};
 
 use crate::arrays::{bytes, view};
-use crate::calls::traces;
 use crate::expressions::{array, value};
 use std::alloc::Global;
 use tpw_occam_meaning::Expression;
-use tpw_occam_names::{Fault, Protocol, Scope, Shape};
+use tpw_occam_names::{Channel, Fault, Meaning, Protocol, Scope, Shape, look_up};
 use tpw_occam_scoped::{Message, Process};
 use tpw_occam_terms::{Name, Primitive};
 
@@ -44,8 +42,8 @@ pub fn message<'t, 'a>(
     }
 }
 
-/// A message to the traces.
-pub(crate) fn traced<'t, 'a>(
+/// A message to the traces, or the result.
+pub(crate) fn sent<'t, 'a>(
     alloc: Global,
     scope: &Scope<'_, 't, 'a>,
     d: usize,
@@ -53,10 +51,18 @@ pub(crate) fn traced<'t, 'a>(
     e: &Expression<'a>,
     room: u32,
 ) -> Result<Process, Fault>
-    ensures { IfOk result (λ made. effect_of made ≡ and_then (text.carried Traces (found channel.entry (names_of scope.now)))
-        (λ protocol. and_then (text.message_of protocol e.now (names_of scope.now) d) text.tracing)) }
+    ensures { IfOk result (λ made.
+        effect_of made ≡ text.sent (found channel.entry (names_of scope.now)) e.now (names_of scope.now) d) }
 {
-    let protocol = traces(scope, channel)?;
-    let message = message(alloc, scope, d, protocol, e, room)?;
-    Ok(Process::trace(message))
+    match look_up(scope, channel) {
+        Some((Meaning::Carrier(Channel::Traces, protocol), _)) => {
+            let message = message(alloc, scope, d, protocol, e, room)?;
+            Ok(Process::trace(message))
+        }
+        Some((Meaning::Carrier(Channel::Output, protocol), _)) => {
+            let message = message(alloc, scope, d, protocol, e, room)?;
+            Ok(Process::send(message))
+        }
+        _ => Err(Fault::Wrong),
+    }
 }

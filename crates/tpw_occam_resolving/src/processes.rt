@@ -21,7 +21,7 @@ use crate::declarations::{
 use crate::depths::{depth_behind, next, word_passed};
 use crate::expressions::{array, value};
 use crate::lines::{at, expression_line, first_line, process_line};
-use crate::messages::traced;
+use crate::messages::sent;
 use crate::parameters::first;
 use crate::targets::{assignment, cell_kind};
 use crate::types::{are_turns, bytes_of, constant, is_single, shape};
@@ -109,7 +109,7 @@ fn without_line<'t, 'a>(
             cases,
             ..
         } => case(alloc, scope, d, selector, cases, room - 1),
-        Tree::Send { channel, value, .. } => traced(alloc, scope, d, *channel, value, room),
+        Tree::Send { channel, value, .. } => sent(alloc, scope, d, *channel, value, room),
         Tree::Call {
             name,
             arguments,

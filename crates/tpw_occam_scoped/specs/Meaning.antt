@@ -10,7 +10,7 @@ use Rattle.tpw_occam_core.specs.Arrays.{size, element, kept, with_element}
 use Rattle.tpw_occam_core.specs.Meaning.{bind, both, either, element_at}
 use Rattle.tpw_occam_core.specs.Meaning.{Meant}
 use Rattle.tpw_occam_meaning.specs.States.{State, first, with_cell, with_array, flagged, stored, with_traced}
-use Rattle.tpw_occam_meaning.specs.States.{with_result, turns, chosen}
+use Rattle.tpw_occam_meaning.specs.States.{with_result, going_on, turns, chosen}
 use Rattle.tpw_occam_meaning.specs.Texts.{meant}
 use Rattle.tpw_occam_scoped.specs.declared.expression.Expression.{Expression}
 use Rattle.tpw_occam_scoped.specs.declared.expression.Expression.TheVariants.{Constant, Cell, Element', Listed', Checked'}
@@ -86,7 +86,7 @@ run process.Skip s = s
 run process.Stop s = flagged true s
 run (process.Assign list) s = all_assigned list.items s
 run (process.Copy to from) s = with_array to (bytes_in from s) s
-run (process.Sequence' p first q second) s = run second (run first s)
+run (process.Sequence' p first q second) s = going_on (run second) (run first s)
 run (process.Repeat' name x start count p body) s = turns (run body) x start count s
 run (process.If' e p guarded q rest) s =
     chosen (value_of e s).word (run guarded) (run rest) (flagged (value_of e s).flag s)

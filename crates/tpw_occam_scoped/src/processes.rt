@@ -183,6 +183,13 @@ impl Process {
     {
         Process::Trace(message)
     }
+
+    /// A message is the result.
+    pub fn send(message: Message) -> Process
+        ensures { effect_of result ≡ text_messages.sending (message_made message) }
+    {
+        Process::Send(message)
+    }
 }
 
 /// No assignments.

@@ -72,6 +72,8 @@ pub struct Checker<'t, 'a> {
     pub per_call: PerCall,
     /// The bytes that are traced at the least up to here.
     pub traced: u64,
+    /// .. and up to the results that end the worker within its SEQ.
+    pub traced_at_end: Option<u64>,
     pub(crate) environment: Environment<'t, 'a>,
     pub(crate) callees: Callees,
     /// The parameters of all PROCs and FUNCTIONs.
@@ -90,6 +92,7 @@ impl<'t, 'a> Checker<'t, 'a> {
             cells: Cells::new(alloc),
             per_call: PerCall::new(alloc),
             traced: 0,
+            traced_at_end: None,
             environment: Environment::new(alloc),
             callees: Callees::new(alloc),
             parameters: Vec::new(alloc),

@@ -2,12 +2,11 @@
 #![tactic(auto, unfolding(tpw_occam_scoped::specs::Made::effect_of))]
 
 ghost use Rattle.std.specs.Prelude.{◌≡◌, IfOk};
-ghost use Rattle.tpw_occam_meaning.specs.Messages as messages;
-ghost use Rattle.tpw_occam_scoped.specs.Made.{effect_of, target_made, message_made};
+ghost use Rattle.tpw_occam_scoped.specs.Made.{effect_of, target_made};
 ghost use Rattle.tpw_occam_terms.specs.declared.name.Primitive.TheVariants.{Int};
 ghost use Rattle.tpw_occam_workers.specs.Behind as ends;
 
-use tpw_occam_scoped::{Message, Process, Target};
+use tpw_occam_scoped::{Process, Target};
 
 /// A target takes the packet's first word.
 pub(crate) fn word_received(target: Target) -> Process
@@ -21,11 +20,4 @@ pub(crate) fn array_received(array: usize) -> Process
     ensures { effect_of result ≡ ends.array_received array }
 {
     Process::ReceiveArray(array)
-}
-
-/// A message is the result.
-pub(crate) fn sent(message: Message) -> Process
-    ensures { effect_of result ≡ messages.sending (message_made message) }
-{
-    Process::Send(message)
 }

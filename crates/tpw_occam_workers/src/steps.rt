@@ -10,7 +10,7 @@ ghost use Rattle.tpw_occam_names.specs.Scopes.{names_of, protocol_of};
 ghost use Rattle.tpw_occam_scoped.specs.Made.{effect_of};
 
 use crate::channels::{output, packet};
-use crate::ends::{array_received, sent, word_received};
+use crate::ends::{array_received, word_received};
 use std::alloc::Global;
 use tpw_occam_meaning::{Expression, Process as Tree, Processes};
 use tpw_occam_names::{Fault, Protocol, Scope, Shape};
@@ -88,7 +88,7 @@ fn last<'t, 'a>(
 {
     let protocol = output(scope, channel)?;
     let message = message(alloc, scope, d, protocol, e, room)?;
-    Ok(Process::at(alloc, line_of(span), sent(message))?)
+    Ok(Process::at(alloc, line_of(span), Process::send(message))?)
 }
 
 /// The steps behind the packet, of which the last sends the result.

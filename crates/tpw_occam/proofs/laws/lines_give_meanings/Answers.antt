@@ -14,7 +14,7 @@ use Rattle.tp_session.specs.InTime.{IsOutcomeInTime}
 use Rattle.tp_session.proofs.OtherRules.{told_so}
 use Rattle.tpw_asm.specs.declared.program.Program.{Program}
 use Rattle.tpw_asm.specs.Assembly.{IsAssembly}
-use Rattle.tpw_occam_core.specs.Meaning.{Meant, most_traced}
+use Rattle.tpw_occam_core.specs.Meaning.{Meant, most_traced, result_of}
 use Rattle.tpw_occam_meaning.specs.States.{first}
 use Rattle.tpw_occam_scoped.specs.declared.process.Process.{Process}
 use Rattle.tpw_occam_scoped.specs.Meaning as scoped
@@ -37,7 +37,7 @@ few : (p : Process) (packet : List ℕ) (m : Meant) → meaning p packet ≡ Som
 few p packet m is =
     let s = scoped.run p (first packet) in
     few_of (nat_lt most_traced (length s.traced)) (length s.traced)
-    (record { result = s.result; flag = s.flag; traced = s.traced }) m refl refl is
+    (record { result = result_of s.result; flag = s.flag; traced = s.traced }) m refl refl is
 
 -- a run that ends with no more traces than may be gives what is meant
 given : (run : RunResult) (m : Option Meant) → GivesMeaning (run_of_parts run.result run.error run.steps run.trace) m

@@ -1,7 +1,7 @@
 use Rattle.std.proofs.Common.{subst, ◌∙◌}
 use Rattle.tpw_occam_symbolic.specs.Code.{none_at}
-use Rattle.tpw_occam_code.specs.Executing.{Executes, Remains}
-use Rattle.tpw_occam_code.specs.Starting.{Receives, Sends}
+use Rattle.tpw_occam_code.specs.Executing.{Executes, Finishes, Remains}
+use Rattle.tpw_occam_code.specs.Starting.{Receives}
 use Rattle.tpw_occam_code.proofs.Working.{code_works}
 use Rattle.tpw_occam_code.proofs.compiled.code_of.Goals as goal
 
@@ -15,4 +15,4 @@ returns-clause-works c sound =
     (subst (λ k. Receives k (none_at 0) c.receive.new.code w.receive) is
     (subst (λ old. Receives c.in_ok-emitter.emitter old c.receive.new.code w.receive) c.new-code.ensures c.in_ok-receive.ensures))
     (subst (λ k. Executes k c.receive.new.code c.process.new.code w.body) is c.in_ok-process.ensures.executes)
-    (subst (λ k. Sends k c.process.new.code c.send.new.code w.send) (c.in_ok-process.ensures.knowledge ∙ is) c.in_ok-send.ensures.sends)
+    (subst (λ k. Finishes k c.process.new.code c.send.new.code w.send) (c.in_ok-process.ensures.knowledge ∙ is) c.in_ok-send.ensures.finishes)

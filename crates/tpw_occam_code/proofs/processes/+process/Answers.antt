@@ -8,10 +8,10 @@ use Rattle.tpw_occam_expressions.specs.Computing.{Decides, Binds, ComputesBindin
 use Rattle.tpw_occam_code.specs.Executing.{is_skip, DeclaresVariable, DeclaresValue, VariableKnown, ValueKnown, Executes, Chooses, Repeats, Remains, ChoosesKnown, RepeatsKnown, Assigns}
 use Rattle.tpw_occam_expressions.proofs.Standing.{place_of}
 use Rattle.tpw_occam_expressions.proofs.Naming.{restored}
-use Rattle.tpw_occam_code.proofs.Executing.{skip_executes, stop_executes, sequence_executes, value_executes, variable_executes, array_executes}
+use Rattle.tpw_occam_code.proofs.Executing.{skip_executes, stop_executes, assign_executes, trace_executes, sequence_executes, value_executes, variable_executes, array_executes}
 use Rattle.tpw_occam_code.proofs.Choosing.{never_executes, always_executes, choose_executes, branch_executes, executes_joined}
 use Rattle.tpw_occam_code.proofs.Looping.{repeat_none, repeat_once, repeat_many, turns_contained, counted}
-use Rattle.tpw_occam_code.proofs.Remaining.{assign_remains, copy_remains, sequence_remains, variable_remains, value_remains, array_remains, choose_remains, never_remains, always_remains, skipped_remains, once_remains, repeat_remains}
+use Rattle.tpw_occam_code.proofs.Remaining.{assign_remains, finish_remains, copy_remains, sequence_remains, variable_remains, value_remains, array_remains, choose_remains, never_remains, always_remains, skipped_remains, once_remains, repeat_remains}
 use Rattle.tpw_occam_code.proofs.processes.+process.Goals as goal
 
 -- ---- IF
@@ -89,7 +89,8 @@ process-returns-in-Stop-clause-executes t c =
 pub process-returns-in-Assign-clause-executes : goal.process-returns-in-Assign-clause-executes
 process-returns-in-Assign-clause-executes t c =
     on_ok_weaker c.assignments.result (λ assigns.
-    rw c.in-Assign.is (subst (λ all. Assigns c.args.emitter.now c.args.code.now c.assignments.new.code all) c.deref.ensures.value assigns)) c.assignments.ensures.assigns
+    rw c.in-Assign.is (assign_executes c.args.emitter.now c.args.code.now c.assignments.new.code c.in-Assign.list.items
+    (subst (λ all. Assigns c.args.emitter.now c.args.code.now c.assignments.new.code all) c.deref.ensures.value assigns))) c.assignments.ensures.assigns
 
 pub process-returns-in-Assign-clause-remains : goal.process-returns-in-Assign-clause-remains
 process-returns-in-Assign-clause-remains t c =
@@ -188,7 +189,15 @@ process-returns-in_ok-clear_array-in-Array-clause-remains t c =
     c.process-in-Array.ensures.remains
 
 pub process-returns-in-Trace-clause-executes : goal.process-returns-in-Trace-clause-executes
-process-returns-in-Trace-clause-executes t c = on_ok_weaker c.trace.result (λ traces. rw c.in-Trace.is traces) c.trace.ensures.traces
+process-returns-in-Trace-clause-executes t c =
+    on_ok_weaker c.trace.result (λ traces. rw c.in-Trace.is (trace_executes c.args.emitter.now c.args.code.now c.trace.new.code c.in-Trace.m traces)) c.trace.ensures.traces
+
+pub process-returns-in-Finish-clause-executes : goal.process-returns-in-Finish-clause-executes
+process-returns-in-Finish-clause-executes t c = on_ok_weaker c.send.result (λ finishes. rw c.in-Finish.is finishes) c.send.ensures.finishes
+
+pub process-returns-in-Finish-clause-remains : goal.process-returns-in-Finish-clause-remains
+process-returns-in-Finish-clause-remains t c =
+    on_ok_weaker c.send.result (λ finishes. rw c.in-Finish.is (finish_remains c.args.emitter.now c.in-Finish.m)) c.send.ensures.finishes
 
 pub process-returns-in-At-clause-executes : goal.process-returns-in-At-clause-executes
 process-returns-in-At-clause-executes t c =

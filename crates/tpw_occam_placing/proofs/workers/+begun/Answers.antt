@@ -1,7 +1,7 @@
 use Rattle.std.proofs.Common.{refl}
 use Rattle.std.proofs.lemmas.Result.{IfOk-weaker}
 use Rattle.tpw_occam_interpreter.specs.Memories.{state_of}
-use Rattle.tpw_occam_placing.proofs.Working.{begun_variable, begun_array, begun_value, begun_same, all_ok}
+use Rattle.tpw_occam_placing.proofs.Working.{begun_variable, begun_array, begun_value, begun_with, begun_same, three_ok, all_ok}
 use Rattle.tpw_occam_placing.proofs.workers.+begun.Goals as goal
 
 pub returns-in_ok-begun-in-Variable : goal.returns-in_ok-begun-in-Variable
@@ -40,3 +40,14 @@ returns-in_ok-begun-in-Array t c =
     c.in-Some-free_array.ensures.lies c.in-Some-free_array.ensures.new c.in-Some-free_array.ensures.bytes
     c.in_ok-clear_array-in-Array.ensures c.in_ok-begun-in-Array.ensures))
     c.with_array.ensures
+
+pub returns-in_ok-finished-in-Sequence : goal.returns-in_ok-finished-in-Sequence
+returns-in_ok-finished-in-Sequence t c =
+    let first = c.in_ok-received-in-Sequence.received in
+    let rest = c.in_ok-finished-in-Sequence.finished in
+    three_ok c.joined.result _ _ _ _
+    (λ made same run-is send-is. begun_with c.args.tables.now c.args.scope.now c.args.p.now c.in-Sequence.first c.in-Sequence.second
+    c.deref-in-Sequence.result.now c.deref-in-Sequence-2.result.now first.body rest.body made.body rest.send made.send c.in-Sequence.is
+    c.deref-in-Sequence.ensures c.deref-in-Sequence-2.ensures c.in_ok-finished-in-Sequence.ensures send-is run-is
+    (state_of c.args.known.now) first.place made.receive same c.in_ok-received-in-Sequence.ensures)
+    c.joined.ensures.receive c.joined.ensures.body c.joined.ensures.send

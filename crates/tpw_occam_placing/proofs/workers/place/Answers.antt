@@ -9,5 +9,5 @@ pub returns : goal.returns
 unfolding meaning
 returns c = λ packet takes.
     sym (c.in_ok-begun.ensures (first packet) (first_of c.in_ok-tables.tables)
-    (holds_first c.in_ok-tables.tables (grind arith) (grind arith) packet) (fresh_first c.in_ok-tables.tables)
+    (holds_first c.in_ok-tables.tables (grind arith) (grind arith) packet) (fresh_first c.in_ok-tables.tables) refl
     (ap (λ (s : State). s.cells) c.in_ok-known.ensures) (ap (λ (s : State). s.arrays) c.in_ok-known.ensures) takes)
