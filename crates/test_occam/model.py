@@ -794,7 +794,8 @@ def is_literal(tree):
 
 
 def sets_flag(tree):
-    """Whether a VAL has a part without names that sets the flag: a fault also where no packet comes."""
+    """Whether a VAL has a part without names that sets the flag. Where its names are constants too that is a fault, also where no packet
+    comes, which this interpreter does not see; where one is a variable it is none, and the worker is left out all the same."""
     machine = Machine(b'')
     for declaration in parts(tree):
         if declaration and declaration[0] == 'val':
